@@ -1,10 +1,10 @@
 -- Where an LF stands in a text.
 use Rattle.std.proofs.Common.{◌≡◌, ◌==◌, ◌+◌, ◌<◌, ◌≤◌, ℕ, suc, Bool, true, false, ◌||◌, List, [], ◌∷◌, ◌++◌, ◌-◌, drop, length, length-drop, take}
-use Rattle.std.proofs.Common.{get_or, refl, sym, ap, ◌∙◌, arith}
+use Rattle.std.proofs.Common.{get_or, inl, inr, ltb, refl, sym, ap, ◌∙◌, arith}
 use Rattle.std.proofs.Math.Bool.{or-true}
 use Rattle.std.proofs.Math.Seq.{take-append-add}
-use Rattle.std.proofs.lemmas.Bool.{eqb-true, false_from_ne_true, or_from}
-use Rattle.std.proofs.lemmas.List.{get_or-drop}
+use Rattle.std.proofs.lemmas.Bool.{cases_lt, eqb-true, false_from_ne_true, le-ltb, lt-ltb, or_from}
+use Rattle.std.proofs.lemmas.List.{get_or-drop, get_or-take, length-take-le}
 use Rattle.std.proofs.lemmas.List.Folds.{list_any_at}
 use Rattle.std.specs.List.{list_any}
 use Rattle.smap_lines.specs.Lines.{has_line_end}
@@ -22,6 +22,31 @@ pub no_end_after : (text : List ℕ) (low start : ℕ) → ((k : ℕ) → low �
 no_end_after text low start none least =
     none_passes (λ byte. byte == 10) (drop start text) (λ k within here. none (start + k) (omega (arith, least)) (omega (arith, within, length-drop start text))
     (ap (λ b. b == 10) (sym (get_or-drop start text k 0)) ∙ here))
+
+-- where none stands in more bytes of a text, none does in fewer
+pub no_end_before : (text : List ℕ) (bytes searched : ℕ) → bytes ≤ length text → bytes ≤ searched →
+    ((k : ℕ) → k < searched → (get_or (take searched text) k 0 == 10) ≡ true → ⊥) → has_line_end (take bytes text) ≡ false
+no_end_before text bytes searched most within none =
+    none_passes (λ byte. byte == 10) (take bytes text) (λ k below here.
+    let inside : k < bytes = omega (arith, below, length-take-le bytes text most) in
+    none k (omega (arith, inside, within))
+    (ap (λ b. b == 10) (get_or-take searched text k 0 (omega (arith, inside, within)) ∙ sym (get_or-take bytes text k 0 inside)) ∙ here))
+
+-- the first that stands in more bytes of a text stands in fewer, or none does
+pub end_before : (text : List ℕ) (bytes searched place : ℕ) → bytes ≤ length text →
+    ((k : ℕ) → k < place → (get_or (take searched text) k 0 == 10) ≡ true → ⊥) → place < searched → (get_or (take searched text) place 0 == 10) ≡ true
+    → ltb place bytes ≡ has_line_end (take bytes text)
+end_before text bytes searched place most before within here = elim (cases_lt place bytes) [
+  | inl inside ↦
+      let one : (get_or (take bytes text) place 0 == 10) ≡ true = ap (λ b. b == 10) (get_or-take bytes text place 0 inside
+      ∙ sym (get_or-take searched text place 0 within)) ∙ here in
+      lt-ltb place bytes inside
+      ∙ sym (list_any_at (λ byte. byte == 10) (take bytes text) place 0 (omega (arith, inside, length-take-le bytes text most)) one)
+  | inr outside ↦
+      le-ltb place bytes outside
+      ∙ sym (no_end_before text bytes place most outside (λ k below here. before k below
+      (ap (λ b. b == 10) (get_or-take searched text k 0 (omega (arith, below, within)) ∙ sym (get_or-take place text k 0 below)) ∙ here)))
+]
 
 -- one in a text stands in the rest of it too
 pub end_in_rest : (text : List ℕ) (from k : ℕ) → from ≤ k → (get_or text k 0 == 10) ≡ true → (get_or (drop from text) (k - from) 0 == 10) ≡ true

@@ -1,5 +1,5 @@
 -- The numbers after a URL hang on the bytes up to the first LF alone, and on 23 bytes at most.
-use Rattle.std.proofs.Common.{◌≡◌, ◌==◌, ◌+◌, ◌<◌, ◌≤◌, ℕ, Bool, true, false, cond, List, [], ◌∷◌, ◌++◌, length, take, drop, length-drop}
+use Rattle.std.proofs.Common.{◌≡◌, ◌==◌, ◌+◌, ◌<◌, ◌≤◌, ℕ, Bool, true, false, cond, List, [], ◌∷◌, ◌++◌, length, take, drop, get_or, length-drop}
 use Rattle.std.proofs.Common.{Option, Some, None, option_map, refl, sym, ap, ◌∙◌, arith, inl, inr}
 use Rattle.std.specs.Char.{is_ascii_digit}
 use Rattle.std.specs.Fmt.{decimal}
@@ -102,6 +102,33 @@ number_size (byte ∷ x) n size is =
       | inl few ↦ (omega (arith, sized, few), omega (arith, sized, within))
       | inr many ↦ absurd (cc (long_number byte x many, is))
     ]
+
+no_digits : (x : List ℕ) → decimal_number (take 0 x) ≡ None
+no_digits [] = refl
+no_digits (byte ∷ x) = refl
+
+-- of how many digits it is
+pub number_digits : (byte : ℕ) (x : List ℕ) (n size : ℕ) → number_after (byte ∷ x) ≡ Some (n, size)
+    → (size ≡ digits x + 1) × (1 ≤ digits x) × (digits x ≤ 10)
+number_digits byte x n size is =
+    let parts = none_else (byte == 58) (option_map {U = ℕ × ℕ} (λ n. (n, digits x + 1)) (decimal_number (take (digits x) x))) (n, size) is in
+    let sized : size ≡ digits x + 1 = size_of (decimal_number (take (digits x) x)) (digits x + 1) n size parts.1 in
+    let most = number_size (byte ∷ x) n size is in
+    let some : 1 ≤ digits x = elim (cases_lt 0 (digits x)) [
+      | inl some ↦ omega (arith, some)
+      | inr none ↦
+          let zero : digits x ≡ 0 = omega (arith, none) in
+          let off : option_map {U = ℕ × ℕ} (λ n. (n, digits x + 1)) (decimal_number (take (digits x) x)) ≡ None
+          = ap (option_map {U = ℕ × ℕ} (λ n. (n, digits x + 1))) (ap (λ d. decimal_number (take d x)) zero ∙ no_digits x) in
+          absurd (cc (off, parts.1))
+    ] in
+    (sized, some, omega (arith, sized, most.0))
+
+-- it begins with a `:`
+pub number_colon : (text : List ℕ) (number : ℕ × ℕ) → number_after text ≡ Some number → (get_or text 0 0 == 58) ≡ true
+number_colon [] number is = cc
+number_colon (byte ∷ text) number is =
+    (none_else (byte == 58) (option_map {U = ℕ × ℕ} (λ n. (n, digits text + 1)) (decimal_number (take (digits text) text))) number is).0
 
 -- ---- both numbers
 

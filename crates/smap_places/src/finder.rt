@@ -1,22 +1,21 @@
 //! The places in a text.
 ghost use Rattle.std.specs.Prelude.{◌≡◌, ◌<◌, ◌≤◌, ◌+◌, ℕ, IfOk, IfSome, IsSomeAnd, MatchOption, None, drop, is_some, length};
 ghost use Rattle.std.specs.Prelude.{max, option_map, true};
-ghost use Rattle.smap_lines.specs.Lines.{has_line_end};
 ghost use Rattle.smap_places.specs.Candidates.{candidate_at, has_named, has_prefix, named_bytes, own_bytes, place_of_bytes, prefix_bytes, run_end};
 ghost use Rattle.smap_places.specs.Places.{numbers_after};
 ghost use Rattle.smap_places.specs.PlaceAt.{exact_at, is_named, is_prefix, place_at};
 ghost use Rattle.smap_places.specs.PlaceSeen.{HasMap, IsNext, NoNext, NoneBetween, place_seen};
-ghost use Rattle.smap_places.specs.Private.Finder.{HasOwnMap, IsBarred, IsLongest, IsOpen, IsUnqueried};
+ghost use Rattle.smap_places.specs.Private.Finder.{HasOwnMap, HasOwnNumbers, IsBarred, IsLongest, IsOpen, IsUnqueried};
 
 mod patterns;
 mod reach;
 
 use crate::begins::may_begin;
 use crate::lengths::Lengths;
-use crate::numbers::{find_numbers, numbers_after};
+use crate::line_ends::has_line_end;
+use crate::numbers::{find_candidate, numbers_behind};
 use crate::place::{FoundPlace, FoundUrl};
-use crate::runs::{MOST_RUN, barred_end, has_query_between, query_length, run_length};
-use memchr::memchr;
+use crate::runs::{MOST_RUN, barred_end, has_query_between, query_of, run_length};
 use smap_locations::Locations;
 use smap_trace::Table;
 use std::alloc::{AllocError, Global};
@@ -118,7 +117,7 @@ impl<'t> PlaceFinder<'t> {
     {
         let mut start = from;
         while start < high {
-            let numbers = find_numbers(text, start + 1)?;
+            let numbers = find_candidate(text, start + 1)?;
             let near = first_start(self.longest, start, numbers);
             let (queried, barred) = self.bars(text, near, numbers);
             let low = self.first_open(near, queried, barred);
@@ -214,9 +213,11 @@ impl<'t> PlaceFinder<'t> {
     // both run as far.
     fn longer(&self, text: &[u8], named: FoundUrl<'t>, run: usize) -> FoundUrl<'t>
         requires within { run ≤ length text.now }
+        requires numbers { HasOwnNumbers text.now named }
         requires map { HasOwnMap self.now.table text.now named }
         ensures bytes { result.bytes ≡ own_bytes named.entry.bytes named.entry.end run }
         ensures end { result.end ≡ max named.entry.end run }
+        ensures numbers { HasOwnNumbers text.now result }
         ensures map { HasOwnMap self.now.table text.now result }
     {
         if run <= named.end {
@@ -225,6 +226,7 @@ impl<'t> PlaceFinder<'t> {
         FoundUrl {
             bytes: run,
             end: run,
+            numbers: None,
             map: self.table.map_for(&text[..run]),
         }
     }
@@ -239,6 +241,7 @@ impl<'t> PlaceFinder<'t> {
         requires start { start ≤ length line.now }
         requires bytes { found.bytes ≤ length (drop start line.now) }
         requires end { found.end ≤ length (drop start line.now) }
+        requires numbers { HasOwnNumbers (drop start line.now) found }
         requires map { HasOwnMap self.now.table (drop start line.now) found }
         ensures place { option_map place_seen result
             ≡ place_of_bytes (drop start line.now) found.entry.bytes found.entry.end }
@@ -246,12 +249,17 @@ impl<'t> PlaceFinder<'t> {
             (place.start ≡ start) × (start < place.end) × (place.end ≤ length line.now)) }
         ensures map { IfSome result (HasMap self.now.table) }
     {
-        let FoundUrl { bytes, end, map } = found;
+        let FoundUrl {
+            bytes,
+            end,
+            numbers,
+            map,
+        } = found;
         if end == 0 {
             return None;
         }
         let text = &line[start..];
-        let (line, column, size) = numbers_after(&text[end..])?;
+        let (line, column, size) = numbers_behind(text, end, numbers)?;
         Some(FoundPlace {
             start,
             end: start + end + size,
@@ -268,11 +276,13 @@ impl<'t> PlaceFinder<'t> {
         ensures end { result.end ≡ run_end text.now result.bytes }
         ensures within { result.bytes ≤ length text.now }
         ensures end_within { result.end ≤ length text.now }
+        ensures numbers { HasOwnNumbers text.now result }
         ensures map { HasOwnMap self.now.table text.now result }
     {
         let mut named = FoundUrl {
             bytes: 0,
             end: 0,
+            numbers: None,
             map: None,
         };
         for bytes in &self.named.each {
@@ -293,19 +303,24 @@ impl<'t> PlaceFinder<'t> {
         ensures named { is_some result ≡ has_named (is_named self.now) text.now bytes }
         ensures url { IfSome result (λ url. (url.bytes ≡ bytes) × (url.end ≡ run_end text.now bytes) ×
             (url.end ≤ length text.now)) }
+        ensures numbers { IfSome result (HasOwnNumbers text.now) }
         ensures map { IfSome result (HasOwnMap self.now.table text.now) }
     {
         let (url, rest) = text.split_at(bytes);
-        let run = query_length(rest)?;
-        if has_line_end(url) {
+        let query = query_of(rest)?;
+        if has_line_end(text, bytes) {
             return None;
         }
         let map = self.table.map_for(url);
         if map.is_none() && !self.locations.has_file(url) {
             return None;
         }
-        let end = bytes + run;
-        Some(FoundUrl { bytes, end, map })
+        Some(FoundUrl {
+            bytes,
+            end: bytes + query.bytes,
+            numbers: query.numbers,
+            map,
+        })
     }
 
     // Where the numbers stand to which a URL runs from the longest prefix that begins a text, 0 where none does. None runs
@@ -344,8 +359,7 @@ impl<'t> PlaceFinder<'t> {
         requires { bytes ≤ length text.now }
         ensures { result ≡ has_prefix (is_prefix self.now) text.now bytes }
     {
-        let prefix = &text[..bytes];
-        self.locations.has_folder(prefix) && !has_line_end(prefix)
+        self.locations.has_folder(&text[..bytes]) && !has_line_end(text, bytes)
     }
 }
 
@@ -366,15 +380,5 @@ fn first_start(longest: Option<usize>, start: usize, numbers: usize) -> usize
     match longest {
         Some(longest) => numbers.saturating_sub(longest).max(start),
         None => start,
-    }
-}
-
-// Whether an LF stands in a text.
-fn has_line_end(text: &[u8]) -> bool
-    ensures { result ≡ has_line_end text.now }
-{
-    match memchr(b'\n', text) {
-        Some(_) => true,
-        None => false,
     }
 }

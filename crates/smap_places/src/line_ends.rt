@@ -1,5 +1,5 @@
 //! The line ends of a text that is read part by part.
-ghost use Rattle.std.specs.Prelude.{◌≡◌, ◌==◌, ◌+◌, ◌<◌, ◌≤◌, ◌⊎◌, ℕ, count_by, drop, false, length, true};
+ghost use Rattle.std.specs.Prelude.{◌≡◌, ◌==◌, ◌+◌, ◌<◌, ◌≤◌, ◌⊎◌, ℕ, count_by, drop, false, length, take, true};
 ghost use Rattle.smap_lines.specs.Lines.{has_line_end};
 ghost use Rattle.smap_places.specs.Private.LineEnds.{has_open_line};
 
@@ -17,6 +17,19 @@ pub fn count_ends(text: &[u8]) -> usize
         rest = &rest[place + 1..];
     }
     count
+}
+
+/// Whether an LF stands in the first bytes of a text, so many.
+pub fn has_line_end(text: &[u8], bytes: usize) -> bool
+    requires { bytes ≤ length text.now }
+    ensures { result ≡ has_line_end (take bytes text.now) }
+{
+    // Fewer than 32 bytes are searched one by one, which costs more than 64 at once.
+    let searched = bytes.max(64).min(text.len());
+    match memchr(b'\n', &text[..searched]) {
+        Some(place) => place < bytes,
+        None => false,
+    }
 }
 
 /// Whether a text ends in a line without an LF.

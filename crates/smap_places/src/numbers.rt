@@ -1,5 +1,5 @@
 //! The numbers of a place.
-ghost use Rattle.std.specs.Prelude.{◌≡◌, ◌<◌, ◌≤◌, ℕ, IfSome, IsNone, Some, None, is_some, length, drop, true};
+ghost use Rattle.std.specs.Prelude.{◌≡◌, ◌<◌, ◌≤◌, ◌+◌, ℕ, IfSome, IsNone, Some, None, is_some, length, drop, true};
 ghost use Rattle.smap_places.specs.Places.{number_after, numbers_after};
 
 use memchr::memchr;
@@ -7,6 +7,9 @@ use smap_lines::{digits, number};
 
 /// How many bytes the numbers of a place are at most, with the `:` before each.
 pub const MOST_NUMBERS: usize = 22;
+
+// How many digits a line has at most.
+const MOST_DIGITS: usize = 10;
 
 /// The line and the column after a URL, and how many bytes they are with the `:` before each.
 #[tactic(auto, unfolding(crate::specs::Places::numbers_after))]
@@ -19,6 +22,25 @@ pub fn numbers_after(text: &[u8]) -> Option<(u32, u32, usize)>
     Some((line, column, size + more))
 }
 
+/// Where at `from` or after it numbers may begin: at a `:`, behind which digits stand up to the next `:`. Before it none
+/// begin.
+pub fn find_candidate(line: &[u8], from: usize) -> Option<usize>
+    requires { from ≤ length line.now }
+    ensures low { IfSome result (λ place. (from ≤ place) × (place < length line.now)) }
+    ensures first { IfSome result (λ place. (i : ℕ) → from ≤ i → i < place →
+        numbers_after (drop i line.now) ≡ None) }
+    ensures none { IsNone result → (i : ℕ) → from ≤ i → numbers_after (drop i line.now) ≡ None }
+{
+    let mut place = from + memchr(b':', &line[from..])?;
+    while let Some(count) = memchr(b':', &line[place + 1..]) {
+        if 0 < count && count <= MOST_DIGITS && digits(&line[place + 1..]) == count {
+            return Some(place);
+        }
+        place += count + 1;
+    }
+    None
+}
+
 /// Where at `from` or after it numbers begin, as they stand after a URL.
 pub fn find_numbers(line: &[u8], from: usize) -> Option<usize>
     requires { from ≤ length line.now }
@@ -28,15 +50,32 @@ pub fn find_numbers(line: &[u8], from: usize) -> Option<usize>
         numbers_after (drop i line.now) ≡ None) }
     ensures none { IsNone result → (i : ℕ) → from ≤ i → numbers_after (drop i line.now) ≡ None }
 {
-    let mut place = from;
-    while let Some(further) = memchr(b':', &line[place..]) {
-        place += further;
+    let mut next = from;
+    while let Some(place) = find_candidate(line, next) {
         if numbers_after(&line[place..]).is_some() {
             return Some(place);
         }
-        place += 1;
+        next = place + 1;
     }
     None
+}
+
+/// The numbers that stand behind so many bytes of a text. They may be known.
+pub fn numbers_behind(
+    text: &[u8],
+    bytes: usize,
+    known: Option<(u32, u32, usize)>,
+) -> Option<(u32, u32, usize)>
+    requires bytes { bytes ≤ length text.now }
+    requires known { IfSome known (λ numbers.
+        (numbers_after (drop bytes text.now) ≡ Some numbers) × (bytes + numbers.2 ≤ length text.now)) }
+    ensures numbers { result ≡ numbers_after (drop bytes text.now) }
+    ensures within { IfSome result (λ numbers. bytes + numbers.2 ≤ length text.now) }
+{
+    match known {
+        Some((line, column, size)) => Some((line, column, size)),
+        None => numbers_after(&text[bytes..]),
+    }
 }
 
 // The number after the `:` that a text begins with, and how many bytes both are.

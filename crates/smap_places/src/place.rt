@@ -15,10 +15,11 @@ pub struct FoundPlace<'l, 't> {
 }
 
 /// A URL that begins a text: how many bytes it has; where the numbers stand behind it and its query or fragment, 0 where there
-/// is none; and its map, where a table has it.
+/// is none; those numbers, where they have been read; and its map, where a table has it.
 #[derive(Clone, Copy)]
 pub struct FoundUrl<'t> {
     pub bytes: usize,
     pub end: usize,
+    pub numbers: Option<(u32, u32, usize)>,
     pub map: Option<&'t MapFile>,
 }

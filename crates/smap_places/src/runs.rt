@@ -1,5 +1,5 @@
 //! What a URL has behind the prefix of a folder, and behind the bytes that are named.
-ghost use Rattle.std.specs.Prelude.{◌≡◌, ◌<◌, ◌≤◌, ℕ, IfSome, None, drop, false, length};
+ghost use Rattle.std.specs.Prelude.{◌≡◌, ◌<◌, ◌≤◌, ◌+◌, ℕ, IfSome, None, Some, drop, false, length, option_map};
 ghost use Rattle.smap_places.specs.Candidates.{has_query, is_url_byte, query_length, run_length};
 ghost use Rattle.smap_places.specs.Places.{numbers_after};
 ghost use Rattle.smap_places.specs.Private.Finder.{IsBarred};
@@ -30,20 +30,35 @@ pub fn run_length(text: &[u8]) -> Option<usize>
     None
 }
 
-/// How many bytes stand between a named URL and the first numbers of a text behind it: none, or those of a query or a
-/// fragment.
-pub fn query_length(text: &[u8]) -> Option<usize>
-    ensures query { result ≡ query_length text.now }
-    ensures within { IfSome result (λ run. run ≤ length text.now) }
+/// What stands between a named URL and the first numbers behind it: so many bytes of a query or a fragment. The numbers come
+/// with it where there are none.
+#[derive(Clone, Copy)]
+pub struct Query {
+    pub bytes: usize,
+    pub numbers: Option<(u32, u32, usize)>,
+}
+
+/// What stands between a named URL and the first numbers of a text behind it.
+pub fn query_of(text: &[u8]) -> Option<Query>
+    ensures query { option_map (λ query. query.bytes) result ≡ query_length text.now }
+    ensures within { IfSome result (λ query. query.bytes ≤ length text.now) }
+    ensures numbers { IfSome result (λ query. IfSome query.numbers (λ numbers.
+        (numbers_after (drop query.bytes text.now) ≡ Some numbers) ×
+        (query.bytes + numbers.2 ≤ length text.now))) }
 {
-    if numbers_after(text).is_some() {
-        return Some(0);
+    if let Some(numbers) = numbers_after(text) {
+        return Some(Query {
+            bytes: 0,
+            numbers: Some(numbers),
+        });
     }
-    if has_query(text) {
-        run_length(text)
-    } else {
-        None
+    if !has_query(text) {
+        return None;
     }
+    Some(Query {
+        bytes: run_length(text)?,
+        numbers: None,
+    })
 }
 
 /// Whether a `?` or a `#` stands in a line from byte `low` on, before another.

@@ -1,9 +1,10 @@
 -- Of private contracts only: the lengths of named URLs and of prefixes, and where none runs to numbers.
-use Rattle.std.specs.Prelude.{◌≡◌, ◌<◌, ◌≤◌, ◌+◌, ◌==◌, ℕ, Bool, true, IfSome, List, Option, None, drop, length, option_map, take}
+use Rattle.std.specs.Prelude.{◌≡◌, ◌<◌, ◌≤◌, ◌+◌, ◌==◌, ℕ, Bool, true, IfSome, List, Option, Some, None, drop, length, option_map, take}
 use Rattle.std.specs.List.{list_any}
 use Rattle.smap_by_text.specs.ByText.{value_under}
 use Rattle.smap_record.specs.Record.{MapRecord}
 use Rattle.smap_places.specs.Candidates.{query_length, run_length}
+use Rattle.smap_places.specs.Places.{numbers_after}
 use Rattle.smap_places.specs.PlaceAt.{MapsSeen, is_named, is_prefix}
 use Rattle.smap_places.specs.declared.lengths.Lengths.{Lengths}
 use Rattle.smap_places.specs.declared.place.FoundUrl.{FoundUrl}
@@ -44,3 +45,8 @@ IsOpen maps near first queried barred = (text : List ℕ) → (i : ℕ) → near
 -- the map that comes with a URL that begins a text is what a table has under it
 abbrev pub HasOwnMap : List (List ℕ × MapRecord) → (text : List ℕ) → FoundUrl → Type 0
 HasOwnMap table text url = 0 < url.end → option_map (λ file. file.now.stated) url.map ≡ value_under (take url.bytes text) table
+
+-- the numbers that come with a URL that begins a text stand behind it
+abbrev pub HasOwnNumbers : (text : List ℕ) → FoundUrl → Type 0
+HasOwnNumbers text url =
+    IfSome url.numbers (λ numbers. (numbers_after (drop url.end text) ≡ Some numbers) × (url.end + numbers.2 ≤ length text))

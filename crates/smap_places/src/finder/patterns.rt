@@ -85,6 +85,7 @@ impl<'t> PlaceFinder<'t> {
         let found = FoundUrl {
             bytes: numbers - start,
             end: numbers - start,
+            numbers: None,
             map: self.table.map_for(url),
         };
         self.place_with(text, start, found)

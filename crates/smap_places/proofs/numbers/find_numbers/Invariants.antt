@@ -2,12 +2,12 @@ use Rattle.std.proofs.Common.{◌≡◌, ◌-◌, ◌<◌, ◌≤◌, ℕ, None,
 use Rattle.smap_places.specs.Places.{numbers_after}
 use Rattle.smap_places.proofs.numbers.find_numbers.Given as goal
 
-abbrev pub invariant-loop-further : goal.invariant-loop-further
-invariant-loop-further l = record {
-  low : l.fn.from ≤ l.place;
-  within : l.place ≤ length l.line;
-  none : (i : ℕ) → l.fn.from ≤ i → i < l.place → numbers_after (drop i l.line) ≡ None;
+abbrev pub invariant-loop-place : goal.invariant-loop-place
+invariant-loop-place l = record {
+  low : l.fn.from ≤ l.next;
+  within : l.next ≤ length l.line;
+  none : (i : ℕ) → l.fn.from ≤ i → i < l.next → numbers_after (drop i l.line) ≡ None;
 }
 
-abbrev pub decreases-loop-further : goal.decreases-loop-further
-decreases-loop-further l = length l.line - l.place
+abbrev pub decreases-loop-place : goal.decreases-loop-place
+decreases-loop-place l = length l.line - l.next
