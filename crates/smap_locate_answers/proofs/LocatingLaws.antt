@@ -1,18 +1,21 @@
 -- What answering lines over stored maps comes to, of which a run shows what it reported.
 use Rattle.std.specs.Prelude.{◌≡◌, ℕ, List, Option, Some, None, Result, Ok, Err, IfErr, IfOk, option_copied}
+use Rattle.smap_io.specs.declared.device.DeviceFault.{DeviceFault}
 use Rattle.std.proofs.Common.{ap, refl, subst, sym, ◌∙◌}
 use Rattle.smap_io.specs.Device.{SinkSeen}
 use Rattle.smap_lines.specs.Editing.{DevicesSeen, EditsFrontInto, EditsInto}
 use Rattle.smap_lines.specs.Laws.Step.{edits_front_wider, edits_seen}
+use Rattle.smap_lines.specs.LineOutput.{IsOnePut, IsPut}
 use Rattle.smap_lines.specs.Limits.{most_text_bytes}
 use Rattle.smap_lines.specs.Lines.{Line}
 use Rattle.smap_lines.specs.declared.counts.LineCounts.{LineCounts}
 use Rattle.smap_lines.specs.declared.fault.LineFault.{LineFault}
 use Rattle.smap_lines.specs.declared.fault.LineFault.TheVariants.{Memory}
+use Rattle.smap_lines.specs.declared.line_output.LineOutput.{LineOutput}
 use Rattle.smap_locate_answers.specs.Locate.{IsStoredLocated}
 use Rattle.smap_locate_answers.specs.Locating.{BecomesAnswer, LocateStep, Locates, MayLocate}
 use Rattle.smap_locate_answers.specs.Place.{Place, place_of}
-use Rattle.smap_locate_answers.specs.Private.Locator.{LocatorReaches, LocatorSteps}
+use Rattle.smap_locate_answers.specs.Private.Locator.{LocatorSteps}
 use Rattle.smap_locate_answers.specs.declared.locator.Locator.{Locator}
 use Rattle.smap_positions.specs.declared.options.AnswerOptions.{AnswerOptions}
 use Rattle.smap_record.specs.Record.{MapRecord}
@@ -23,7 +26,7 @@ use Rattle.smap_store.specs.Stored.{FindsIn, GivesIn, LoadsStep, StoredSeen}
 use Rattle.smap_store.specs.StoredMaps.{IsSameStore, same_store_on, stored_seen}
 use Rattle.smap_store.specs.declared.stored.StoredMaps.{StoredMaps}
 use Rattle.smap_text_answers.proofs.StoreLaws.{May, MaySeen, Seen, Steps, at_first, finds_so, looked_from, may_first, see}
-use Rattle.smap_text_answers.specs.Loader.{IsSameLoader, LoaderSeen, loader_seen}
+use Rattle.smap_text_answers.specs.Loader.{IsSameLoader, loader_seen}
 use Rattle.smap_text_answers.specs.declared.loader.FileLoader.{FileLoader}
 use Rattle.smap_trace.specs.Rewriting.{Looked}
 
@@ -58,6 +61,12 @@ store_after first new same cache loader cache_is loader_is = λ i. record {
   loader = sym loader_is i;
 }
 
+-- a text that is put, where it is allowed and is what it should be
+pub put_one : {W : Type 0} (seen : W → SinkSeen) (old new : LineOutput W) (text : List ℕ) (result : Result Unit DeviceFault) (Allowed IsDone : List ℕ → Type 0)
+    → IsPut seen old new text result → Allowed text → IsDone text → IsOnePut seen old new Allowed IsDone result
+put_one seen old new text (Ok done) Allowed IsDone put allowed is = (text, is, put)
+put_one seen old new text (Err fault) Allowed IsDone put allowed is = (text, allowed, put)
+
 -- ---- what a run shows of it
 
 module _ {F E : Type 0} (gives : F → MayRead) (seen : E → SinkSeen) (first : FileLoader F E) (options : AnswerOptions) where
@@ -67,7 +76,7 @@ module _ {F E : Type 0} (gives : F → MayRead) (seen : E → SinkSeen) (first :
   locates_so : (old new : StoredSeen (FileLoader F E)) (place : Option Place) (text : List ℕ) → IsFirst old
       → Locates (FindsIn (Steps gives seen)) options old place text new
       → Locates (FindsIn (Seen gives seen first)) options (see gives seen first old) place text (see gives seen first new) × IsFirst new
-  locates_so old new None text is step = ((step.0, ap (see gives seen first) step.1), subst IsFirst step.1 is)
+  locates_so old new None text is step = ((step.0, ap (see gives seen first) step.1), subst IsFirst (sym step.1) is)
   locates_so old new (Some place) text is step =
       let one = finds_so gives seen first old new place.url is step.0 in
       ((one.0, step.1), one.1)

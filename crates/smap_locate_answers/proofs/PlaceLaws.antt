@@ -1,6 +1,6 @@
 -- A line asks for a place in one way: the one that is computed.
 use Rattle.std.proofs.Common.{◌≡◌, ◌==◌, ◌+◌, ◌∙◌, ℕ, Bool, true, false, cond, List, [], ◌∷◌, ◌++◌, length, take, drop, Option, Some, None, refl, sym, ap, subst, arith, inl, inr, append_assoc}
-use Rattle.std.specs.Prelude.{◌↔◌, IsTrue, decimal}
+use Rattle.std.specs.Prelude.{◌↔◌, decimal}
 use Rattle.std.specs.Char.{is_ascii_digit}
 use Rattle.std.specs.List.{list_any, prefix_len}
 use Rattle.std.specs.Option.{MatchOption}
@@ -8,14 +8,13 @@ use Rattle.std.specs.Str.{is_utf8}
 use Rattle.std.proofs.lemmas.Bool.{cond-false, cond-true, or_from, or_parts}
 use Rattle.std.proofs.lemmas.List.{take-append-drop}
 use Rattle.smap_lines.specs.Bytes.{IsLineEnd, is_blank}
-use Rattle.smap_lines.specs.Laws.Number.{none_else}
 use Rattle.smap_lines.specs.Numbers.{IsPrinted, decimal_number}
 use Rattle.smap_locate_answers.specs.Place.{Place, place_before, place_cut, place_of, place_with}
 use Rattle.smap_locate_answers.specs.PlaceForm.{IsPlace, IsUrlText}
 use Rattle.smap_positions.specs.Position.{AreBlanks}
 use Rattle.smap_positions.specs.PositionOf.{after_blanks, column_of, position_with}
 use Rattle.smap_positions.specs.declared.printed_position.PrintedPosition.{PrintedPosition}
-use Rattle.smap_positions.proofs.ColumnLaws.{ColumnForm, column_has_form, form_is_column}
+use Rattle.smap_positions.proofs.ColumnLaws.{column_has_form, form_is_column}
 use Rattle.smap_positions.proofs.PositionLaws.{AllPass, after_span, begins, blank_not_colon, number_digits, passes, stops_after, with_is}
 use Rattle.smap_trace.specs.Cuts.{cut_at_last}
 use Rattle.smap_trace.proofs.CutLaws.{IsLastCut, cut_is_last, is_without, last_cut}

@@ -16,7 +16,7 @@ use Rattle.smap_positions.specs.declared.printed_position.PrintedPosition.{Print
 
 -- ---- what a text begins with
 
-pub begins : (ℕ → Bool) → List ℕ → Bool
+unfoldable pub begins : (ℕ → Bool) → List ℕ → Bool
 begins test [] = false
 begins test (byte ∷ text) = test byte
 

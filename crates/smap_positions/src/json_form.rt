@@ -15,12 +15,11 @@ use crate::map_text::put_json_text;
 use crate::output::{Output, put_number};
 use smap_record::{Answer, MapFile, Mapping, Origin, SourceEntry, is_ignored, source_name};
 
-/// The generated line and column that were asked for, both from 1, and the URL, where one was.
+/// The generated line and column that were asked for, both from 1.
 #[derive(Clone, Copy)]
-pub struct AskedPosition<'a> {
+pub struct AskedPosition {
     pub line: u64,
     pub column: u64,
-    pub url: Option<&'a str>,
 }
 
 #[tactic(auto, unfolding(json::specs::Print::escape_byte))]
@@ -30,41 +29,43 @@ pub fn put_bad_position<O: Output>(output: &mut O)
     output.put(b"{\"answer\":\"bad position\"}\n");
 }
 
-/// Puts the line for what a map answers for a position, with this excerpt of what was found.
+/// Puts the line for what a map answers for a position, with this excerpt of what was found, and with the URL that was asked
+/// for, where one was.
 pub fn put_answer_object<O: Output>(
     map: &MapFile,
-    asked: AskedPosition<'_>,
+    asked: AskedPosition,
+    url: Option<&str>,
     answer: &Answer,
     excerpt: Option<&str>,
     output: &mut O,
 )
     ensures { O.Puts output.old output.new (json_line
         (answer_value (option_map (λ excerpt. excerpt.now) excerpt.entry)
-        (option_map (λ url. url.now) asked.entry.url) map.now.stated
-        (record { line = asked.entry.line; column = asked.entry.column }) answer.now)) }
+        (option_map (λ url. url.now) url.entry) map.now.stated
+        (record { line = asked.line; column = asked.column }) answer.now)) }
 {
     match answer {
-        Answer::Nothing => put_none(asked, output),
+        Answer::Nothing => put_none(asked, url, output),
         Answer::Unmapped {
             column: generated_column,
-        } => put_unmapped(asked, *generated_column, output),
+        } => put_unmapped(asked, url, *generated_column, output),
         Answer::Found {
             column: generated_column,
             origin,
-        } => put_found(map, asked, *generated_column, origin, excerpt, output),
+        } => put_found(map, asked, url, *generated_column, origin, excerpt, output),
     }
     output.put(b"\n");
 }
 
 // Puts that no mapping answers.
-fn put_none<O: Output>(asked: AskedPosition<'_>, output: &mut O)
+fn put_none<O: Output>(asked: AskedPosition, url: Option<&str>, output: &mut O)
     ensures { O.Puts output.old output.new
-        (compact_text (none_value (option_map (λ url. url.now) asked.entry.url)
-        (record { line = asked.entry.line; column = asked.entry.column }))) }
+        (compact_text (none_value (option_map (λ url. url.now) url.entry)
+        (record { line = asked.line; column = asked.column }))) }
 {
     put_number(b"{\"answer\":\"none\",\"column\":", asked.column, output);
     put_number(b",\"line\":", asked.line, output);
-    put_end(asked.url, output);
+    put_end(url, output);
 }
 
 /// Puts the URL that was asked for, where one was, behind other members, and the end of the object.
@@ -83,10 +84,15 @@ pub fn put_end<O: Output>(url: Option<&str>, output: &mut O)
 }
 
 // Puts that the mapping that answers, which stands at this column, has no original.
-fn put_unmapped<O: Output>(asked: AskedPosition<'_>, generated_column: u32, output: &mut O)
+fn put_unmapped<O: Output>(
+    asked: AskedPosition,
+    url: Option<&str>,
+    generated_column: u32,
+    output: &mut O,
+)
     ensures { O.Puts output.old output.new
-        (compact_text (unmapped_value (option_map (λ url. url.now) asked.entry.url)
-        (record { line = asked.entry.line; column = asked.entry.column }) generated_column)) }
+        (compact_text (unmapped_value (option_map (λ url. url.now) url.entry)
+        (record { line = asked.line; column = asked.column }) generated_column)) }
 {
     put_number(
         b"{\"answer\":\"unmapped\",\"column\":",
@@ -95,13 +101,14 @@ fn put_unmapped<O: Output>(asked: AskedPosition<'_>, generated_column: u32, outp
     );
     put_number(b",\"generatedColumn\":", from_one(generated_column), output);
     put_number(b",\"line\":", asked.line, output);
-    put_end(asked.url, output);
+    put_end(url, output);
 }
 
 // Puts where the mapping that answers, which stands at this column, comes from.
 fn put_found<O: Output>(
     map: &MapFile,
-    asked: AskedPosition<'_>,
+    asked: AskedPosition,
+    url: Option<&str>,
     generated_column: u32,
     origin: &Origin,
     excerpt: Option<&str>,
@@ -109,8 +116,8 @@ fn put_found<O: Output>(
 )
     ensures { O.Puts output.old output.new (compact_text
         (found_value (option_map (λ excerpt. excerpt.now) excerpt.entry)
-        (option_map (λ url. url.now) asked.entry.url)
-        (record { line = asked.entry.line; column = asked.entry.column }) generated_column origin.now
+        (option_map (λ url. url.now) url.entry)
+        (record { line = asked.line; column = asked.column }) generated_column origin.now
         (slice_get map.now.stated.sources origin.now.source)
         (option_and_then (slice_get map.now.stated.names) origin.now.name))) }
 {
@@ -120,7 +127,7 @@ fn put_found<O: Output>(
     put_number(b",\"generatedColumn\":", from_one(generated_column), output);
     put_ignored(entry, output);
     put_number(b",\"line\":", asked.line, output);
-    put_origin_members(entry, name_at(map, origin.name), origin, asked.url, output);
+    put_origin_members(entry, name_at(map, origin.name), origin, url, output);
 }
 
 /// Puts whether a source is ignored, behind other members.

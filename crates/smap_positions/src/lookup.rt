@@ -51,8 +51,7 @@ pub fn lookup_as_json(
     let asked = AskedPosition {
         line: from_one(line),
         column: from_one(column),
-        url: None,
     };
-    put_answer_object(map, asked, &answer, excerpt.as_deref(), &mut text);
+    put_answer_object(map, asked, None, &answer, excerpt.as_deref(), &mut text);
     text.text()
 }

@@ -123,9 +123,8 @@ pub fn put_answer<O: Output>(
         let asked = AskedPosition {
             line: u64::from(position.line),
             column: u64::from(position.column),
-            url,
         };
-        put_answer_object(map, asked, &answer, None, output)
+        put_answer_object(map, asked, url, &answer, None, output)
     } else {
         put_answer_line(map, &answer, output)
     }

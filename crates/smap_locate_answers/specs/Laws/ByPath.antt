@@ -18,12 +18,13 @@ use Rattle.smap_locate_answers.specs.Place.{Place, place_of}
 use Rattle.smap_locations.specs.Laws.Key.{path_of_key}
 use Rattle.smap_locations.specs.Locations.{LocationsSeen, key_for, path_for}
 use Rattle.smap_positions.specs.declared.options.AnswerOptions.{AnswerOptions}
+use Rattle.smap_record.specs.Codes.{map_code}
 use Rattle.smap_record.specs.Record.{MapRecord}
 use Rattle.smap_record.specs.declared.refusal.MapRefusal.{MapRefusal}
 use Rattle.smap_replies.specs.Files.{MayRead}
 use Rattle.smap_replies.specs.Map.{Never, ReportsFound, refusal_result}
 use Rattle.smap_replies.specs.Outcome.{Report}
-use Rattle.smap_store.specs.Cache.{CacheSeen, Keeps, Kept, Remembers, counted, kept_of}
+use Rattle.smap_store.specs.Cache.{CacheSeen, Keeps, Kept, Remembers, kept_of}
 use Rattle.smap_store.specs.Fileless.{known_of}
 use Rattle.smap_store.specs.Laws.Kept.{other_remembered}
 use Rattle.smap_store.specs.Loaded.{Came, Outcome, outcome_in}
@@ -81,7 +82,7 @@ module _ (Reads : MayRead) (paths : Bool) (base : Option Parts) (k number : ℕ)
       → report.code ≡ Some code → IsFoundIn found (Err (Refused code))
   refused_in path (Err refused) report code is coded =
       let same : Some code ≡ (refusal_result path refused).code = sym coded ∙ ap (λ r. r.code) is in
-      let code_is = cc in ap (λ c. Err (Refused c)) code_is
+      let code_is : code ≡ map_code refused = cc in ap (λ c. Err (Refused c)) code_is
   refused_in path (Ok stated) report code (inl is) coded =
       let same : Some code ≡ Some M16 = sym coded ∙ ap (λ r. r.code) is in
       let code_is : code ≡ M16 = cc in inr (ap (λ c. Err (Refused c)) code_is)

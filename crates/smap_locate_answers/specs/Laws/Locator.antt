@@ -1,7 +1,7 @@
 -- Laws of the editor that answers places, which its trait asks for: a line becomes what it may; and what another may become after
 -- it, it may become before.
-use Rattle.std.specs.Prelude.{◌≡◌, ◌≤◌, ◌+◌, ℕ, List, Option, Some, None, Ok, Err, refl}
-use Rattle.std.proofs.Common.{arith, subst, sym, ◌∙◌}
+use Rattle.std.specs.Prelude.{◌≤◌, ◌+◌, ℕ, List, Option, Some, None, Ok, Err, refl}
+use Rattle.std.proofs.Common.{arith, subst, sym}
 use Rattle.smap_lines.specs.Lines.{Line}
 use Rattle.smap_locate_answers.specs.Locating.{Locates, MayLocate, located_line}
 use Rattle.smap_locate_answers.specs.Place.{Place, place_of}
@@ -34,7 +34,7 @@ module _ {L : Type 0} (MayLoad : LoadsMay L) where
   module _ (Loads : LoadsStep L)
       (given : (loader after : L) (url path : List ℕ) (came : Came) → Loads loader url path came after
       → MayLoad loader url path (record_in came)) where
-    became_at : (options : AnswerOptions) (old new : StoredSeen L) (place : Option Place) (text : List ℕ) → Locates (FindsIn Loads) options old place text new
+    pub became_at : (options : AnswerOptions) (old new : StoredSeen L) (place : Option Place) (text : List ℕ) → Locates (FindsIn Loads) options old place text new
         → MayLocate (GivesIn MayLoad old) options place text
     became_at options old new None text is = is.0
     became_at options old new (Some place) text is = (

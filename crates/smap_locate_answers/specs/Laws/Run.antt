@@ -1,5 +1,5 @@
 -- A run over a store answers each line by what the files have, where each path gives the same whenever it is read.
-use Rattle.std.specs.Prelude.{ℕ, ◌+◌, Option, Result, Ok, length}
+use Rattle.std.specs.Prelude.{ℕ, ◌+◌, Option, Result, length}
 use Rattle.std.proofs.Common.{refl, subst}
 use Rattle.url.specs.Parts.{Parts}
 use Rattle.smap_lines.specs.Editing.{devices_seen}

@@ -24,6 +24,6 @@ returns g c =
     let word = rw c.word_of.ensures at c.put_json_text.ensures in
     let column = rw c.from.ensures at c.put_number.ensures in
     let line = rw c.from-2.ensures at c.put_number-2.ensures in
-    let end = subst (λ l. g.O.Output.Puts _ c.put_end.new.output l) (refusal_first (refusal_in c.args.why) _)
+    let end = subst (λ l. g.O.Output.Puts c.put_number-2.new.output c.put_end.new.output l) (refusal_first (refusal_in c.args.why) _)
     (both _ _ _ _ _ c.put_refusal.ensures c.put_end.ensures) in
     both _ _ _ _ _ c.put.ensures (both _ _ _ _ _ word (both _ _ _ _ _ column (both _ _ _ _ _ line end)))
