@@ -58,4 +58,4 @@ agree
 
 # The counts of the run over the folder: each map that is named is read once, and no other.
 said=$("$program" rewrite --summary "$url/=many/" <frames 2>&1 >written)
-insist 'the maps that are read' "${said##* maps }" "$named missing 0 refused 0"
+insist 'the maps that are read' "${said##* maps }" "$named missing 0 refused 0 passed 0"

@@ -309,12 +309,12 @@ const TAKING = [
   },
   {
     call: 'run rewrite over a folder, with a summary',
-    answer: `0|${BOTH_MAPPED}|ok lines 2 frames 2 mapped 2 hidden 0 long 0 maps 2 missing 0 refused 0/`,
+    answer: `0|${BOTH_MAPPED}|ok lines 2 frames 2 mapped 2 hidden 0 long 0 maps 2 missing 0 refused 0 passed 0/`,
     memory: [
       NO_ROOM,
-      `3|${ONE_MAPPED}|memory/ok lines 2 frames 2 mapped 1 hidden 0 long 0 maps 1 missing 0 refused 0/`,
-      `3|${ONE_MAPPED}|memory: maps/b.js.map/ok lines 2 frames 2 mapped 1 hidden 0 long 0 maps 1 missing 1 refused 0/`,
-      `3|${ONE_MAPPED}|memory/ok lines 2 frames 2 mapped 1 hidden 0 long 0 maps 2 missing 0 refused 0/`,
+      `3|${ONE_MAPPED}|memory/ok lines 2 frames 2 mapped 1 hidden 0 long 0 maps 1 missing 0 refused 0 passed 0/`,
+      `3|${ONE_MAPPED}|memory: maps/b.js.map/ok lines 2 frames 2 mapped 1 hidden 0 long 0 maps 1 missing 1 refused 0 passed 0/`,
+      `3|${ONE_MAPPED}|memory/ok lines 2 frames 2 mapped 1 hidden 0 long 0 maps 2 missing 0 refused 0 passed 0/`,
       `3|${BOTH_MAPPED}|memory/`,
     ],
   },

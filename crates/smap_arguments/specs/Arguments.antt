@@ -153,7 +153,7 @@ GivesFurther rows options = GivesList rows options.list × GivesFlag rows (codes
     × (options.cache_bytes ≡ bytes_given rows (codes "cache")) × (options.limit_bytes ≡ bytes_given rows (codes "limit"))
     × GivesFlag rows (codes "summary") options.summary × GivesFlag rows (codes "strip-ansi") options.strip_ansi
     × (texts options.hide.items ≡ words_of rows (codes "TEXT")) × GivesFlag rows (codes "explain") options.explain
-    × GivesFlag rows (codes "paths") options.paths
+    × GivesFlag rows (codes "paths") options.paths × (options.hint ≡ false)
 
 -- ---- the options of `locate`
 

@@ -1,5 +1,6 @@
 //! `smap` answers questions about source maps from the command line. The words are parsed by smap_arguments, and the command
-//! is run by smap_answers. Where a refusal goes to a terminal, a last line says which word of `explain` says more.
+//! is run by smap_answers. Where a refusal goes to a terminal, a last line says which word of `explain` says more; and where
+//! `rewrite` has nothing to say but passed places over, which option takes them.
 #![tactic(auto)]
 
 mod hint;
@@ -24,7 +25,10 @@ fn main(rt: HostRuntime) -> ExitCode {
     let mut errors = FromStd::new(errors);
     let mut first = None;
     let status = match command_of(&rt) {
-        Ok(command) => {
+        Ok(mut command) => {
+            if is_terminal {
+                command.ask_hint();
+            }
             let (status, _) = run_reading(
                 rt.alloc(),
                 &rt,

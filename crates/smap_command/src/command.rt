@@ -1,5 +1,6 @@
 //! What the program is asked to do.
 ghost use Rattle.std.specs.Prelude.{◌≡◌, option_copied};
+ghost use Rattle.smap_command.specs.Hint.{with_hint};
 ghost use Rattle.smap_command.specs.Reading.{base_of, interval_of, strips_ansi};
 
 use crate::limits::USUAL_INTERVAL;
@@ -177,6 +178,16 @@ impl Command {
             | Command::Rewrite { interval, .. }
             | Command::Locate { interval, .. } => *interval,
             _ => USUAL_INTERVAL,
+        }
+    }
+
+    /// Has a terminal told at the end which option takes what the command passed over, where nothing else was said.
+    pub fn ask_hint(&mut self)
+        ensures { self.new ≡ with_hint self.old }
+    {
+        match self {
+            Command::Rewrite { options, .. } => options.hint = true,
+            _ => {}
         }
     }
 

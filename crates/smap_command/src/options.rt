@@ -112,6 +112,9 @@ pub struct FurtherOptions {
     pub explain: bool,
     /// Whether the sources of a map whose URL is a path are named by paths that go on from its folder.
     pub paths: bool,
+    /// Whether standard error is told at the end, where nothing else was said, which option takes the places of lines that are
+    /// no frames. No argument asks for it.
+    pub hint: bool,
 }
 
 /// How places are answered.
@@ -146,6 +149,7 @@ impl FurtherOptions {
             hide: Vec::new(alloc),
             explain: false,
             paths: false,
+            hint: false,
         }
     }
 
@@ -161,5 +165,6 @@ impl FurtherOptions {
             || !self.hide.is_empty()
             || self.explain
             || self.paths
+            || self.hint
     }
 }

@@ -1,14 +1,14 @@
 -- Prefixes of a URL that have no folder, and the longest that has one.
-use Rattle.std.proofs.Common.{◌≡◌, ℕ, suc, Bool, true, false, cond, List, [], ◌∷◌, Some, None, take, drop, refl, sym, ap, ◌∙◌}
+use Rattle.std.proofs.Common.{◌≡◌, ℕ, zero, suc, Bool, true, false, cond, List, [], ◌∷◌, Option, Some, None, is_some, length, take, refl, sym, ap, ◌∙◌}
 use Rattle.std.specs.List.{list_all}
 use Rattle.std.specs.Str.{bytes_eq}
 use Rattle.std.proofs.lemmas.Bool.{and_parts, both_ways}
 use Rattle.std.proofs.lemmas.Slice.Eq.{bytes_eq-Decides}
 use Rattle.smap_locations.specs.ListLine.{is_folder}
-use Rattle.smap_locations.specs.Locations.{folder_path, path_within}
+use Rattle.smap_locations.specs.Deciding.{longest_prefix, prefix_within}
+use Rattle.smap_locations.specs.Locations.{folder_path, path_in_folders, path_within}
 use Rattle.smap_by_text.specs.ByText.{value_under}
 use Rattle.smap_locations.specs.Named.{Named}
-use Rattle.smap_locations.specs.Paths.{map_path}
 
 another : (text url : List ℕ) → is_folder url ≡ true → is_folder text ≡ false → bytes_eq text url ≡ false
 another text url on off = go (bytes_eq text url) (bytes_eq-Decides text url).0
@@ -24,17 +24,43 @@ no_folder (folder ∷ folders) text all off =
     ap (λ same. cond same (Some folder.1) (value_under text folders)) (another text folder.0 (and_parts _ _ all).0 off)
     ∙ no_folder folders text (and_parts _ _ all).1 off
 
--- the longest prefix of at most so many bytes is that of so many, where that has a folder
-pub folder_here : (folders : Named) (url : List ℕ) (bytes end : ℕ) (folder : List ℕ) → end ≡ suc bytes → value_under (take end url) folders ≡ Some folder
-    → path_within folders url end ≡ map_path folder (drop end url)
-folder_here folders url bytes end folder one is =
-    ap (path_within folders url) one
-    ∙ ap (λ found. folder_path url (suc bytes) found (path_within folders url bytes)) (ap (λ n. value_under (take n url) folders) (sym one) ∙ is)
-    ∙ ap (λ n. map_path folder (drop n url)) (sym one)
+-- ---- the longest prefix that has a folder
 
--- and it is a shorter one, where that has none
-pub none_here : (folders : Named) (url : List ℕ) (bytes end : ℕ) → end ≡ suc bytes → value_under (take end url) folders ≡ None
-    → path_within folders url end ≡ path_within folders url bytes
-none_here folders url bytes end one is =
-    ap (path_within folders url) one
-    ∙ ap (λ found. folder_path url (suc bytes) found (path_within folders url bytes)) (ap (λ n. value_under (take n url) folders) (sym one) ∙ is)
+module _ (folders : Named) (url : List ℕ) where
+  -- of at most so many bytes it is that of so many, where that has a folder, and else a shorter one
+  pub prefix_here : (bytes end : ℕ) → end ≡ suc bytes → is_some (value_under (take end url) folders) ≡ true → prefix_within folders url end ≡ end
+  prefix_here bytes end one has =
+      ap (prefix_within folders url) one
+      ∙ ap (λ some. cond some (suc bytes) (prefix_within folders url bytes)) (ap (λ n. is_some (value_under (take n url) folders)) (sym one) ∙ has) ∙ sym one
+
+  pub prefix_shorter : (bytes end : ℕ) → end ≡ suc bytes → is_some (value_under (take end url) folders) ≡ false
+      → prefix_within folders url end ≡ prefix_within folders url bytes
+  prefix_shorter bytes end one none =
+      ap (prefix_within folders url) one
+      ∙ ap (λ some. cond some (suc bytes) (prefix_within folders url bytes)) (ap (λ n. is_some (value_under (take n url) folders)) (sym one) ∙ none)
+
+  -- what its folder has is the path of the URL
+  module _ (no_empty : value_under [] folders ≡ None) where
+    path_behind : (bytes : ℕ) → path_within folders url bytes
+        ≡ folder_path url (prefix_within folders url bytes) (value_under (take (prefix_within folders url bytes) url) folders) None
+    path_behind zero = ap (λ found. folder_path url 0 found None) (sym no_empty)
+    path_behind (suc bytes) = go (value_under (take (suc bytes) url) folders) refl (path_behind bytes)
+      where
+        go : (found : Option (List ℕ)) → value_under (take (suc bytes) url) folders ≡ found
+            → path_within folders url bytes
+            ≡ folder_path url (prefix_within folders url bytes) (value_under (take (prefix_within folders url bytes) url) folders) None
+            → path_within folders url (suc bytes)
+            ≡ folder_path url (prefix_within folders url (suc bytes)) (value_under (take (prefix_within folders url (suc bytes)) url) folders) None
+        go None is shorter =
+            let same = prefix_shorter bytes (suc bytes) refl (ap is_some is) in
+            ap (λ found. folder_path url (suc bytes) found (path_within folders url bytes)) is ∙ shorter
+            ∙ ap (λ n. folder_path url n (value_under (take n url) folders) None) (sym same)
+        go (Some folder) is shorter =
+            let same = prefix_here bytes (suc bytes) refl (ap is_some is) in
+            ap (λ found. folder_path url (suc bytes) found (path_within folders url bytes)) is
+            ∙ ap (λ found. folder_path url (suc bytes) found None) (sym is)
+            ∙ ap (λ n. folder_path url n (value_under (take n url) folders) None) (sym same)
+
+    pub path_is : path_in_folders folders url
+        ≡ folder_path url (longest_prefix folders url) (value_under (take (longest_prefix folders url) url) folders) None
+    path_is = path_behind (length url)

@@ -3,6 +3,7 @@ pub mod Paths
 pub mod Locations
 pub mod ListLine
 pub mod Patterns
+pub mod Deciding
 pub mod PatternSeen
 pub mod Laws
 pub mod InFolder

@@ -1,6 +1,7 @@
 //! The files and the folders that maps are in.
-ghost use Rattle.std.specs.Prelude.{◌≡◌, ◌==◌, ◌++◌, ◌∷◌, [], is_some, not, string_bytes, option_map, MatchOption};
+ghost use Rattle.std.specs.Prelude.{◌≡◌, ◌≤◌, ◌==◌, ◌++◌, ◌∷◌, [], is_some, not, string_bytes, option_map, MatchOption};
 ghost use Rattle.std.specs.Prelude.{OnErr, OnOk, IfErr, IfOk, IsErrAnd, length, map};
+ghost use Rattle.smap_locations.specs.Deciding.{decided_by, longest_prefix};
 ghost use Rattle.smap_locations.specs.Locations.{has_pattern_in_text, key_for, path_for, path_in_folders, prefix_refusal};
 ghost use Rattle.smap_locations.specs.Patterns.{has_text, pattern_refusal};
 ghost use Rattle.std.specs.List.{list_any};
@@ -181,21 +182,50 @@ impl Locations {
         }
     }
 
+    /// What decides where the map of a URL is, where it has one, as it was named: the URL, with or without its query and its
+    /// fragment, the prefix of a folder, or a pattern behind its `*`.
+    pub fn decided_by(&self, alloc: Global, url: &[u8]) -> Result<Option<Vec<u8>>, AllocError>
+        ensures { IfOk result (λ name. option_map (λ text. text.items) name ≡ decided_by self.now url.now) }
+    {
+        if self.has_file(url) {
+            return Ok(Some(Vec::from_slice(alloc, url)?));
+        }
+        let short = without_query(url);
+        if self.has_file(short) {
+            return Ok(Some(Vec::from_slice(alloc, short)?));
+        }
+        if self.path_in_folders(alloc, short)?.is_some() {
+            let prefix = &short[..self.longest_prefix(short)];
+            return Ok(Some(Vec::from_slice(alloc, prefix)?));
+        }
+        self.patterns.decided_by(alloc, url, short)
+    }
+
     // The path of the file in the folder of the longest prefix of a URL.
     fn path_in_folders(&self, alloc: Global, url: &[u8]) -> Result<Option<String>, AllocError>
         ensures { IfOk result (λ path.
             option_map string_bytes path ≡ path_in_folders self.now.folders url.now) }
     {
+        let (prefix, rest) = url.split_at(self.longest_prefix(url));
+        match self.folders.path_under(prefix) {
+            Some(folder) => map_path(alloc, folder, rest),
+            None => Ok(None),
+        }
+    }
+
+    // How many bytes the longest prefix of a URL has that has a folder, 0 where none has one.
+    fn longest_prefix(&self, url: &[u8]) -> usize
+        ensures prefix { result ≡ longest_prefix self.now.folders url.now }
+        ensures within { result ≤ length url.now }
+    {
         let mut end = url.len();
         while end > 0 {
-            let (prefix, rest) = url.split_at(end);
-            if is_folder(prefix) {
-                if let Some(folder) = self.folders.path_under(prefix) {
-                    return map_path(alloc, folder, rest);
-                }
+            let (prefix, _) = url.split_at(end);
+            if self.has_folder(prefix) {
+                return end;
             }
             end -= 1;
         }
-        Ok(None)
+        0
     }
 }

@@ -1,5 +1,6 @@
 //! One pattern of URLs.
-ghost use Rattle.std.specs.Prelude.{◌≡◌, option_map, string_bytes, IfOk};
+ghost use Rattle.std.specs.Prelude.{◌≡◌, Some, option_map, string_bytes, IfOk};
+ghost use Rattle.smap_locations.specs.Deciding.{pattern_name};
 ghost use Rattle.smap_locations.specs.ListLine.{is_folder};
 ghost use Rattle.smap_locations.specs.PatternSeen.{pattern_seen};
 ghost use Rattle.smap_locations.specs.Patterns.{comes_before, has_in_text, has_text, has_url, needs_query, path_by, with_slashes};
@@ -57,6 +58,19 @@ impl Pattern {
             }
             None => Ok(None),
         }
+    }
+
+    /// It behind its `*`, where it gives a path for a URL without its query and its fragment.
+    pub fn name_for(&self, alloc: Global, short: &[u8]) -> Result<Option<Vec<u8>>, AllocError>
+        ensures { IfOk result (λ name. option_map (λ text. text.items) name
+            ≡ pattern_name short.now (Some (pattern_seen self.now))) }
+    {
+        if self.path_by(alloc, short)?.is_none() {
+            return Ok(None);
+        }
+        let mut name = Vec::from_slice(alloc, b"*")?;
+        name.extend_from_slice(&self.text)?;
+        Ok(Some(name))
     }
 
     /// Whether it decides before another.

@@ -3,6 +3,7 @@ ghost use Rattle.std.specs.Prelude.{◌≡◌, ◌==◌, ◌++◌, ◌∷◌, []
 ghost use Rattle.std.specs.Prelude.{OnErr, OnOk, IfErr, IfOk, IsErrAnd};
 ghost use Rattle.std.specs.List.{list_any};
 ghost use Rattle.smap_locations.specs.PatternSeen.{pattern_seen};
+ghost use Rattle.smap_locations.specs.Deciding.{pattern_name};
 ghost use Rattle.smap_locations.specs.Patterns.{deciding, has_in_text, has_text, is_better, needs_query, path_by_patterns, pattern_refusal};
 ghost use Rattle.smap_locations.specs.declared.refusal.LocationRefusal.TheVariants.{Memory};
 
@@ -104,6 +105,23 @@ impl Patterns {
     {
         match deciding(&self.all, url, short) {
             Some(pattern) => pattern.path_by(alloc, short),
+            None => Ok(None),
+        }
+    }
+
+    /// The pattern that decides for a URL, behind its `*`, where one does and gives a path. The URL is `short` without its
+    /// query and its fragment.
+    pub fn decided_by(
+        &self,
+        alloc: Global,
+        url: &[u8],
+        short: &[u8],
+    ) -> Result<Option<Vec<u8>>, AllocError>
+        ensures { IfOk result (λ name. option_map (λ text. text.items) name
+            ≡ pattern_name short.now (deciding url.now short.now None self.now)) }
+    {
+        match deciding(&self.all, url, short) {
+            Some(pattern) => pattern.name_for(alloc, short),
             None => Ok(None),
         }
     }

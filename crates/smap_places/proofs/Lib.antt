@@ -11,6 +11,7 @@ pub mod GreatestLaws
 pub mod NearLaws
 pub mod CountLaws
 pub mod PartLaws
+pub mod CountingLaws
 pub mod PartStepLaws
 pub mod BesideLaws
 pub mod PassageLaws

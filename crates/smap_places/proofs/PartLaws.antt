@@ -84,18 +84,19 @@ others_text maps (byte ∷ bytes) parts = ap (λ text. byte ∷ text) (others_te
 
 -- ---- where no place begins any more
 
-module _ (begins : List ℕ → List ℕ → Option PlaceUrl) (maps : List ℕ → Option MapRecord) (line : List ℕ) where
-  module _ (from : ℕ) (within : from ≤ length line) (none : NoNext begins line from) where
-    last_parts : parts_at begins line from ≡ map other (drop from line) ++ []
-    last_parts =
-        let end : from + (length line - from) ≡ length line = omega (arith, within) in
-        others begins line (length line - from) from (omega (arith, within)) (λ i least below. none i least)
-        ∙ ap (λ k. map other (take (length line - from) (drop from line)) ++ parts_at begins line k) end
-        ∙ ap (λ rest. map other (take (length line - from) (drop from line)) ++ parts_from begins line (length line) 0 rest) (drop-length line)
-        ∙ ap (λ bytes. map other bytes ++ []) (take_rest line from)
+module _ (begins : List ℕ → List ℕ → Option PlaceUrl) (line : List ℕ) (from : ℕ) (within : from ≤ length line) (none : NoNext begins line from) where
+  pub last_parts : parts_at begins line from ≡ map other (drop from line) ++ []
+  last_parts =
+      let end : from + (length line - from) ≡ length line = omega (arith, within) in
+      others begins line (length line - from) from (omega (arith, within)) (λ i least below. none i least)
+      ∙ ap (λ k. map other (take (length line - from) (drop from line)) ++ parts_at begins line k) end
+      ∙ ap (λ rest. map other (take (length line - from) (drop from line)) ++ parts_from begins line (length line) 0 rest) (drop-length line)
+      ∙ ap (λ bytes. map other bytes ++ []) (take_rest line from)
 
-    pub last_text : parts_text maps (parts_at begins line from) ≡ drop from line
-    last_text = ap (parts_text maps) last_parts ∙ others_text maps (drop from line) [] ∙ append-nil (drop from line)
+module _ (begins : List ℕ → List ℕ → Option PlaceUrl) (maps : List ℕ → Option MapRecord) (line : List ℕ) (from : ℕ) (within : from ≤ length line)
+    (none : NoNext begins line from) where
+  pub last_text : parts_text maps (parts_at begins line from) ≡ drop from line
+  last_text = ap (parts_text maps) (last_parts begins line from within none) ∙ others_text maps (drop from line) [] ∙ append-nil (drop from line)
 
 -- ---- what is put for a place
 

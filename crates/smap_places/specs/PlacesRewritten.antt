@@ -1,7 +1,8 @@
 -- What a text becomes whose places are rewritten wherever they stand, over a table of the maps and their URLs (this
 -- project's own).
-use Rattle.std.specs.Prelude.{ℕ, ◌==◌, ◌||◌, Bool, false, List, [], ◌∷◌, ◌++◌, Option, Some, None, is_some, if◌then◌else◌, length, filter, unwrap_or}
+use Rattle.std.specs.Prelude.{ℕ, ◌==◌, ◌||◌, Bool, false, not, List, [], ◌∷◌, ◌++◌, Option, Some, None, is_some, if◌then◌else◌, length, filter, unwrap_or}
 use Rattle.std.specs.List.{flat_map, list_any}
+use Rattle.std.specs.Str.{bytes_eq}
 use Rattle.smap_lines.specs.Lines.{Line, end_in, lines_with_ends}
 use Rattle.smap_record.specs.Record.{MapRecord}
 use Rattle.smap_by_text.specs.ByText.{value_under}
@@ -71,6 +72,19 @@ is_place (found place text) = is_some (Some place)
 abbrev pub is_replaced : (maps : List ℕ → Option MapRecord) → Part → Bool
 is_replaced maps (other byte) = false
 is_replaced maps (found place text) = is_some (replacement (maps place.url) place)
+
+-- the place is one of another URL than this, where one is given
+abbrev pub is_of_url : (own : Option (List ℕ)) → (url : List ℕ) → Bool
+is_of_url None url = false
+is_of_url (Some own) url = bytes_eq own url
+
+abbrev pub is_other_place : (own : Option (List ℕ)) → Part → Bool
+is_other_place own (other byte) = false
+is_other_place own (found place text) = not (is_of_url own place.url)
+
+-- how many places of other URLs a text has, where `begins` says which one begins a text behind others
+unfoldable pub places_in : (begins : List ℕ → List ℕ → Option PlaceUrl) → (own : Option (List ℕ)) → (text : List ℕ) → ℕ
+places_in begins own text = length (filter (is_other_place own) (parts_of begins text))
 
 -- the lines of a text, its places in place of frames, those that are replaced, and none that is hidden
 unfoldable pub place_counts : List ℕ → List (List ℕ × MapRecord) → Counts

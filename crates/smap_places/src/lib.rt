@@ -11,6 +11,7 @@
 #![tactic(auto)]
 
 mod begins;
+mod counting;
 mod finder;
 pub mod laws;
 mod lengths;

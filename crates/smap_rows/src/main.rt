@@ -151,6 +151,7 @@ fn answer_file_row(row: &Row<'_>, answer: &mut Answer) -> Result<(), RowFault> {
         "mistake" => parsed::mistake(row, answer),
         "run" => runs::over_sound(row, answer),
         "run_over" => runs::over(row, answer),
+        "run_terminal" => runs::over_terminal(row, answer),
         _ => Err(RowFault::UnknownCall),
     }
 }

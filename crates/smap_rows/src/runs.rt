@@ -15,14 +15,21 @@ use smap_io::{MemorySink, MemorySource};
 pub fn over_sound(row: &Row<'_>, answer: &mut Answer) -> Result<(), RowFault> {
     let input = sound_source(row, 2)?;
     let (mut output, mut errors) = (sound_sink(row)?, sound_sink(row)?);
-    run(row, answer, 1, input, &mut output, &mut errors)
+    run(row, answer, 1, input, &mut output, &mut errors, false)
+}
+
+/// The same where standard error is a terminal, which the command is told.
+pub fn over_terminal(row: &Row<'_>, answer: &mut Answer) -> Result<(), RowFault> {
+    let input = sound_source(row, 2)?;
+    let (mut output, mut errors) = (sound_sink(row)?, sound_sink(row)?);
+    run(row, answer, 1, input, &mut output, &mut errors, true)
 }
 
 /// The same behind how standard input, standard output and standard error move their bytes.
 pub fn over(row: &Row<'_>, answer: &mut Answer) -> Result<(), RowFault> {
     let input = source(row, 1, 5)?;
     let (mut output, mut errors) = (sink(row, 2)?, sink(row, 3)?);
-    run(row, answer, 4, input, &mut output, &mut errors)
+    run(row, answer, 4, input, &mut output, &mut errors, false)
 }
 
 // The command line stands in this field, standard input in the next, and the files behind that.
@@ -33,12 +40,13 @@ fn run(
     input: MemorySource,
     output: &mut MemorySink,
     errors: &mut MemorySink,
+    is_terminal: bool,
 ) -> Result<(), RowFault>
     requires input_works { input.failed ≡ false }
     requires output_works { output.old.failed ≡ false }
     requires errors_work { errors.old.failed ≡ false }
 {
-    let status = status_of(row, first, input, output, errors)?;
+    let status = status_of(row, first, input, output, errors, is_terminal)?;
     answer.put_number(u64::from(status))?;
     answer.put(output.bytes())?;
     answer.put(errors.bytes())
@@ -50,6 +58,7 @@ fn status_of(
     input: MemorySource,
     output: &mut MemorySink,
     errors: &mut MemorySink,
+    is_terminal: bool,
 ) -> Result<u8, RowFault>
     requires input_works { input.failed ≡ false }
     requires output_works { output.old.failed ≡ false }
@@ -57,7 +66,10 @@ fn status_of(
 {
     let files = RowFiles::new(row, first.saturating_add(2))?;
     match parse(row.alloc(), row.words(first)?) {
-        Ok(command) => {
+        Ok(mut command) => {
+            if is_terminal {
+                command.ask_hint();
+            }
             let (status, _) = run_reading(
                 row.alloc(),
                 &files,

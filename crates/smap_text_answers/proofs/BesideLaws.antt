@@ -3,11 +3,12 @@ use Rattle.std.specs.Prelude.{◌≡◌, ◌⊎◌, ℕ, Bool, true, false, List
 use Rattle.std.specs.Option.{IsSomeAnd, option_or}
 use Rattle.std.proofs.Common.{ap, inl, inr, refl, subst, sym, ◌∙◌}
 use Rattle.smap_lines.specs.Editing.{DevicesSeen}
+use Rattle.smap_lines.specs.declared.fault.LineFault.TheVariants.{Memory}
 use Rattle.smap_locations.specs.Locations.{key_for, path_for}
 use Rattle.smap_places.specs.Places.{PlaceUrl}
 use Rattle.smap_places.specs.PlacesBeside.{FindsBeside, found_beside}
 use Rattle.smap_places.specs.PlacesOver.{RewritesPlacesOver}
-use Rattle.smap_places.specs.Laws.PlacesSeen.{places_seen}
+use Rattle.smap_places.specs.Laws.PlacesSeen.{front_of_none, places_seen}
 use Rattle.smap_record.specs.Record.{MapRecord}
 use Rattle.smap_by_text.specs.ByText.{value_under}
 use Rattle.smap_store.specs.Cache.{CacheSeen, Kept, kept_record}
@@ -15,9 +16,12 @@ use Rattle.smap_store.specs.Fileless.{asks_no_file, known_beside}
 use Rattle.smap_store.specs.Stored.{Asks, FindsIn, GivesIn, LoadsMay, LoadsStep, MayCome, Recalls, StoredSeen, Untouched, found_in, map_in, or_other}
 use Rattle.smap_store.specs.StoredMaps.{IsSameStore, same_store_on, same_store_self, stored_seen}
 use Rattle.smap_store.specs.declared.stored.StoredMaps.{StoredMaps}
+use Rattle.smap_trace.specs.Hiding.{HidingSeen}
 use Rattle.smap_trace.specs.Laws.Seen.{looked_seen}
+use Rattle.smap_trace.specs.Laws.Unread as unread
 use Rattle.smap_trace.specs.Rewriting.{Looked}
 use Rattle.smap_trace.specs.declared.outcome.Summary.{Summary}
+use Rattle.smap_text_answers.specs.RewriteFrom.{RewritesTextFront}
 
 -- one of two things, by a test
 pub when_on : (test : Bool) (P Q : Type 0) → test ≡ true → P → MatchBool test P Q
@@ -27,6 +31,12 @@ when_on false P Q is holds = absurd (cc)
 pub when_off : (test : Bool) (P Q : Type 0) → test ≡ false → Q → MatchBool test P Q
 when_off true P Q is holds = absurd (cc)
 when_off false P Q is holds = holds
+
+-- nothing was read of a text, since memory ran out
+pub text_front_of_none : (anywhere : Bool) (Gives : (url : List ℕ) → Option MapRecord → Type 0) (begins : List ℕ → List ℕ → Option PlaceUrl) (hide : HidingSeen)
+    (most : ℕ) (now : DevicesSeen) → RewritesTextFront anywhere Gives begins hide most now now Memory
+text_front_of_none true Gives begins hide most now = front_of_none Gives begins most now
+text_front_of_none false Gives begins hide most now = unread.front_of_none Gives hide most now
 
 -- a store, with these words in the stead of its own
 abbrev pub store : {L : Type 0} → List (List ℕ × MapRecord) → StoredMaps L → StoredSeen L

@@ -7,6 +7,7 @@ use Rattle.smap_lines.specs.declared.fault.LineFault.{LineFault}
 use Rattle.smap_lines.specs.declared.fault.LineFault.TheVariants.{Memory}
 use Rattle.smap_locations.specs.Locations.{key_for, path_for}
 use Rattle.smap_places.specs.Places.{PlaceUrl}
+use Rattle.smap_places.specs.PlacesRewritten.{places_in}
 use Rattle.smap_places.specs.Laws.PlacesSeen.{places_front_seen, places_seen}
 use Rattle.smap_record.specs.Record.{MapRecord}
 use Rattle.smap_by_text.specs.ByText.{value_under}
@@ -20,7 +21,8 @@ use Rattle.smap_trace.specs.Rewriting.{Looked}
 use Rattle.smap_trace.specs.Noted.{RewritesNoted}
 use Rattle.smap_trace.specs.UrlNotes.{NotesSeen}
 use Rattle.smap_trace.specs.Laws.Noted.{noted_seen}
-use Rattle.smap_trace.specs.Laws.Seen.{front_seen, looked_seen, rewrites_seen}
+use Rattle.smap_trace.specs.Laws.Passed.{passing_seen}
+use Rattle.smap_trace.specs.Laws.Seen.{front_seen, looked_seen}
 use Rattle.smap_trace.specs.declared.outcome.RewriteCounts.{RewriteCounts}
 use Rattle.smap_replies.specs.Files.{MayRead}
 use Rattle.smap_text_answers.specs.Loader.{IsSameLoader, LoaderSeen, Loads, MayLoad, loader_seen}
@@ -115,17 +117,18 @@ module _ {F E : Type 0} (gives : F → MayRead) (seen : E → SinkSeen) where
       pub may_first : (url path : List ℕ) (found : Option MapRecord) → May old.loader url path found → MaySeen (loader_seen seen old.loader) url path found
       may_first url path found may = subst (λ l. May l url path found) is may
 
-      module _ (begins : List ℕ → List ℕ → Option PlaceUrl) (hide : HidingSeen) (most : ℕ) (before after : DevicesSeen) where
-        text_from : (anywhere : Bool) (counts : RewriteCounts) → RewritesText anywhere (FindsIn Steps) begins hide most before after old new counts
-            → RewritesText anywhere (FindsIn Seen) begins hide most before after (see old) (see new) counts
+      module _ (begins : List ℕ → List ℕ → Option PlaceUrl) (most_passed : ℕ) (hide : HidingSeen) (most : ℕ) (before after : DevicesSeen) where
+        text_from : (anywhere : Bool) (counts : RewriteCounts) → RewritesText anywhere (FindsIn Steps) begins most_passed hide most before after old new counts
+            → RewritesText anywhere (FindsIn Seen) begins most_passed hide most before after (see old) (see new) counts
         text_from true counts is = (
           places_seen (FindsIn Steps) found_in (FindsIn Seen) found_in see (λ maps. IsSameLoader first maps.loader) finds_so (λ maps url same. refl)
               begins most before after old new counts.summary at_first is.0,
           is.1,
+          is.2,
         )
         text_from false counts is =
-            rewrites_seen (FindsIn Steps) found_in (FindsIn Seen) found_in see (λ maps. IsSameLoader first maps.loader) finds_so (λ maps url. refl)
-            hide most before after old new counts at_first is
+            passing_seen (FindsIn Steps) found_in (FindsIn Seen) found_in see (λ maps. IsSameLoader first maps.loader) finds_so (λ maps url. refl)
+            (places_in begins) hide most_passed most before after old new counts at_first is
 
         front_from : (anywhere : Bool) (fault : LineFault) → RewritesTextFront anywhere (GivesIn May old) begins hide most before after fault
             → RewritesTextFront anywhere (GivesIn MaySeen (see old)) begins hide most before after fault
@@ -142,15 +145,15 @@ module _ {F E : Type 0} (gives : F → MayRead) (seen : E → SinkSeen) where
           noted_seen (FindsIn Steps) found_in (FindsIn Seen) found_in see (λ maps. IsSameLoader first maps.loader) finds_so (λ maps url. refl)
           hide most before after old new counts notes at_first is
 
-      pub rewritten_from : (sources : MapSources) (anywhere : Bool) (hide : HidingSeen) (most : ℕ) (before after : DevicesSeen) (result : Result RewriteCounts LineFault)
-          → IfOk result (RewritesText anywhere (FindsIn Steps) (places_of sources) hide most before after old new)
+      pub rewritten_from : (sources : MapSources) (anywhere : Bool) (most_passed : ℕ) (hide : HidingSeen) (most : ℕ) (before after : DevicesSeen) (result : Result RewriteCounts LineFault)
+          → IfOk result (RewritesText anywhere (FindsIn Steps) (places_of sources) most_passed hide most before after old new)
           → IfErr result (RewritesTextFront anywhere (GivesIn May old) (places_of sources) hide most before after) → Looked (FindsIn Steps) old new
-          → IsStoredRewritten (gives first.maps.now.files.now) first.paths (option_copied first.maps.now.base) first.maps.now.interval first.number sources anywhere hide
+          → IsStoredRewritten (gives first.maps.now.files.now) first.paths (option_copied first.maps.now.base) first.maps.now.interval first.number sources anywhere most_passed hide
           most (see old) (see new) before after result
-      rewritten_from sources anywhere hide most before after (Ok counts) rewrites front looked =
-          text_from (places_of sources) hide most before after anywhere counts rewrites
-      rewritten_from sources anywhere hide most before after (Err fault) rewrites front looked = (
-        front_from (places_of sources) hide most before after anywhere fault front,
+      rewritten_from sources anywhere most_passed hide most before after (Ok counts) rewrites front looked =
+          text_from (places_of sources) most_passed hide most before after anywhere counts rewrites
+      rewritten_from sources anywhere most_passed hide most before after (Err fault) rewrites front looked = (
+        front_from (places_of sources) most_passed hide most before after anywhere fault front,
         (looked_from looked).0,
       )
 

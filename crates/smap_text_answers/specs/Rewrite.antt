@@ -34,6 +34,7 @@ module _ {A : Type 0} (maps : List (String A × String A)) where
     limit_bytes = unwrap_or options.limit_bytes usual_limit_bytes;
     summary = options.summary;
     explain = options.explain;
+    hint = options.hint;
   }
 
 -- what `rewrite` does to the streams, and the status with which it ends

@@ -1,7 +1,7 @@
 -- What `rewrite` does over files and folders of maps that are read when a trace names them: it gathers what it is over, rewrites
 -- the text over a store of maps, and says what that came to. The status is the greatest of all that was reported.
 use Rattle.std.specs.Prelude.{◌≡◌, ◌⊎◌, ℕ, ◌+◌, ◌-◌, ◌^◌, ◌==◌, Bool, List, [], ◌∷◌, Option, Result, Ok, Err, MatchBool, codes, length, map, max, min}
-use Rattle.std.specs.Prelude.{◌&&◌, IfOk, false, is_ok, not, option_copied, true}
+use Rattle.std.specs.Prelude.{◌++◌, ◌&&◌, ◌||◌, IfOk, false, if◌then◌else◌, is_ok, nat_lt, not, option_copied, true}
 use Rattle.std.specs.Fmt.{decimal}
 use Rattle.std.specs.List.{concat}
 use Rattle.url.specs.Parts.{Parts}
@@ -12,6 +12,7 @@ use Rattle.smap_lines.specs.declared.fault.LineFault.{LineFault}
 use Rattle.smap_lines.specs.declared.fault.LineFault.TheVariants as fault
 use Rattle.smap_places.specs.Places.{PlaceUrl}
 use Rattle.smap_places.specs.PlacesBy.{RewritesPlacesBy}
+use Rattle.smap_places.specs.PlacesRewritten.{places_in}
 use Rattle.smap_places.specs.PlacesOver.{RewritesPlacesFrontOver, RewritesPlacesOver}
 use Rattle.smap_places.specs.PlaceAt.{place_at}
 use Rattle.smap_record.specs.Record.{MapRecord}
@@ -21,9 +22,10 @@ use Rattle.smap_store.specs.Stored.{FindsIn, GivesIn, StoredSeen, found_in}
 use Rattle.smap_trace.specs.Hiding.{HidingSeen, hiding_seen}
 use Rattle.smap_trace.specs.MapsOf.{MapsByUrl, RewritesBy}
 use Rattle.smap_trace.specs.Noted.{RewritesNoted}
+use Rattle.smap_trace.specs.Passed.{RewritesPassing}
 use Rattle.smap_trace.specs.UrlNotes.{NotesSeen}
 use Rattle.smap_text_answers.specs.UrlLines.{TellsUrls}
-use Rattle.smap_trace.specs.Rewriting.{Looked, RewritesFrontOver, RewritesOver}
+use Rattle.smap_trace.specs.Rewriting.{Looked, RewritesFrontOver}
 use Rattle.smap_trace.specs.declared.outcome.RewriteCounts.{RewriteCounts}
 use Rattle.smap_replies.specs.Files.{MayRead}
 use Rattle.smap_command.specs.Lines.{line_from}
@@ -49,6 +51,7 @@ pub record RequestSeen : Type 0 where
   pub limit_bytes : ℕ
   pub summary : Bool
   pub explain : Bool
+  pub hint : Bool
 
 abbrev pub request_seen : {F : Type 0} → RewriteRequest F → RequestSeen
 request_seen request = record {
@@ -61,7 +64,12 @@ request_seen request = record {
   limit_bytes = request.limit_bytes;
   summary = request.summary;
   explain = request.explain;
+  hint = request.hint;
 }
+
+-- how many of the places are counted, at most, that are passed: all for a summary, and else one where a terminal is told of them
+abbrev pub most_passed : (summary hint : Bool) → ℕ
+most_passed summary hint = if summary then 2 ^ 64 - 1 else if hint then 1 else 0
 
 -- ---- over a store of maps
 
@@ -84,18 +92,20 @@ places_of sources = place_at (record { table = sources.words; locations = source
 
 -- ---- a text over a store
 
--- the places of a text are rewritten, in lines of which none is too long
+-- the places of a text are rewritten, in lines of which none is too long, and none is passed
 abbrev pub RewritesPlacesCounted : {L : Type 0} → (Finds : StoredSeen L → (url : List ℕ) → StoredSeen L → Type 0)
     → (begins : List ℕ → List ℕ → Option PlaceUrl) → (most : ℕ) → (before after : DevicesSeen) → (old new : StoredSeen L) → RewriteCounts → Type 0
 RewritesPlacesCounted Finds begins most before after old new counts =
-    RewritesPlacesOver Finds found_in begins most before after old new counts.summary × (counts.long ≡ 0)
+    RewritesPlacesOver Finds found_in begins most before after old new counts.summary × (counts.long ≡ 0) × (counts.passed ≡ 0)
 
--- a text is rewritten over stored maps: its places, which begin so, or the frames of a trace
+-- a text is rewritten over stored maps: its places, which begin so, or the frames of a trace, and of its other lines the places,
+-- which begin so, are counted up to a number
 abbrev pub RewritesText : {L : Type 0} → (anywhere : Bool) → (Finds : StoredSeen L → (url : List ℕ) → StoredSeen L → Type 0)
-    → (begins : List ℕ → List ℕ → Option PlaceUrl) → (hide : HidingSeen) → (most : ℕ) → (before after : DevicesSeen) → (old new : StoredSeen L) → RewriteCounts → Type 0
-RewritesText anywhere Finds begins hide most before after old new counts =
+    → (begins : List ℕ → List ℕ → Option PlaceUrl) → (most_passed : ℕ) → (hide : HidingSeen) → (most : ℕ) → (before after : DevicesSeen)
+    → (old new : StoredSeen L) → RewriteCounts → Type 0
+RewritesText anywhere Finds begins most_passed hide most before after old new counts =
     MatchBool anywhere (RewritesPlacesCounted Finds begins most before after old new counts)
-    (RewritesOver Finds found_in hide most before after old new counts)
+    (RewritesPassing Finds found_in (places_in begins) most_passed hide most before after old new counts)
 
 -- or up to a fault
 abbrev pub RewritesTextFront : (anywhere : Bool) → (Gives : (url : List ℕ) → Option MapRecord → Type 0) → (begins : List ℕ → List ℕ → Option PlaceUrl)
@@ -104,11 +114,11 @@ RewritesTextFront anywhere Gives begins hide most before after fault =
     MatchBool anywhere (RewritesPlacesFrontOver Gives begins most before after fault) (RewritesFrontOver Gives hide most before after fault)
 
 -- a text was rewritten over a store of these maps to its end, or up to a fault, and the store stands so then
-abbrev pub IsStoredRewritten : MayRead → (paths : Bool) → Option Parts → (k number : ℕ) → (sources : MapSources) → (anywhere : Bool) → (hide : HidingSeen) → (most : ℕ)
-    → (old new : StoredSeen LoaderSeen) → (before after : DevicesSeen) → Result RewriteCounts LineFault → Type 0
-IsStoredRewritten Reads paths base k number sources anywhere hide most old new before after (Ok counts) =
-    RewritesText anywhere (FindsIn (Loads Reads paths base k number)) (places_of sources) hide most before after old new counts
-IsStoredRewritten Reads paths base k number sources anywhere hide most old new before after (Err fault) =
+abbrev pub IsStoredRewritten : MayRead → (paths : Bool) → Option Parts → (k number : ℕ) → (sources : MapSources) → (anywhere : Bool)
+    → (most_passed : ℕ) → (hide : HidingSeen) → (most : ℕ) → (old new : StoredSeen LoaderSeen) → (before after : DevicesSeen) → Result RewriteCounts LineFault → Type 0
+IsStoredRewritten Reads paths base k number sources anywhere most_passed hide most old new before after (Ok counts) =
+    RewritesText anywhere (FindsIn (Loads Reads paths base k number)) (places_of sources) most_passed hide most before after old new counts
+IsStoredRewritten Reads paths base k number sources anywhere most_passed hide most old new before after (Err fault) =
     RewritesTextFront anywhere (GivesIn (λ loader. MayLoad Reads paths base k number) old) (places_of sources) hide most before after fault
     × Looked (FindsIn (Loads Reads paths base k number)) old new
 
@@ -119,7 +129,8 @@ both_counted one other = min (one + other) (2 ^ 64 - 1)
 -- what rewriting over a store came to
 pub record IsOverStore (Reads : MayRead) (base : Option Parts) (k : ℕ) (request : RequestSeen) (sources : MapSources) (end : StoreEnd) (before after : Streams) : Type 0 where
   pub last : StoredSeen LoaderSeen
-  pub rewritten : IsStoredRewritten Reads request.paths base k (length request.arguments + 1) sources request.anywhere request.hide request.limit_bytes
+  pub rewritten : IsStoredRewritten Reads request.paths base k (length request.arguments + 1) sources request.anywhere
+      (most_passed request.summary request.hint) request.hide request.limit_bytes
       (store_start sources request.cache_bytes before.sinks.errors before.sinks.code) last
       (devices_seen before.input before.sinks.output) (devices_seen after.input after.sinks.output) end.result
   pub errors : after.sinks.errors ≡ last.loader.errors
@@ -175,9 +186,13 @@ maps_text end = concat (
     ∷ codes " refused " ∷ decimal end.refused
     ∷ [])
 
+-- how many places were passed, in lines that are no frames, where not all places are rewritten
+abbrev pub passed_text : (anywhere : Bool) → RewriteCounts → List ℕ
+passed_text anywhere counts = if anywhere then [] else codes " passed " ++ decimal counts.passed
+
 -- what was done
-abbrev pub summary_line : StoreEnd → RewriteCounts → List ℕ
-summary_line end counts = line_from (codes "ok " ∷ trace_text counts ∷ codes " " ∷ maps_text end ∷ [])
+abbrev pub summary_line : StoreEnd → (anywhere : Bool) → RewriteCounts → List ℕ
+summary_line end anywhere counts = line_from (codes "ok " ∷ trace_text counts ∷ codes " " ∷ maps_text end ∷ passed_text anywhere counts ∷ [])
 
 -- this is reported, or that memory ran out, with this status
 abbrev pub ReportsSummary : (line : List ℕ) → (status : ℕ) → (before after : SinkSeen) → Type 0
@@ -190,22 +205,22 @@ ReportsShortage shortages status before after =
     MatchBool (shortages == 0) ((status ≡ 0) × (after ≡ before)) ((status ≡ 3) × IsReportedTo before after memory_line)
 
 -- so is what was done where that is asked; and the status of both
-abbrev pub ClosesWith : StoreEnd → (summary : Bool) → RewriteCounts → (status : ℕ) → (before after : SinkSeen) → Type 0
-ClosesWith end summary counts status before after =
+abbrev pub ClosesWith : StoreEnd → (summary anywhere : Bool) → RewriteCounts → (status : ℕ) → (before after : SinkSeen) → Type 0
+ClosesWith end summary anywhere counts status before after =
     (between : SinkSeen) × (short : ℕ) × ReportsShortage end.shortages short before between
-    × MatchBool summary ((reported : ℕ) × ReportsSummary (summary_line end counts) reported between after × (status ≡ max short reported))
+    × MatchBool summary ((reported : ℕ) × ReportsSummary (summary_line end anywhere counts) reported between after × (status ≡ max short reported))
     ((status ≡ short) × (after ≡ between))
 
 -- how the run ends, by what rewriting came to, and with which status
-abbrev pub EndsResult : StoreEnd → (summary : Bool) → Result RewriteCounts LineFault → (status : ℕ) → (before after : Sinks) → Type 0
-EndsResult end summary (Ok counts) status before after =
+abbrev pub EndsResult : StoreEnd → (summary anywhere : Bool) → Result RewriteCounts LineFault → (status : ℕ) → (before after : Sinks) → Type 0
+EndsResult end summary anywhere (Ok counts) status before after =
     (reported : ℕ) × (between : Sinks) × (closed : ℕ) × Ends (answer []) reported before between × (after.output ≡ between.output) × (after.code ≡ between.code)
-    × ClosesWith end summary counts closed between.errors after.errors × (status ≡ max (max end.status reported) closed)
-EndsResult end summary (Err fault) status before after =
+    × ClosesWith end summary anywhere counts closed between.errors after.errors × (status ≡ max (max end.status reported) closed)
+EndsResult end summary anywhere (Err fault) status before after =
     (reported : ℕ) × Ends (fault_report fault) reported before after × (status ≡ max end.status reported)
 
-abbrev pub EndsFrom : StoreEnd → (summary : Bool) → (status : ℕ) → (before after : Sinks) → Type 0
-EndsFrom end summary status before after = EndsResult end summary end.result status before after
+abbrev pub EndsFrom : StoreEnd → (summary anywhere : Bool) → (status : ℕ) → (before after : Sinks) → Type 0
+EndsFrom end summary anywhere status before after = EndsResult end summary anywhere end.result status before after
 
 -- what became of the URLs that were noted is said then, where that is asked; and the status of that
 abbrev pub says_urls : RequestSeen → StoreEnd → Bool
@@ -217,17 +232,35 @@ SaysUrls Reads base k request sources end notes status before after =
     (TellsUrls Reads request.paths base k (length request.arguments + 1) request.arguments sources.locations notes status before after)
     ((status ≡ 0) × (after ≡ before))
 
+-- ---- what a terminal is told
+
+abbrev pub has_passed : Result RewriteCounts LineFault → Bool
+has_passed (Ok counts) = nat_lt 0 counts.passed
+has_passed (Err fault) = false
+
+-- places were passed, and nothing else was said up to this status: no refusal, no summary and no URL
+abbrev pub is_hinted : RequestSeen → StoreEnd → NotesSeen → (status : ℕ) → Bool
+is_hinted request end notes status =
+    request.hint && (not request.summary && ((not request.explain || length notes.notes == 0) && (status == 0 && has_passed end.result)))
+
+abbrev pub hint_line : List ℕ
+hint_line = codes "smap rewrite --anywhere takes places in lines that are no frames\n"
+
+-- what takes them is said then
+abbrev pub Hints : RequestSeen → StoreEnd → NotesSeen → (status : ℕ) → (before after : SinkSeen) → Type 0
+Hints request end notes status before after = MatchBool (is_hinted request end notes status) (IsReportedTo before after hint_line) (after ≡ before)
+
 -- ---- the run
 
 -- over what it gathered, or where that is refused
 abbrev pub RewritesSources : MayRead → Option Parts → (k : ℕ) → RequestSeen → Result MapSources Report → (status : ℕ) → (before after : Streams) → Type 0
 RewritesSources Reads base k request (Err refused) status before after = (after.input ≡ before.input) × Ends refused status before.sinks after.sinks
 RewritesSources Reads base k request (Ok sources) status before after =
-    (end : StoreEnd) × (notes : NotesSeen) × (between : Streams) × (told : Sinks) × (ended : ℕ) × (said : ℕ)
+    (end : StoreEnd) × (notes : NotesSeen) × (between : Streams) × (told : Sinks) × (named : SinkSeen) × (ended : ℕ) × (said : ℕ)
     × IsOverStore Reads base k request sources end before between × IsNotedOver Reads base k request sources end notes before between
-    × AnswersByPath Reads base k request sources end before between × (after.input ≡ between.input) × EndsFrom end request.summary ended between.sinks told
-    × (after.sinks.output ≡ told.output) × (after.sinks.code ≡ told.code) × SaysUrls Reads base k request sources end notes said told.errors after.sinks.errors
-    × (status ≡ max ended said)
+    × AnswersByPath Reads base k request sources end before between × (after.input ≡ between.input) × EndsFrom end request.summary request.anywhere ended between.sinks told
+    × (after.sinks.output ≡ told.output) × (after.sinks.code ≡ told.code) × SaysUrls Reads base k request sources end notes said told.errors named
+    × Hints request end notes status named after.sinks.errors × (status ≡ max ended said)
 
 abbrev pub RewritesFrom : MayRead → Option Parts → (k : ℕ) → RequestSeen → (status : ℕ) → (before after : Streams) → Type 0
 RewritesFrom Reads base k request status before after =

@@ -1,4 +1,4 @@
--- What is said at the end of the URLs that a trace named: a line for each of the first 100, with the file that its map came from, or
+-- What is said at the end of the URLs that a trace named: a line for each of the first 100, with what decided, and the file that its map came from, or
 -- why it had none (this project's own).
 use Rattle.std.specs.Prelude.{◌≡◌, ◌⊎◌, ℕ, ◌==◌, ◌&&◌, ◌-◌, Bool, false, not, List, [], ◌∷◌, ◌++◌, Option, Some, None, MatchBool, MatchOption, codes}
 use Rattle.std.specs.Prelude.{length, option_map, take, unwrap_or}
@@ -7,6 +7,7 @@ use Rattle.std.specs.List.{concat, find}
 use Rattle.std.specs.Str.{bytes_eq}
 use Rattle.url.specs.Parts.{Parts}
 use Rattle.smap_io.specs.Device.{SinkSeen}
+use Rattle.smap_locations.specs.Deciding.{decided_by}
 use Rattle.smap_locations.specs.ListLine.{is_rule}
 use Rattle.smap_locations.specs.Locations.{LocationsSeen, or_else, path_for}
 use Rattle.smap_replies.specs.Files.{MayRead}
@@ -34,13 +35,21 @@ word_file url arguments = option_map (λ a. a.1) (find (λ a. not (is_rule a.0 a
 abbrev pub url_file : (url : List ℕ) → List (List ℕ × List ℕ) → LocationsSeen → List ℕ
 url_file url arguments locations = unwrap_or (or_else (word_file url arguments) (path_for locations url)) []
 
+-- what decides which file a URL has: an argument that names one, or what decides of the others and of the list; as it was named
+abbrev pub word_name : (url : List ℕ) → (word : Option (List ℕ)) → Option (List ℕ)
+word_name url None = None
+word_name url (Some file) = Some url
+
+abbrev pub deciding_name : (url : List ℕ) → List (List ℕ × List ℕ) → LocationsSeen → List ℕ
+deciding_name url arguments locations = unwrap_or (or_else (word_name url (word_file url arguments)) (decided_by locations url)) []
+
 -- the first place for which the map has nothing
 abbrev pub unmapped_text : Option (ℕ × ℕ) → List ℕ
 unmapped_text None = []
 unmapped_text (Some (line, column)) = codes ", no mapping at " ++ (decimal line ++ (codes ":" ++ decimal column))
 
-abbrev pub found_text : (file : List ℕ) → (unmapped : Option (ℕ × ℕ)) → List ℕ
-found_text file unmapped = codes "from " ++ (shown file ++ unmapped_text unmapped)
+abbrev pub found_text : (name file : List ℕ) → (unmapped : Option (ℕ × ℕ)) → List ℕ
+found_text name file unmapped = concat (codes "by " ∷ shown (take 1024 name) ∷ codes " from " ∷ shown file ∷ unmapped_text unmapped ∷ [])
 
 -- ---- no argument has the URL
 
@@ -87,7 +96,7 @@ module _ (Reads : MayRead) (paths : Bool) (base : Option Parts) (k number : ℕ)
     IsWhy url text = MatchOption (path_for locations url) (text ≡ unknown_text (nearest_of url arguments)) (λ path. IsCause url path text)
 
     abbrev pub IsEnd : UrlNoteSeen → (text : List ℕ) → Type 0
-    IsEnd note text = MatchBool note.found (text ≡ found_text (url_file note.url arguments locations) note.unmapped) (IsWhy note.url text)
+    IsEnd note text = MatchBool note.found (text ≡ found_text (deciding_name note.url arguments locations) (url_file note.url arguments locations) note.unmapped) (IsWhy note.url text)
 
     -- of a longer URL the first 1,024 bytes are printed
     abbrev pub IsUrlLine : UrlNoteSeen → (line : List ℕ) → Type 0

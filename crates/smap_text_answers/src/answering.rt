@@ -71,6 +71,7 @@ pub fn answer_rewrite<F: FileReader, R: ByteSource, W: ByteSink, E: ByteSink>(
         limit_bytes,
         summary: options.summary,
         explain: options.explain,
+        hint: options.hint,
     };
     rewrite_from(alloc, &request, input, output, errors, first)
 }

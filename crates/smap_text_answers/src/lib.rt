@@ -10,6 +10,7 @@
 
 mod answering;
 mod by_path;
+mod ending;
 mod lines;
 mod loader;
 mod nearest;
@@ -19,6 +20,6 @@ mod trace;
 mod url_lines;
 
 pub use answering::{TextRequest, answer_rewrite};
+pub use ending::report_shortage;
 pub use loader::FileLoader;
-pub use rewriting::report_shortage;
 pub use sources::{MapSources, sources_of};

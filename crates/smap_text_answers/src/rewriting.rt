@@ -1,8 +1,7 @@
 //! Rewriting the stack trace on standard input over files and folders of maps, which are read when it names them.
-ghost use Rattle.std.specs.Prelude.{◌≡◌, ◌<◌, ◌^◌, [], false, true, option_copied, string_bytes, IfErr, IfOk};
-ghost use Rattle.smap_text_answers.specs.RewriteFrom.{ClosesWith, EndsFrom, IsNotedOver, IsOverStore, RewritesFrom, RewritesText, RewritesTextFront, ReportsShortage, ReportsSummary, SaysUrls, places_of, says_urls, request_seen, store_of};
-ghost use Rattle.smap_text_answers.specs.RewriteFrom.{maps_text, summary_line, trace_text};
-ghost use Rattle.smap_replies.specs.Streams.{sinks_seen, streams_seen};
+ghost use Rattle.std.specs.Prelude.{◌≡◌, ◌<◌, ◌^◌, [], false, true, option_copied, IfErr, IfOk};
+ghost use Rattle.smap_text_answers.specs.RewriteFrom.{IsNotedOver, IsOverStore, RewritesFrom, RewritesText, RewritesTextFront, SaysUrls, most_passed, places_of, says_urls, request_seen, store_of};
+ghost use Rattle.smap_replies.specs.Streams.{streams_seen};
 ghost use Rattle.smap_lines.specs.Editing.{devices_seen, is_read_fault, is_write_fault};
 ghost use Rattle.smap_lines.specs.declared.fault.LineFault.TheVariants.{Memory};
 ghost use Rattle.smap_store.specs.Stored.{FindsIn, GivesIn, found_in};
@@ -11,20 +10,20 @@ ghost use Rattle.smap_trace.specs.Noted.{RewritesNoted};
 ghost use Rattle.smap_trace.specs.NotesSeen.{notes_seen};
 ghost use Rattle.smap_trace.specs.Rewriting.{Looked};
 
+use crate::ending::{finish, hint};
 use crate::loader::FileLoader;
 use crate::sources::{MapSources, sources_of};
 use crate::url_lines::tell_urls;
 use smap_codes::Code;
 use smap_io::{ByteSink, ByteSource};
 use smap_places::{PlaceFinder, rewrite_places_over};
-use smap_replies::{
-    DONE, FAILED, Failure, FileReader, MapReader, NO_MEMORY, Reply, print_error, report,
-};
+use smap_replies::{DONE, FileReader, MapReader, report};
 use smap_store::{MapCache, MapLoader, StoredMaps};
 use smap_trace::{
-    Hiding, RewriteCounts, RewriteFault, RewriteOptions, Table, UrlNotes, rewrite_noting,
+    Hiding, NotingOptions, RewriteCounts, RewriteFault, RewriteOptions, Table, UrlNotes,
+    rewrite_noting,
 };
-use std::alloc::{AllocError, Global};
+use std::alloc::Global;
 
 /// How a trace is rewritten over files and folders.
 #[derive(Drop)]
@@ -50,6 +49,8 @@ pub struct RewriteRequest<'a, 'r, F: FileReader> {
     pub summary: bool,
     /// Whether it is reported then what became of the URLs that frames name.
     pub explain: bool,
+    /// Whether standard error is told, where nothing else was said, what takes the places of lines that are no frames.
+    pub hint: bool,
 }
 
 /// Reads the maps that are words of the command line, and rewrites the text on standard input over them and over those
@@ -83,29 +84,44 @@ pub fn rewrite_from<F: FileReader, R: ByteSource, W: ByteSink, E: ByteSink>(
             let end = over_store(
                 alloc, request, &sources, &mut notes, input, output, errors, first,
             );
-            let ended = finish(alloc, request.summary, &end, output, errors, first);
+            let ended = finish(alloc, request, &end, output, errors, first);
             let said = say_urls(alloc, request, &sources, &end, &notes, errors);
-            ended.max(said)
+            let status = ended.max(said);
+            hint(request, &end, &notes, status, errors);
+            status
         }
         Err(failure) => report(&Err(failure), output, errors, first),
     }
 }
 
-// What rewriting over a store came to.
+/// What rewriting over a store came to.
 #[derive(Clone, Copy)]
-struct StoreEnd {
+pub struct StoreEnd {
     // What was in the trace, or why it was not rewritten to its end.
-    result: Result<RewriteCounts, RewriteFault>,
+    pub result: Result<RewriteCounts, RewriteFault>,
     // The greatest status of what was reported of maps.
-    status: u8,
+    pub status: u8,
     // How many maps were read, those of words too.
-    maps: u64,
+    pub maps: u64,
     // How many URLs had no map, refused maps aside.
-    missing: u64,
+    pub missing: u64,
     // How many maps were refused.
-    refused: u64,
+    pub refused: u64,
     // How often there was not enough memory to keep what was found for a URL.
-    shortages: u64,
+    pub shortages: u64,
+}
+
+// How many of the places are counted, at most, that are passed.
+fn most_passed(summary: bool, hint: bool) -> u64
+    ensures { result ≡ most_passed summary hint }
+{
+    if summary {
+        u64::MAX
+    } else if hint {
+        1
+    } else {
+        0
+    }
 }
 
 // Rewrites the trace over the maps of words and of what its frames name.
@@ -150,6 +166,7 @@ fn over_store<F: FileReader, R: ByteSource, W: ByteSink, E: ByteSink>(
         sources,
         anywhere: request.anywhere,
         explain: request.explain,
+        most_passed: most_passed(request.summary, request.hint),
         options: RewriteOptions {
             hiding: request.hiding,
             most: request.limit_bytes,
@@ -175,6 +192,7 @@ struct StoreRun<'a> {
     sources: &'a MapSources,
     anywhere: bool,
     explain: bool,
+    most_passed: u64,
     options: RewriteOptions<'a>,
 }
 
@@ -193,7 +211,8 @@ fn rewrite_text<L: MapLoader, R: ByteSource, W: ByteSink>(
     requires output_works { (W.seen output.old).failed ≡ false }
     requires limit { asked.now.options.most < 2 ^ 63 }
     ensures rewrites { IfOk result (RewritesText asked.now.anywhere (FindsIn L.Loads)
-        (places_of asked.now.sources.now) (hiding_seen asked.now.options.hiding) asked.now.options.most
+        (places_of asked.now.sources.now) asked.now.most_passed
+        (hiding_seen asked.now.options.hiding) asked.now.options.most
         (devices_seen (R.seen input.old) (W.seen output.old))
         (devices_seen (R.seen input.new) (W.seen output.new))
         (store_of asked.now.sources.now cache.old loader.old)
@@ -220,6 +239,9 @@ fn rewrite_text<L: MapLoader, R: ByteSource, W: ByteSink>(
 {
     let (alloc, anywhere, options) = (asked.alloc, asked.anywhere, asked.options);
     let MapSources { words, locations } = asked.sources;
+    let Ok(finder) = PlaceFinder::new(alloc, words, locations) else {
+        return Err(RewriteFault::Memory);
+    };
     if !anywhere {
         let mut stored = StoredMaps {
             alloc,
@@ -228,12 +250,13 @@ fn rewrite_text<L: MapLoader, R: ByteSource, W: ByteSink>(
             cache,
             loader,
         };
-        let explain = asked.explain;
-        return rewrite_noting(alloc, input, output, &mut stored, options, explain, notes);
+        let noted = NotingOptions {
+            is_noted: asked.explain,
+            places: &finder,
+            most_passed: asked.most_passed,
+        };
+        return rewrite_noting(alloc, input, output, &mut stored, options, &noted, notes);
     }
-    let Ok(finder) = PlaceFinder::new(alloc, words, locations) else {
-        return Err(RewriteFault::Memory);
-    };
     // Those of words come with the places.
     let none = Table::new(alloc);
     let mut beside = StoredMaps {
@@ -244,7 +267,11 @@ fn rewrite_text<L: MapLoader, R: ByteSource, W: ByteSink>(
         loader,
     };
     match rewrite_places_over(alloc, input, output, &finder, &mut beside, options.most) {
-        Ok(summary) => Ok(RewriteCounts { summary, long: 0 }),
+        Ok(summary) => Ok(RewriteCounts {
+            summary,
+            long: 0,
+            passed: 0,
+        }),
         Err(fault) => Err(fault),
     }
 }
@@ -274,112 +301,4 @@ fn says_urls<F: FileReader>(request: &RewriteRequest<'_, '_, F>, end: &StoreEnd)
     ensures { result ≡ says_urls (request_seen request.now) end.now }
 {
     request.explain && !request.anywhere && end.result.is_ok()
-}
-
-// Reports what rewriting came to, and gives the exit status.
-fn finish<W: ByteSink, E: ByteSink>(
-    alloc: Global,
-    summary: bool,
-    end: &StoreEnd,
-    output: &mut W,
-    errors: &mut E,
-    first: &mut Option<Code>,
-) -> u8
-    requires output_works { (W.seen output.old).failed ≡ is_write_fault end.now.result }
-    ensures { EndsFrom end.now summary result
-        (sinks_seen (W.seen output.old) (E.seen errors.old) first.old)
-        (sinks_seen (W.seen output.new) (E.seen errors.new) first.new) }
-{
-    match end.result {
-        Ok(counts) => {
-            let reported = report(&Ok(Reply::Rewritten), output, errors, first);
-            let closed = close(alloc, summary, end, &counts, errors);
-            end.status.max(reported).max(closed)
-        }
-        Err(fault) => {
-            let reported = report(&Err(Failure::Fault(fault)), output, errors, first);
-            end.status.max(reported)
-        }
-    }
-}
-
-// Reports that memory ran out for some maps, and what was done where that is asked; and gives the status of both.
-fn close<E: ByteSink>(
-    alloc: Global,
-    summary: bool,
-    end: &StoreEnd,
-    counts: &RewriteCounts,
-    errors: &mut E,
-) -> u8
-    ensures { ClosesWith end.now summary counts.now result (E.seen errors.old) (E.seen errors.new) }
-{
-    let short = report_shortage(end.shortages, errors);
-    if !summary {
-        return short;
-    }
-    let reported = report_summary(alloc, end, counts, errors);
-    short.max(reported)
-}
-
-/// Reports that memory ran out for some maps, where it did, and gives the status of that.
-pub fn report_shortage<E: ByteSink>(shortages: u64, errors: &mut E) -> u8
-    ensures { ReportsShortage shortages result (E.seen errors.old) (E.seen errors.new) }
-{
-    if shortages == 0 {
-        return DONE;
-    }
-    print_error(errors, NO_MEMORY.as_bytes());
-    FAILED
-}
-
-// Reports what was done, or that memory ran out, and gives the status of that.
-fn report_summary<E: ByteSink>(
-    alloc: Global,
-    end: &StoreEnd,
-    counts: &RewriteCounts,
-    errors: &mut E,
-) -> u8
-    ensures { ReportsSummary (summary_line end.now counts.now) result
-        (E.seen errors.old) (E.seen errors.new) }
-{
-    match summary_line(alloc, end, counts) {
-        Ok(line) => {
-            print_error(errors, line.as_bytes());
-            DONE
-        }
-        Err(_) => {
-            print_error(errors, NO_MEMORY.as_bytes());
-            FAILED
-        }
-    }
-}
-
-// Standard error: what was done.
-fn summary_line(alloc: Global, end: &StoreEnd, counts: &RewriteCounts) -> Result<String, AllocError>
-    ensures { IfOk result (λ text. string_bytes text ≡ summary_line end.now counts.now) }
-{
-    let (trace, maps) = (trace_text(alloc, counts)?, maps_text(alloc, end)?);
-    format!(in alloc; "ok {trace} {maps}\n")
-}
-
-// What was in the trace, for one line.
-fn trace_text(alloc: Global, counts: &RewriteCounts) -> Result<String, AllocError>
-    ensures { IfOk result (λ text. string_bytes text ≡ trace_text counts.now) }
-{
-    let RewriteCounts { summary, long } = *counts;
-    let (lines, frames, mapped, hidden) = (
-        summary.lines,
-        summary.frames,
-        summary.mapped,
-        summary.hidden,
-    );
-    format!(in alloc; "lines {lines} frames {frames} mapped {mapped} hidden {hidden} long {long}")
-}
-
-// How many maps were read, for one line, and how many were not.
-fn maps_text(alloc: Global, end: &StoreEnd) -> Result<String, AllocError>
-    ensures { IfOk result (λ text. string_bytes text ≡ maps_text end.now) }
-{
-    let (maps, missing, refused) = (end.maps, end.missing, end.refused);
-    format!(in alloc; "maps {maps} missing {missing} refused {refused}")
 }

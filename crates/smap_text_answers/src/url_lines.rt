@@ -5,7 +5,7 @@ ghost use Rattle.smap_locations.specs.ListLine.{is_rule};
 ghost use Rattle.smap_replies.specs.Arguments.{argument_of};
 ghost use Rattle.smap_replies.specs.Outcome.{failure_report};
 ghost use Rattle.smap_text.specs.Shown.{shown};
-ghost use Rattle.smap_text_answers.specs.UrlLines.{AreUrlLines, CauseIs, IsCause, IsEnd, IsUrlLine, TellsUrls, body_of, cause_text, counts_text, found_text, late_text, nearest_text, unknown_text, unmapped_text, unread_text, url_file, word_file};
+ghost use Rattle.smap_text_answers.specs.UrlLines.{AreUrlLines, CauseIs, IsCause, IsEnd, IsUrlLine, TellsUrls, body_of, cause_text, counts_text, deciding_name, found_text, late_text, nearest_text, unknown_text, unmapped_text, unread_text, url_file, word_file};
 ghost use Rattle.smap_trace.specs.NotesSeen.{note_seen, notes_seen};
 
 use crate::loader::FileLoader;
@@ -157,8 +157,8 @@ fn end_of<F: FileReader, E: ByteSink>(
 {
     if note.found {
         let file = url_file(alloc, &note.url, arguments, locations)?;
-        let text = found_text(alloc, &file, note.unmapped)?;
-        return Ok(text.into_bytes());
+        let name = deciding_name(alloc, &note.url, arguments, locations)?;
+        return found_text(alloc, &name, &file, note.unmapped);
     }
     match locations.path_for(alloc, &note.url)? {
         Some(path) => cause_of(alloc, loader, &note.url, &path),
@@ -188,6 +188,25 @@ fn url_file(
     }
 }
 
+// What decides which file a URL has, as it was named; empty where nothing does.
+fn deciding_name(
+    alloc: Global,
+    url: &[u8],
+    arguments: &[(String, String)],
+    locations: &Locations,
+) -> Result<Vec<u8>, AllocError>
+    ensures { IfOk result (λ name.
+        name.items ≡ deciding_name url.now (map argument_of arguments.now) locations.now) }
+{
+    match word_file(url, arguments) {
+        Some(_) => Vec::from_slice(alloc, url),
+        None => match locations.decided_by(alloc, url)? {
+            Some(name) => Ok(name),
+            None => Ok(Vec::new(alloc)),
+        },
+    }
+}
+
 // The file that an argument names for a URL.
 fn word_file<'a>(url: &[u8], arguments: &'a [(String, String)]) -> Option<&'a str>
     ensures { option_copied result ≡ word_file url.now (map argument_of arguments.now) }
@@ -207,12 +226,23 @@ fn is_file_of(url: &[u8], word: &str, path: &str) -> bool
     !is_rule(word, path) && url == word.as_bytes()
 }
 
-// Where the map of a URL came from, and the first place for which it has nothing.
-fn found_text(alloc: Global, file: &str, unmapped: Option<(u32, u32)>) -> Result<String, AllocError>
-    ensures { IfOk result (λ text. string_bytes text ≡ found_text file.now unmapped) }
+// What decided where the map of a URL is, where it came from, and the first place for which it has nothing.
+fn found_text(
+    alloc: Global,
+    name: &[u8],
+    file: &str,
+    unmapped: Option<(u32, u32)>,
+) -> Result<Vec<u8>, AllocError>
+    ensures { IfOk result (λ text. text.items ≡ found_text name.now file.now unmapped) }
 {
-    let (file, unmapped) = (shown(alloc, file)?, unmapped_text(alloc, unmapped)?);
-    format!(in alloc; "from {file}{unmapped}")
+    let (name, file) = (shown_url(alloc, name)?, shown(alloc, file)?);
+    let unmapped = unmapped_text(alloc, unmapped)?;
+    let mut text = Vec::from_slice(alloc, b"by ")?;
+    text.extend_from_slice(&name)?;
+    text.extend_from_slice(b" from ")?;
+    text.extend_from_slice(file.as_bytes())?;
+    text.extend_from_slice(unmapped.as_bytes())?;
+    Ok(text)
 }
 
 // The first place for which a map has nothing.

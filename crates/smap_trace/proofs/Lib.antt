@@ -8,3 +8,4 @@ pub mod Examples
 pub mod NotesLaws
 pub mod NoteSteps
 pub mod NotingLaws
+pub mod PassingLaws

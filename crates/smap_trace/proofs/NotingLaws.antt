@@ -1,11 +1,10 @@
 -- Laws of the editor that notes frames: its steps are those of a trace whose namings are kept, and its notes are theirs.
-use Rattle.std.specs.Prelude.{◌≡◌, ◌≤◌, ◌+◌, ℕ, Bool, true, false, List, [], ◌∷◌, ◌++◌, Option, Some, None, MatchBool, ⊤}
-use Rattle.std.proofs.Common.{ap, arith, refl, subst, sym, ◌∙◌}
+use Rattle.std.specs.Prelude.{◌≡◌, ◌+◌, ℕ, Bool, true, false, List, [], ◌∷◌, ◌++◌, Option, Some, None, MatchBool, ⊤}
+use Rattle.std.proofs.Common.{ap, refl, subst, sym, ◌∙◌}
 use Rattle.std.proofs.lemmas.List.{append-nil}
 use Rattle.smap_lines.specs.Edited.{StepsLines, is_short}
 use Rattle.smap_lines.specs.Editing.{DevicesSeen, EditsInto}
 use Rattle.smap_lines.specs.Lines.{Line, line_text, lines_with_ends}
-use Rattle.smap_lines.specs.Laws.Step.{edits_seen}
 use Rattle.smap_lines.specs.declared.counts.LineCounts.{LineCounts}
 use Rattle.smap_record.specs.Record.{MapRecord}
 use Rattle.smap_trace.specs.Frame.{FrameParts}
@@ -13,15 +12,13 @@ use Rattle.smap_trace.specs.FrameOf.{frame_of}
 use Rattle.smap_trace.specs.Hiding.{HidingSeen, hiding_seen}
 use Rattle.smap_trace.specs.Noted.{AreNotesOf, NamedNow, NamedStep, RewritesNoted, named_start, namings_in}
 use Rattle.smap_trace.specs.NotesSeen.{notes_seen}
-use Rattle.smap_trace.specs.Rewriting.{TraceStep, trace_start}
+use Rattle.smap_trace.specs.Rewriting.{TraceStep}
 use Rattle.smap_trace.specs.UrlNotes.{NamingSeen, NotesSeen, noted}
 use Rattle.smap_trace.specs.Private.FrameRewriter.{trace_now}
 use Rattle.smap_trace.specs.Private.Noting.{noting}
 use Rattle.smap_trace.specs.Private.NotingRewriter.{IsLineNoted, NotingSteps}
-use Rattle.smap_trace.specs.Laws.Noted.{trace_step}
 use Rattle.smap_trace.specs.Laws.Rewriter.{step_seen}
 use Rattle.smap_trace.specs.declared.noting_rewriter.NotingRewriter.{NotingRewriter}
-use Rattle.smap_trace.proofs.CountLaws.{edits_add}
 use Rattle.smap_trace.proofs.NotesLaws.{noted_more}
 
 -- ---- an editor that goes on as another, which it does not determine
@@ -43,7 +40,7 @@ module _ {E F : Type 0} (Steps : E → Line → List ℕ → E → Type 0) (More
       let more = lines_go lines steps.0 one.0 steps.2 new one.2 steps.4 in
       (more.0, (one.0, steps.1, steps.2, one.1, more.1, steps.5), more.2)
 
-  edits_go : (most : ℕ) (before after : DevicesSeen) (old new : E) (with_it : F) (counts : LineCounts) → Are old with_it
+  pub edits_go : (most : ℕ) (before after : DevicesSeen) (old new : E) (with_it : F) (counts : LineCounts) → Are old with_it
       → EditsInto Steps most before after old new counts → (last : F) × EditsInto More most before after with_it last counts × Are new last
   edits_go most before after old new with_it counts are done =
       let all = lines_go (lines_with_ends done.bytes) old with_it done.written new are done.steps.each in (
@@ -80,15 +77,17 @@ line_noted hide found (Some parts) namings old new are is =
 
 -- ---- the editor
 
-module _ {M : Type 0} (Finds : M → (url : List ℕ) → M → Type 0) (found : M → (url : List ℕ) → Option MapRecord) (hide : HidingSeen) where
+module _ {M P : Type 0} (Finds : M → (url : List ℕ) → M → Type 0) (found : M → (url : List ℕ) → Option MapRecord) (count : P → (own : Option (List ℕ)) → (line : List ℕ) → ℕ)
+    (hide : HidingSeen) where
   -- it stands as these namings say
-  pub record Keeps (noting : NotingRewriter M) (now : NamedNow M) : Type 0 where
+  pub record Keeps (noting : NotingRewriter M P) (now : NamedNow M) : Type 0 where
     pub trace : now.trace ≡ trace_now noting.rewriter
     pub hides : hiding_seen noting.rewriter.hiding ≡ hide
     pub notes : AreNotesOf now.namings (notes_seen noting.notes.now)
+    pub on : noting.is_noted ≡ true
 
-  step_kept : (old : NotingRewriter M) (now : NamedNow M) (line : Line) (text : List ℕ) (new : NotingRewriter M) → Keeps old now
-      → NotingSteps Finds found old line text new → (after : NamedNow M) × NamedStep Finds found hide now line text after × Keeps new after
+  step_kept : (old : NotingRewriter M P) (now : NamedNow M) (line : Line) (text : List ℕ) (new : NotingRewriter M P) → Keeps old now
+      → NotingSteps Finds found count old line text new → (after : NamedNow M) × NamedStep Finds found hide now line text after × Keeps new after
   step_kept old now line text new keeps steps =
       let one = step_seen Finds found hide old.rewriter line text new.rewriter keeps.hides steps.step in
       let named : List NamingSeen = now.namings ++ namings_in hide (found new.rewriter.maps.now) (frame_of line.bytes) in (
@@ -101,27 +100,20 @@ module _ {M : Type 0} (Finds : M → (url : List ℕ) → M → Type 0) (found :
           trace = refl;
           hides = one.1;
           notes = line_noted hide (found new.rewriter.maps.now) (frame_of line.bytes) now.namings (notes_seen old.notes.now) (notes_seen new.notes.now) keeps.notes
-              (subst (λ h. IsLineNoted h (found new.rewriter.maps.now) (frame_of line.bytes) (notes_seen old.notes.now) (notes_seen new.notes.now)) keeps.hides steps.noted);
+              (subst (λ h. IsLineNoted h (found new.rewriter.maps.now) (frame_of line.bytes) (notes_seen old.notes.now) (notes_seen new.notes.now)) keeps.hides (steps.noted keeps.on));
+          on = steps.is_noted ∙ keeps.on;
         },
       )
 
-  pub edits_kept : (most : ℕ) (before after : DevicesSeen) (old new : NotingRewriter M) (counts : LineCounts) (maps : M)
-      → Keeps old (named_start maps) → EditsInto (NotingSteps Finds found) most before after old new counts
+  pub edits_kept : (most : ℕ) (before after : DevicesSeen) (old new : NotingRewriter M P) (counts : LineCounts) (maps : M)
+      → Keeps old (named_start maps) → EditsInto (NotingSteps Finds found count) most before after old new counts
       → (last : NamedNow M) × EditsInto (NamedStep Finds found hide) most before after (named_start maps) last counts × Keeps new last
   edits_kept most before after old new counts maps keeps done =
-      edits_go (NotingSteps Finds found) (NamedStep Finds found hide) Keeps step_kept most before after old new (named_start maps) counts keeps done
+      edits_go (NotingSteps Finds found count) (NamedStep Finds found hide) Keeps step_kept most before after old new (named_start maps) counts keeps done
 
   -- what its steps come to
-  module _ (most : ℕ) (before after : DevicesSeen) (old new : NotingRewriter M) (lines : LineCounts) (maps : M)
-      (keeps : Keeps old (named_start maps)) (done : EditsInto (NotingSteps Finds found) most before after old new lines) where
-    pub few_noted : new.rewriter.staying + new.rewriter.mapped + new.rewriter.hidden ≤ most
-    few_noted =
-        let kept = edits_kept most before after old new lines maps keeps done in
-        let seen = edits_seen (NamedStep Finds found hide) (TraceStep Finds found hide) (λ now. now.trace) (λ now. ⊤) (trace_step Finds found hide) most before after
-        (named_start maps) kept.0 lines tt kept.1 in
-        let few = edits_add Finds found hide most before after (trace_start maps) kept.0.trace lines seen.0 in
-        subst (λ t. t.staying + t.mapped + t.hidden ≤ most) kept.2.trace (omega (arith, few))
-
+  module _ (most : ℕ) (before after : DevicesSeen) (old new : NotingRewriter M P) (lines : LineCounts) (maps : M)
+      (passed : ℕ) (keeps : Keeps old (named_start maps)) (done : EditsInto (NotingSteps Finds found count) most before after old new lines) where
     pub noted_of : RewritesNoted Finds found hide most before after maps new.rewriter.maps.now
         (record {
           summary = record {
@@ -131,6 +123,7 @@ module _ {M : Type 0} (Finds : M → (url : List ℕ) → M → Type 0) (found :
             hidden = new.rewriter.hidden;
           };
           long = lines.long;
+          passed = passed;
         })
         (notes_seen new.notes.now)
     noted_of =

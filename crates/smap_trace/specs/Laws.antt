@@ -5,3 +5,5 @@ pub mod Looked
 pub mod Rewriter
 pub mod NotingRewriter
 pub mod Noted
+pub mod Passed
+pub mod Unread

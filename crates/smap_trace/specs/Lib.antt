@@ -10,6 +10,7 @@ pub mod SightSeen
 pub mod UrlNotes
 pub mod NotesSeen
 pub mod Noted
+pub mod Passed
 pub mod MapsOf
 pub mod Codes
 pub mod Private

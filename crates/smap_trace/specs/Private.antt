@@ -2,4 +2,5 @@
 pub mod LocationSeen
 pub mod FrameRewriter
 pub mod Noting
+pub mod Passing
 pub mod NotingRewriter

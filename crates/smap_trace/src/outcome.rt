@@ -20,6 +20,9 @@ pub struct RewriteCounts {
     pub summary: Summary,
     /// How many of its lines have more than 65,536 bytes, the LF aside, and so are no frames.
     pub long: u64,
+    /// How many places were passed over, in lines of up to 65,536 bytes that are no frames, or whose frames have a URL without a
+    /// map and the places another; where they are counted, and as far as they are.
+    pub passed: u64,
 }
 
 /// Why the rewriting of a trace ended before its end: X1 a read failed, X2 a write failed, X3 the trace has more bytes than

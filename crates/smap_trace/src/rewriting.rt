@@ -4,6 +4,7 @@ ghost use Rattle.smap_lines.specs.Editing.{devices_seen, is_read_fault, is_write
 ghost use Rattle.smap_lines.specs.declared.fault.LineFault.TheVariants.{Memory};
 ghost use Rattle.smap_trace.specs.Hiding.{hiding_seen};
 ghost use Rattle.smap_trace.specs.Noted.{RewritesNoted};
+ghost use Rattle.smap_trace.specs.Passed.{RewritesPassing};
 ghost use Rattle.smap_trace.specs.NotesSeen.{notes_seen};
 ghost use Rattle.smap_trace.specs.Rewriting.{Looked, Rewrites, RewritesFront, RewritesFrontOver, RewritesOver};
 
@@ -12,6 +13,7 @@ use crate::hiding::Hiding;
 use crate::maps::{Maps, TableMaps};
 use crate::noting_rewriter::NotingRewriter;
 use crate::outcome::{RewriteCounts, RewriteFault, Summary};
+use crate::passed::PlaceCounter;
 use crate::table::Table;
 use crate::url_notes::UrlNotes;
 use smap_io::{ByteSink, ByteSource};
@@ -64,6 +66,17 @@ pub struct RewriteOptions<'h> {
     pub most: u64,
 }
 
+/// What is looked at beside the frames.
+#[derive(Drop)]
+pub struct NotingOptions<'p, P: PlaceCounter> {
+    /// Whether what frames name is noted.
+    pub is_noted: bool,
+    /// What counts the places of lines that are no frames of the maps.
+    pub places: &'p P,
+    /// How many of them are counted at most: none are looked for where this is 0.
+    pub most_passed: u64,
+}
+
 /// The same over maps that are looked for when a frame names them. The caller gives devices that have not failed. The
 /// output is not flushed.
 pub fn rewrite_over<R: ByteSource, W: ByteSink, M: Maps>(
@@ -80,6 +93,7 @@ pub fn rewrite_over<R: ByteSource, W: ByteSink, M: Maps>(
         (hiding_seen options.entry.hiding) options.entry.most
         (devices_seen (R.seen input.old) (W.seen output.old))
         (devices_seen (R.seen input.new) (W.seen output.new)) maps.old maps.new) }
+    ensures passed { IfOk result (λ counts. counts.passed ≡ 0) }
     ensures front { IfErr result (RewritesFrontOver (M.Gives maps.old)
         (hiding_seen options.entry.hiding) options.entry.most
         (devices_seen (R.seen input.old) (W.seen output.old))
@@ -100,29 +114,29 @@ pub fn rewrite_over<R: ByteSource, W: ByteSink, M: Maps>(
         hidden: 0,
     };
     let lines = edit_lines(alloc, input, output, &mut rewriter, most)?;
-    Ok(counts_of(&lines, &rewriter))
+    Ok(counts_of(&lines, &rewriter, 0))
 }
 
-/// The same, where it is noted too what became of the first 100 different URLs that frames name, if that is asked for. The
-/// caller gives notes without any.
-pub fn rewrite_noting<R: ByteSource, W: ByteSink, M: Maps>(
+/// The same, where it is noted too what became of the first 100 different URLs that frames name, if that is asked for, and the
+/// places are counted that are passed over in lines of up to 65,536 bytes, as far as a number. The caller gives notes without any.
+pub fn rewrite_noting<R: ByteSource, W: ByteSink, M: Maps, P: PlaceCounter>(
     alloc: Global,
     input: &mut R,
     output: &mut W,
     maps: &mut M,
     options: RewriteOptions<'_>,
-    is_noted: bool,
+    asked: &NotingOptions<'_, P>,
     notes: &mut UrlNotes,
 ) -> Result<RewriteCounts, RewriteFault>
     requires input_works { (R.seen input.old).failed ≡ false }
     requires output_works { (W.seen output.old).failed ≡ false }
     requires most { options.most < 2 ^ 63 }
     requires unnoted { notes_seen notes.old ≡ record { notes = []; is_short = false } }
-    ensures rewrites { IfOk result (RewritesOver M.Finds M.found
-        (hiding_seen options.entry.hiding) options.entry.most
+    ensures rewrites { IfOk result (RewritesPassing M.Finds M.found (P.count asked.now.places.now)
+        asked.now.most_passed (hiding_seen options.entry.hiding) options.entry.most
         (devices_seen (R.seen input.old) (W.seen output.old))
         (devices_seen (R.seen input.new) (W.seen output.new)) maps.old maps.new) }
-    ensures notes { is_noted ≡ true → IfOk result (λ counts. RewritesNoted M.Finds M.found
+    ensures notes { asked.now.is_noted ≡ true → IfOk result (λ counts. RewritesNoted M.Finds M.found
         (hiding_seen options.entry.hiding) options.entry.most
         (devices_seen (R.seen input.old) (W.seen output.old))
         (devices_seen (R.seen input.new) (W.seen output.new)) maps.old maps.new counts
@@ -137,9 +151,6 @@ pub fn rewrite_noting<R: ByteSource, W: ByteSink, M: Maps>(
     ensures memory_input { IfErr result (λ fault. fault ≡ Memory → input.new ≡ input.old) }
     ensures memory_output { IfErr result (λ fault. fault ≡ Memory → output.new ≡ output.old) }
 {
-    if !is_noted {
-        return rewrite_over(alloc, input, output, maps, options);
-    }
     let RewriteOptions { hiding, most } = options;
     let mut noting = NotingRewriter {
         rewriter: FrameRewriter {
@@ -150,14 +161,22 @@ pub fn rewrite_noting<R: ByteSource, W: ByteSink, M: Maps>(
             mapped: 0,
             hidden: 0,
         },
+        is_noted: asked.is_noted,
         notes,
+        places: asked.places,
+        most_passed: asked.most_passed,
+        passed: 0,
     };
     let lines = edit_lines(alloc, input, output, &mut noting, most)?;
-    Ok(counts_of(&lines, &noting.rewriter))
+    Ok(counts_of(&lines, &noting.rewriter, noting.passed))
 }
 
-// What was counted of lines, and of the frames among them.
-fn counts_of<M: Maps>(lines: &LineCounts, rewriter: &FrameRewriter<'_, '_, M>) -> RewriteCounts
+// What was counted of lines, of the frames among them, and of the places that were passed.
+fn counts_of<M: Maps>(
+    lines: &LineCounts,
+    rewriter: &FrameRewriter<'_, '_, M>,
+    passed: u64,
+) -> RewriteCounts
     requires { rewriter.now.staying + rewriter.now.mapped + rewriter.now.hidden < 2 ^ 64 }
     ensures { result ≡ record {
       summary = record {
@@ -167,6 +186,7 @@ fn counts_of<M: Maps>(lines: &LineCounts, rewriter: &FrameRewriter<'_, '_, M>) -
         hidden = rewriter.now.hidden;
       };
       long = lines.now.long;
+      passed = passed;
     } }
 {
     let LineCounts { lines, long } = *lines;
@@ -176,5 +196,9 @@ fn counts_of<M: Maps>(lines: &LineCounts, rewriter: &FrameRewriter<'_, '_, M>) -
         mapped: rewriter.mapped,
         hidden: rewriter.hidden,
     };
-    RewriteCounts { summary, long }
+    RewriteCounts {
+        summary,
+        long,
+        passed,
+    }
 }

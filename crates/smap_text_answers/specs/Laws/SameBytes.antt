@@ -7,6 +7,7 @@ use Rattle.smap_lines.specs.Editing.{DevicesSeen, devices_seen}
 use Rattle.smap_lines.specs.declared.fault.LineFault.{LineFault}
 use Rattle.smap_places.specs.Places.{PlaceUrl}
 use Rattle.smap_places.specs.PlacesBy.{RewritesPlacesBy}
+use Rattle.smap_places.specs.PlacesRewritten.{places_in}
 use Rattle.smap_places.specs.Laws.PlacesBy.{places_by}
 use Rattle.smap_places.specs.PlacesOver.{RewritesPlacesOver}
 use Rattle.smap_record.specs.Record.{MapRecord}
@@ -18,6 +19,7 @@ use Rattle.smap_store.specs.Stored.{FindsIn, LoadsStep, StoredSeen, found_in}
 use Rattle.smap_trace.specs.Hiding.{HidingSeen}
 use Rattle.smap_trace.specs.MapsOf.{RewritesBy}
 use Rattle.smap_trace.specs.Laws.MapsOf.{rewrites_by}
+use Rattle.smap_trace.specs.Laws.Passed.{passing_over}
 use Rattle.smap_trace.specs.Rewriting.{RewritesOver}
 use Rattle.smap_trace.specs.declared.outcome.RewriteCounts.{RewriteCounts}
 use Rattle.smap_trace.specs.declared.outcome.Summary.{Summary}
@@ -26,7 +28,7 @@ use Rattle.smap_text_answers.specs.Laws.Loader.{fails_to_load}
 use Rattle.smap_text_answers.specs.Loader.{FailsToLoad, LoaderSeen, Loads, record_loaded}
 use Rattle.smap_replies.specs.Map.{Never, ReportsFound, refusal_result}
 use Rattle.smap_replies.specs.Outcome.{Report}
-use Rattle.smap_text_answers.specs.RewriteFrom.{AnswersByPath, IsOverStore, IsStoredRewritten, RequestSeen, RewritesTextBy, places_of, store_start}
+use Rattle.smap_text_answers.specs.RewriteFrom.{AnswersByPath, IsOverStore, IsStoredRewritten, RequestSeen, RewritesTextBy, most_passed, places_of, store_start}
 use Rattle.smap_text_answers.specs.SameBytes.{BytesByPath, IsSilent, ReadsSame, maps_at, stated_by, stated_in}
 use Rattle.smap_replies.specs.Streams.{Streams}
 use Rattle.smap_text_answers.specs.declared.rewriting.StoreEnd.{StoreEnd}
@@ -85,25 +87,29 @@ module _ (Reads : MayRead) (paths : Bool) (base : Option Parts) (k number : ℕ)
       let (bytes, read, many, is) = loads.0 in
       (subst IsSilent loads.1 silent, sym (ap (stated_by paths base k url) (same path bytes read) ∙ ap stated_in is))
 
-  pub same_settled : (sources : MapSources) (anywhere : Bool) (hide : HidingSeen) (most : ℕ) (before after : DevicesSeen) (old new : StoredSeen LoaderSeen) (counts : RewriteCounts)
-      → IsStoredRewritten Reads paths base k number sources anywhere hide most old new before after (Ok counts) → old.cache.kept ≡ []
+  pub same_settled : (sources : MapSources) (anywhere : Bool) (most_passed : ℕ) (hide : HidingSeen) (most : ℕ) (before after : DevicesSeen) (old new : StoredSeen LoaderSeen) (counts : RewriteCounts)
+      → IsStoredRewritten Reads paths base k number sources anywhere most_passed hide most old new before after (Ok counts) → old.cache.kept ≡ []
       → IsSilent new.loader → new.cache.shortages ≡ 0
       → RewritesTextBy anywhere (stored_maps load old.words old.locations) (places_of sources) hide most before after counts
-  same_settled sources true hide most before after old new counts all empty silent enough =
+  same_settled sources true most_passed hide most before after old new counts all empty silent enough =
       places_same (Loads Reads paths base k number) IsSilent load loads_settled (places_of sources) most before after old new counts.summary all.0 empty
       (silent, enough)
-  same_settled sources false hide most before after old new counts all empty silent enough =
-      rewrites_same (Loads Reads paths base k number) IsSilent load loads_settled hide most before after old new counts all empty (silent, enough)
+  same_settled sources false most_passed hide most before after old new counts all empty silent enough =
+      rewrites_same (Loads Reads paths base k number) IsSilent load loads_settled hide most before after old new counts
+      (passing_over (FindsIn (Loads Reads paths base k number)) found_in (places_in (places_of sources)) hide most_passed most before after old new counts all)
+      empty (silent, enough)
 
 -- and so it is of a run
 pub same_run : (Reads : MayRead) (base : Option Parts) (k : ℕ) (request : RequestSeen) (sources : MapSources) (end : StoreEnd) (before after : Streams)
     → IsOverStore Reads base k request sources end before after → AnswersByPath Reads base k request sources end before after
 same_run Reads base k request sources end before after over bytes_at same counts result silent enough =
     let P : Result RewriteCounts LineFault → Type 0 = λ result.
-    IsStoredRewritten Reads request.paths base k (length request.arguments + 1) sources request.anywhere request.hide request.limit_bytes
+    IsStoredRewritten Reads request.paths base k (length request.arguments + 1) sources request.anywhere
+    (most_passed request.summary request.hint) request.hide request.limit_bytes
     (store_start sources request.cache_bytes before.sinks.errors before.sinks.code) over.last
     (devices_seen before.input before.sinks.output) (devices_seen after.input after.sinks.output) result in
-    same_settled Reads request.paths base k (length request.arguments + 1) bytes_at same sources request.anywhere request.hide request.limit_bytes
+    same_settled Reads request.paths base k (length request.arguments + 1) bytes_at same sources request.anywhere
+    (most_passed request.summary request.hint) request.hide request.limit_bytes
     (devices_seen before.input before.sinks.output) (devices_seen after.input after.sinks.output)
     (store_start sources request.cache_bytes before.sinks.errors before.sinks.code) over.last counts (subst P result over.rewritten) refl
     (sym over.status ∙ silent) (sym over.shortages ∙ enough)

@@ -1,5 +1,5 @@
--- Laws of rewriting that is noted: it is rewriting; and of maps of which only some is seen, what is seen goes the same way.
-use Rattle.std.specs.Prelude.{◌≡◌, ℕ, List, [], ◌∷◌, ◌++◌, Option, Some, None, ⊤, refl}
+-- Laws of rewriting that is noted: over maps of which only some is seen, what is seen goes the same way.
+use Rattle.std.specs.Prelude.{◌≡◌, ℕ, List, [], ◌∷◌, ◌++◌, Option, Some, None, refl}
 use Rattle.std.proofs.Common.{ap, ◌∙◌}
 use Rattle.smap_lines.specs.Editing.{DevicesSeen}
 use Rattle.smap_lines.specs.Lines.{Line}
@@ -9,26 +9,9 @@ use Rattle.smap_trace.specs.Frame.{FrameParts}
 use Rattle.smap_trace.specs.FrameOf.{frame_of}
 use Rattle.smap_trace.specs.Hiding.{HidingSeen}
 use Rattle.smap_trace.specs.Noted.{NamedNow, NamedStep, RewritesNoted, named_start, namings_in}
-use Rattle.smap_trace.specs.Rewriting.{RewritesOver, TraceStep}
 use Rattle.smap_trace.specs.Laws.Seen.{see_trace, step_goes}
 use Rattle.smap_trace.specs.UrlNotes.{NotesSeen, naming_in}
 use Rattle.smap_trace.specs.declared.outcome.RewriteCounts.{RewriteCounts}
-
--- ---- it is rewriting
-
-module _ {M : Type 0} (Finds : M → (url : List ℕ) → M → Type 0) (found : M → (url : List ℕ) → Option MapRecord) (hide : HidingSeen) where
-  pub trace_step : (old : NamedNow M) (line : Line) (text : List ℕ) (new : NamedNow M) → ⊤ → NamedStep Finds found hide old line text new
-      → TraceStep Finds found hide old.trace line text new.trace × ⊤
-  trace_step old line text new any is = (is.step, tt)
-
-  pub noted_over : (most : ℕ) (before after : DevicesSeen) (old new : M) (counts : RewriteCounts) (notes : NotesSeen)
-      → RewritesNoted Finds found hide most before after old new counts notes → RewritesOver Finds found hide most before after old new counts
-  noted_over most before after old new counts notes is =
-      let all = edits_seen (NamedStep Finds found hide) (TraceStep Finds found hide) (λ now. now.trace) (λ now. ⊤) trace_step most before after
-      (named_start old) is.last (record { lines = counts.summary.lines; long = counts.long }) tt is.edits in
-      record { last = is.last.trace; edits = all.0; maps = is.maps; frames = is.frames; mapped = is.mapped; hiding = is.hiding }
-
--- ---- what is seen of it
 
 module _ {M N : Type 0} (Finds : M → (url : List ℕ) → M → Type 0) (found : M → (url : List ℕ) → Option MapRecord)
     (Seen : N → (url : List ℕ) → N → Type 0) (found_seen : N → (url : List ℕ) → Option MapRecord) (see : M → N) (Is : M → Type 0)

@@ -1,6 +1,6 @@
 -- Laws of the editor that rewrites frames, which its trait asks for: a line takes room for one, and becomes what it may; and what
 -- another may become after it, it may become before.
-use Rattle.std.specs.Prelude.{◌≡◌, ◌≤◌, ◌+◌, ℕ, Bool, List, Option, Some, None, refl}
+use Rattle.std.specs.Prelude.{◌≡◌, ◌≤◌, ◌+◌, ℕ, List, Option, Some, None, refl}
 use Rattle.std.proofs.Common.{ap, arith, subst, ◌∙◌}
 use Rattle.smap_lines.specs.Lines.{Line}
 use Rattle.smap_record.specs.Record.{MapRecord}

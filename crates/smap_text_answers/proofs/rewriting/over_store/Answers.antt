@@ -8,7 +8,7 @@ use Rattle.smap_text_answers.specs.Loader.{LoaderSeen, Loads, loader_seen}
 use Rattle.smap_trace.specs.Hiding.{hiding_seen}
 use Rattle.smap_trace.specs.Noted.{RewritesNoted}
 use Rattle.smap_trace.specs.NotesSeen.{notes_seen}
-use Rattle.smap_text_answers.specs.RewriteFrom.{IsStoredRewritten, store_of}
+use Rattle.smap_text_answers.specs.RewriteFrom.{IsStoredRewritten, most_passed, store_of}
 use Rattle.smap_replies.specs.Arguments.{argument_of}
 use Rattle.smap_text_answers.proofs.StoreLaws.{looked_from, noted_from, rewritten_from, untouched_by}
 use Rattle.smap_text_answers.proofs.rewriting.over_store.Goals as goal
@@ -19,6 +19,7 @@ returns-clause-over g c =
     let seen = g.E.ByteSink.seen in
     let request = c.args.request.now in
     let made = c.rewrite_text-result in
+    let most = most_passed request.summary request.hint in
     let looked = looked_from gives seen _ _ _ refl made.ensures.looked in
     let errors : c.errors-1.given.0 ≡ c.rewrite_text-result.new.loader.errors.now = search rules in
     let before = devices_seen (g.R.ByteSource.seen c.args.input.now) (g.W.ByteSink.seen c.args.output.now) in
@@ -30,15 +31,18 @@ returns-clause-over g c =
       loader = record { errors = seen c.args.errors.now; status = 0; code = c.args.first.now; reported = 0; refused = 0 };
     } in
     let last : StoredSeen LoaderSeen = store_of c.args.sources.now c.rewrite_text-result.new.cache (loader_seen seen c.rewrite_text-result.new.loader) in
-    let rewritten = rewritten_from gives seen _ _ _ refl c.args.sources.now request.anywhere (hiding_seen request.hiding) request.limit_bytes before after c.rewrite_text-result.result
-    made.ensures.rewrites made.ensures.front made.ensures.looked in
+    let rewritten = subst (λ m. IsStoredRewritten (gives request.maps.now.files.now) request.paths (option_copied request.maps.now.base) request.maps.now.interval
+    (length request.arguments.now + 1) c.args.sources.now request.anywhere m (hiding_seen request.hiding) request.limit_bytes (start c.new-cache.result) last
+    before after c.rewrite_text-result.result) c.most_passed.ensures
+    (rewritten_from gives seen _ _ _ refl c.args.sources.now request.anywhere c.most_passed.result (hiding_seen request.hiding) request.limit_bytes before after
+    c.rewrite_text-result.result made.ensures.rewrites made.ensures.front made.ensures.looked) in
     let numbered = subst (λ n. IsStoredRewritten (gives request.maps.now.files.now) request.paths (option_copied request.maps.now.base) request.maps.now.interval (n + 1)
-    c.args.sources.now request.anywhere (hiding_seen request.hiding) request.limit_bytes (start c.new-cache.result) last before after c.rewrite_text-result.result)
+    c.args.sources.now request.anywhere most (hiding_seen request.hiding) request.limit_bytes (start c.new-cache.result) last before after c.rewrite_text-result.result)
     (sym (length-map request.arguments.now argument_of)) rewritten in
     record {
       last = last;
       rewritten = subst (λ (cache : CacheSeen). IsStoredRewritten (gives request.maps.now.files.now) request.paths (option_copied request.maps.now.base)
-          request.maps.now.interval (length (map argument_of request.arguments.now) + 1) c.args.sources.now request.anywhere
+          request.maps.now.interval (length (map argument_of request.arguments.now) + 1) c.args.sources.now request.anywhere most
           (hiding_seen request.hiding) request.limit_bytes
           (start cache) last before after c.rewrite_text-result.result) c.new-cache.ensures numbered;
       errors = ap seen errors;

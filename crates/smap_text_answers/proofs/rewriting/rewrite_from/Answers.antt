@@ -18,6 +18,7 @@ returns-in-Ok g c =
         notes_seen run.new.notes,
         streams_seen (g.R.ByteSource.seen run.new.input) (g.W.ByteSink.seen run.new.output) (g.E.ByteSink.seen run.new.errors) run.new.first,
         sinks_seen (g.W.ByteSink.seen c.finish-ended.new.output) (g.E.ByteSink.seen c.finish-ended.new.errors) c.finish-ended.new.first,
+        g.E.ByteSink.seen c.say_urls-said.new.errors,
         c.finish-ended.result,
         c.say_urls-said.result,
         over,
@@ -29,6 +30,7 @@ returns-in-Ok g c =
         refl,
         refl,
         c.say_urls-said.ensures,
+        c.hint.ensures,
         search rules,
       ),
     )

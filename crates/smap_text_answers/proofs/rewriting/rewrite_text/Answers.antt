@@ -3,17 +3,20 @@ use Rattle.std.proofs.lemmas.Result.{IfErr-weaker, IfOk-weaker}
 use Rattle.smap_lines.specs.Editing.{devices_seen}
 use Rattle.smap_places.specs.PlaceAt.{place_at}
 use Rattle.smap_places.specs.PlacesOver.{RewritesPlacesOver}
-use Rattle.smap_places.specs.Laws.PlacesSeen.{front_of_none, places_front_seen}
+use Rattle.smap_places.specs.PlacesRewritten.{places_in}
+use Rattle.smap_places.specs.Laws.PlacesSeen.{places_front_seen}
 use Rattle.smap_store.specs.Stored.{FindsIn, GivesIn, StoredSeen, found_in}
 use Rattle.smap_store.specs.StoredMaps.{IsSameStore, same_store_on, same_store_self, stored_seen}
 use Rattle.smap_trace.specs.Hiding.{hiding_seen}
-use Rattle.smap_trace.specs.Rewriting.{Looked, RewritesOver}
+use Rattle.smap_trace.specs.Passed.{RewritesPassing}
+use Rattle.smap_trace.specs.Rewriting.{Looked}
 use Rattle.smap_trace.specs.Laws.Noted.{noted_seen}
-use Rattle.smap_trace.specs.Laws.Seen.{looked_seen, rewrites_seen}
+use Rattle.smap_trace.specs.Laws.Passed.{passing_seen}
+use Rattle.smap_trace.specs.Laws.Seen.{looked_seen}
 use Rattle.smap_trace.specs.Noted.{RewritesNoted}
 use Rattle.smap_trace.specs.NotesSeen.{notes_seen}
 use Rattle.smap_text_answers.specs.RewriteFrom.{places_of, store_of}
-use Rattle.smap_text_answers.proofs.BesideLaws.{gives_both, looked_both, places_both, store_after, when_off, when_on}
+use Rattle.smap_text_answers.proofs.BesideLaws.{gives_both, looked_both, places_both, store_after, text_front_of_none, when_off, when_on}
 use Rattle.smap_text_answers.proofs.rewriting.rewrite_text.Goals as goal
 
 -- ---- frames
@@ -38,12 +41,12 @@ returns-then-not-anywhere-clause-rewrites g c =
     let before = devices_seen (g.R.ByteSource.seen c.args.input.now) (g.W.ByteSink.seen c.args.output.now) in
     let after = devices_seen (g.R.ByteSource.seen c.rewrite_noting.new.input) (g.W.ByteSink.seen c.rewrite_noting.new.output) in
     IfOk-weaker c.rewrite_noting.result _ _ (λ counts is. when_off c.args.asked.now.anywhere _ _ c.if-not-anywhere.true
-    (subst (λ (s : StoredSeen g.row.L.Denot). RewritesOver (FindsIn g.L.MapLoader.Loads) found_in (hiding_seen c.args.asked.now.options.hiding)
-    c.args.asked.now.options.most before after (store_of c.args.asked.now.sources.now c.args.cache.now c.args.loader.now) s counts)
+    (subst (λ (s : StoredSeen g.row.L.Denot). RewritesPassing (FindsIn g.L.MapLoader.Loads) found_in (places_in (places_of c.args.asked.now.sources.now))
+    c.args.asked.now.most_passed (hiding_seen c.args.asked.now.options.hiding) c.args.asked.now.options.most before after (store_of c.args.asked.now.sources.now c.args.cache.now c.args.loader.now) s counts)
     (store_after _ _ new looked.1 _ (ap (λ w. w.now) looked.1.words) _ _ cache loader)
-    (rewrites_seen _ (λ m. found_in (stored_seen m)) (FindsIn g.L.MapLoader.Loads) found_in stored_seen (IsSameStore _)
-    (λ old new url is finds. (finds.0, same_store_on _ old new is finds.1)) (λ m url. refl) (hiding_seen c.args.asked.now.options.hiding)
-    c.args.asked.now.options.most before after _ new counts (same_store_self _) is))) c.rewrite_noting.ensures.rewrites
+    (passing_seen _ (λ m. found_in (stored_seen m)) (FindsIn g.L.MapLoader.Loads) found_in stored_seen (IsSameStore _)
+    (λ old new url is finds. (finds.0, same_store_on _ old new is finds.1)) (λ m url. refl) (places_in (places_of c.args.asked.now.sources.now))
+    (hiding_seen c.args.asked.now.options.hiding) c.args.asked.now.most_passed c.args.asked.now.options.most before after _ new counts (same_store_self _) is))) (rw c.in-Ok.ensures at c.rewrite_noting.ensures.rewrites)
 
 pub returns-then-not-anywhere-clause-noted : goal.returns-then-not-anywhere-clause-noted
 returns-then-not-anywhere-clause-noted g c off on =
@@ -71,9 +74,9 @@ returns-then-not-anywhere-clause-front g c =
 
 pub returns-in_default-clause-front : goal.returns-in_default-clause-front
 returns-in_default-clause-front g c =
-    when_on c.args.asked.now.anywhere _ _ c.if-not-anywhere.false
-    (front_of_none (GivesIn g.L.MapLoader.MayLoad (store_of c.args.asked.now.sources.now c.args.cache.now c.args.loader.now))
-    (places_of c.args.asked.now.sources.now) c.args.asked.now.options.most _)
+    text_front_of_none c.args.asked.now.anywhere
+    (GivesIn g.L.MapLoader.MayLoad (store_of c.args.asked.now.sources.now c.args.cache.now c.args.loader.now)) (places_of c.args.asked.now.sources.now)
+    (hiding_seen c.args.asked.now.options.hiding) c.args.asked.now.options.most _
 
 pub returns-in-Ok-rewrite_places_over-clause-looked : goal.returns-in-Ok-rewrite_places_over-clause-looked
 returns-in-Ok-rewrite_places_over-clause-looked g c =
@@ -102,6 +105,7 @@ returns-in-Ok-rewrite_places_over-clause-rewrites g c =
           (store_after _ _ new looked.1.0 _ refl _ _ cache loader)
           (places_both words _ g.L.MapLoader.Loads new c.new-none.ensures (places_of c.args.asked.now.sources.now) c.args.asked.now.options.most before after
           summary is),
+      refl,
       refl,
     )
 

@@ -1,4 +1,4 @@
-use Rattle.std.proofs.Common.{List, ap, option_map, sym, ◌∙◌}
+use Rattle.std.proofs.Common.{ap, option_map, sym, ◌∙◌}
 use Rattle.smap_trace.specs.Hiding.{has_text}
 use Rattle.smap_trace.proofs.HidingLaws.{contains_is}
 use Rattle.smap_trace.proofs.hiding.has_text.Goals as goal

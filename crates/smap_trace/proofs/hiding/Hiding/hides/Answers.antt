@@ -1,4 +1,4 @@
-use Rattle.std.proofs.Common.{◌&&◌, ◌||◌, List, ap, option_map, string_bytes, ◌∙◌}
+use Rattle.std.proofs.Common.{◌&&◌, ◌||◌, ap, option_map, string_bytes, ◌∙◌}
 use Rattle.smap_trace.specs.Hiding.{has_text}
 use Rattle.smap_trace.proofs.HidingLaws.{any_map}
 use Rattle.smap_trace.proofs.hiding.Hiding.hides.Goals as goal
