@@ -47,23 +47,33 @@ same_cut line body end is =
     let rest : drop (length body) line ≡ end = ap (drop (length body)) is ∙ drop_at body end (length body) refl in
     λ i. frame_after (prefix_len is_blank (front i)) (front i) (rest i)
 
-pub with_cr : (line body : List ℕ) → is_line line ≡ true → Some body ≡ without_last 13 line →
-    frame_after (prefix_len is_blank (take (length body) line)) (take (length body) line) (drop (length body) line) ≡ frame_of line
-unfolding frame_of
-with_cr line body one is =
-    same_cut line body (13 ∷ []) (MatchOption-at_some (Unit {0}) _ body (sym is) (last_stands 13 line))
-    ∙ ap (frame_in line) is ∙ sym (cond-true (is_line line) (frame_in line (without_last 13 line)) None one)
+pub with_cr : (line body : List ℕ) → Some body ≡ without_last 13 line →
+    frame_after (prefix_len is_blank (take (length body) line)) (take (length body) line) (drop (length body) line) ≡ frame_in line (without_last 13 line)
+with_cr line body is =
+    same_cut line body (13 ∷ []) (MatchOption-at_some (Unit {0}) _ body (sym is) (last_stands 13 line)) ∙ ap (frame_in line) is
 
 pub cr_within : (line body : List ℕ) → Some body ≡ without_last 13 line → length body ≤ length line
 cr_within line body is =
     let whole : line ≡ body ++ 13 ∷ [] = MatchOption-at_some (Unit {0}) _ body (sym is) (last_stands 13 line) in
     omega (arith, ap length whole ∙ length-append body (13 ∷ []))
 
-pub without_cr : (line : List ℕ) → is_line line ≡ true → None ≡ without_last 13 line →
-    frame_after (prefix_len is_blank (take (length line) line)) (take (length line) line) (drop (length line) line) ≡ frame_of line
+pub without_cr : (line : List ℕ) → None ≡ without_last 13 line →
+    frame_after (prefix_len is_blank (take (length line) line)) (take (length line) line) (drop (length line) line) ≡ frame_in line (without_last 13 line)
+without_cr line is = same_cut line line [] (sym (append-nil line)) ∙ ap (frame_in line) is
+
+-- a line that has one is a frame as far as its end is
+pub whole_line : (line : List ℕ) → is_line line ≡ true → frame_in line (without_last 13 line) ≡ frame_of line
 unfolding frame_of
-without_cr line one is =
-    same_cut line line [] (sym (append-nil line)) ∙ ap (frame_in line) is ∙ sym (cond-true (is_line line) (frame_in line (without_last 13 line)) None one)
+whole_line line one = sym (cond-true (is_line line) (frame_in line (without_last 13 line)) None one)
+
+-- and where that is none, it is none
+pub no_end : (line : List ℕ) → None ≡ frame_in line (without_last 13 line) → None ≡ frame_of line
+unfolding frame_of
+no_end line none = sym (either (is_line line) (sym none))
+  where
+    either : (one : Bool) → frame_in line (without_last 13 line) ≡ None → cond one (frame_in line (without_last 13 line)) None ≡ None
+    either true is = is
+    either false is = refl
 
 -- ---- after `at `
 

@@ -1,18 +1,19 @@
 //! The frames of a stack trace.
-ghost use Rattle.std.specs.Prelude.{◌≡◌, ◌≤◌, ◌↔◌, Some, false, length, take, drop, slice_range, option_map};
-ghost use Rattle.std.specs.List.{prefix_len};
+ghost use Rattle.std.specs.Prelude.{◌≡◌, ◌≤◌, ◌↔◌, ◌==◌, Some, false, length, take, drop, slice_range, option_map};
+ghost use Rattle.std.specs.List.{list_any, prefix_len};
 ghost use Rattle.smap_lines.specs.Bytes.{is_blank};
 ghost use Rattle.smap_lines.specs.Limits.{most_line_bytes};
 ghost use Rattle.smap_lines.specs.Lines.{has_line_end};
 ghost use Rattle.smap_trace.specs.Cuts.{cut_at_call, without_last};
 ghost use Rattle.smap_trace.specs.Frame.{FrameParts, IsFrame, has_cr_within, is_one_line};
-ghost use Rattle.smap_trace.specs.FrameOf.{call_frame, frame_after, frame_of, parts_with, location_of};
+ghost use Rattle.smap_trace.specs.FrameOf.{call_frame, frame_after, frame_in, frame_of, parts_with, location_of};
 ghost use Rattle.smap_trace.specs.FrameOf.{ends_in_digit, plain_frame, sign_frame, unless_async};
 ghost use Rattle.smap_trace.specs.FrameSeen.{parts_seen};
 ghost use Rattle.smap_trace.specs.Private.LocationSeen.{location_seen};
 
 use crate::cuts::{cut_at_call, cut_at_first, cut_at_last, without_last};
 use crate::parts::Frame;
+use memchr::memchr;
 use smap_lines::{MOST_LINE_BYTES, blanks, number};
 
 /// The parts of a line, without its LF, that is a frame. The call takes no memory, and goes over the line a fixed number
@@ -35,9 +36,19 @@ pub(crate) fn frame_of_line(line: &[u8]) -> Option<Frame<'_>>
     requires short { length line.now ≤ most_line_bytes }
     ensures { option_map parts_seen result ≡ frame_of line.now }
 {
+    // Most lines are no frames, whether or not a CR stands within them.
+    let frame = frame_to_end(line)?;
     if has_cr_within(line) {
-        return None;
+        None
+    } else {
+        Some(frame)
     }
+}
+
+// The frame of a line that has no CR before its last byte.
+fn frame_to_end(line: &[u8]) -> Option<Frame<'_>>
+    ensures { option_map parts_seen result ≡ frame_in line.now (without_last 13 line.now) }
+{
     match without_last(b'\r', line) {
         Some(body) => frame_before(line, body.len()),
         None => frame_before(line, line.len()),
@@ -55,7 +66,17 @@ fn is_one_line(text: &[u8]) -> bool
 fn has_cr_within(line: &[u8]) -> bool
     ensures { result ≡ has_cr_within line.now }
 {
-    line[..line.len().saturating_sub(1)].contains(&b'\r')
+    has_byte(b'\r', &line[..line.len().saturating_sub(1)])
+}
+
+// Whether a byte stands in a text.
+fn has_byte(byte: u8, text: &[u8]) -> bool
+    ensures { result ≡ list_any (λ other. other == byte) text.now }
+{
+    match memchr(byte, text) {
+        Some(_) => true,
+        None => false,
+    }
 }
 
 // The frame of a line whose CR, where it has one, stands at `end`.
