@@ -18,7 +18,9 @@ impl Maps for CutMaps<'_> {
 
     ghost found = { λ maps url. map_under true maps.0.now url };
 
-    fn find(&mut self, _url: &[u8]) {}
+    fn find(&mut self, _url: &[u8]) -> bool {
+        false
+    }
 
     fn map_for(&self, url: &[u8]) -> Option<&MapFile> {
         map_under(self.0, url, true)

@@ -88,7 +88,9 @@ fn look_for<M: Maps>(maps: &mut M, place: &FoundPlace<'_, '_>)
 {
     match place.map {
         Some(_) => {}
-        None => maps.find(place.url),
+        None => {
+            maps.find(place.url);
+        }
     }
 }
 

@@ -89,14 +89,16 @@ impl<L: MapLoader> Maps for StoredMaps<'_, '_, L> {
 
     ghost found = { λ maps. found_in (stored_seen maps) };
 
-    fn find(&mut self, url: &[u8]) {
+    fn find(&mut self, url: &[u8]) -> bool {
         if self.known(url).is_some() {
-            return;
+            return false;
         }
         let key = self.locations.key_for(url);
-        if !self.cache.remembers(key) {
-            self.ask(key);
+        if self.cache.remembers(key) {
+            return false;
         }
+        self.ask(key);
+        true
     }
 
     fn map_for(&self, url: &[u8]) -> Option<&MapFile> {

@@ -9,3 +9,4 @@ pub mod NotesLaws
 pub mod NoteSteps
 pub mod NotingLaws
 pub mod PassingLaws
+pub mod RememberedLaws

@@ -1,5 +1,6 @@
 -- What contracts of private functions alone cite.
 pub mod LocationSeen
+pub mod Remembered
 pub mod FrameRewriter
 pub mod Noting
 pub mod Passing

@@ -1,8 +1,9 @@
 //! The frames of a trace, rewritten line by line.
-ghost use Rattle.std.specs.Prelude.{◌≡◌, ◌++◌, codes, map};
+ghost use Rattle.std.specs.Prelude.{◌≡◌, ◌++◌, codes, map, true};
 ghost use Rattle.std.specs.List.{concat};
 ghost use Rattle.smap_lines.specs.LineOutput.{IsPut};
 ghost use Rattle.smap_lines.specs.Lines.{end_in};
+ghost use Rattle.smap_trace.specs.Private.Remembered.{is_right};
 ghost use Rattle.smap_trace.specs.SightSeen.{replaced_frame};
 
 use crate::frames::frame_of_line;
@@ -10,7 +11,8 @@ use crate::hiding::Hiding;
 use crate::maps::Maps;
 use crate::original::Replacement;
 use crate::parts::Frame;
-use crate::sight::{Sight, look_at};
+use crate::remembered::Remembered;
+use crate::sight::{Sight, look_again};
 use itoa::Buffer;
 use smap_io::{ByteSink, DeviceFault};
 use smap_lines::{LineEditor, LineOutput, end_of_line};
@@ -19,16 +21,18 @@ use std::alloc::Global;
 /// Rewrites the frames among the lines of a trace, and counts those that stay, those that are replaced and those that
 /// are hidden.
 #[derive(Drop)]
-pub struct FrameRewriter<'m, 'h, M: Maps> {
+pub struct FrameRewriter<'m, 'h, 'r, M: Maps> {
     pub alloc: Global,
     pub maps: &'m mut M,
     pub hiding: Hiding<'h>,
     pub staying: u64,
     pub mapped: u64,
     pub hidden: u64,
+    /// What was answered before, over maps that are still found.
+    pub remembered: &'r mut Remembered,
 }
 
-impl<M: Maps> LineEditor for FrameRewriter<'_, '_, M> {
+impl<M: Maps> LineEditor for FrameRewriter<'_, '_, '_, M> {
     ghost use Rattle.smap_trace.specs.Private.FrameRewriter.{RewriterBecomes, RewriterReaches, RewriterSteps, room_of};
     ghost use Rattle.smap_trace.specs.Laws.Rewriter.{became_frame, room_after, same_frame, some_frame};
     ghost use Rattle.smap_trace.specs.Laws.Rewriter.{rewriter_goes_on, rewriter_stays};
@@ -39,7 +43,7 @@ impl<M: Maps> LineEditor for FrameRewriter<'_, '_, M> {
 
     ghost Reaches = { RewriterReaches M.Finds };
 
-    ghost room = { room_of };
+    ghost room = { room_of M.found };
 
     fn edit<W: ByteSink>(
         &mut self,
@@ -50,8 +54,8 @@ impl<M: Maps> LineEditor for FrameRewriter<'_, '_, M> {
         let Some(frame) = frame_of_line(line) else {
             return output.put_line(line, is_ended);
         };
-        self.maps.find(frame.url);
-        match look_at(self.alloc, self.maps, &self.hiding, &frame) {
+        find_map(self.maps, self.remembered, frame.url);
+        match look_again(self.alloc, self.maps, self.remembered, &self.hiding, &frame) {
             Sight::Staying => {
                 output.put_line(line, is_ended)?;
                 self.staying += 1;
@@ -76,6 +80,17 @@ impl<M: Maps> LineEditor for FrameRewriter<'_, '_, M> {
     ghost goes_on = { rewriter_goes_on M.Finds };
 
     ghost room_for_one = { room_after M.Gives M.Finds M.found };
+}
+
+// Looks for the map of a URL. Where others may be found then, what was answered is forgotten.
+fn find_map<M: Maps>(maps: &mut M, remembered: &mut Remembered, url: &[u8])
+    ensures finds { M.Finds maps.old url.now maps.new }
+    ensures right { is_right (M.found maps.old) remembered.old ≡ true →
+        is_right (M.found maps.new) remembered.new ≡ true }
+{
+    if maps.find(url) {
+        remembered.forget();
+    }
 }
 
 // Puts a frame with its original in place of its place, and with the end of its line.

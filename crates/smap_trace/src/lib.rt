@@ -21,6 +21,7 @@ mod outcome;
 mod parts;
 mod passed;
 mod refusal;
+mod remembered;
 mod rewriting;
 mod sight;
 mod table;

@@ -1,5 +1,5 @@
 //! Where the maps of URLs come from.
-ghost use Rattle.std.specs.Prelude.{◌≡◌, ℕ, List, Option, option_map};
+ghost use Rattle.std.specs.Prelude.{◌≡◌, ℕ, List, Option, false, option_map};
 ghost use Rattle.smap_record.specs.Record.{MapRecord};
 
 use crate::table::Table;
@@ -16,9 +16,11 @@ pub trait Maps {
     // What is found under a URL then.
     ghost found: { Self → (url : List ℕ) → Option MapRecord };
 
-    /// Looks for the map of a URL, which may be read for it.
-    fn find(&mut self, url: &[u8])
-        ensures { Finds self.old url.now self.new };
+    /// Looks for the map of a URL, which may be read for it; and says whether other maps may be found after that, of whatever
+    /// URL.
+    fn find(&mut self, url: &[u8]) -> bool
+        ensures finds { Finds self.old url.now self.new }
+        ensures same { result ≡ false → self.new ≡ self.old };
 
     /// The map of the URL that was looked for last, where it has one. The call takes no memory.
     fn map_for(&self, url: &[u8]) -> Option<&MapFile>
@@ -51,7 +53,9 @@ impl Maps for TableMaps<'_> {
 
     ghost found = { λ maps url. value_under url maps.0.now };
 
-    fn find(&mut self, _url: &[u8]) {}
+    fn find(&mut self, _url: &[u8]) -> bool {
+        false
+    }
 
     fn map_for(&self, url: &[u8]) -> Option<&MapFile> {
         self.0.map_for(url)

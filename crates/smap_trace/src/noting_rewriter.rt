@@ -23,8 +23,8 @@ use smap_lines::{LineEditor, LineOutput};
 /// Rewrites the frames among the lines of a trace, notes what became of them where that is asked, and counts the places that
 /// it passes over, as far as a number.
 #[derive(Drop)]
-pub struct NotingRewriter<'n, 'm, 'h, M: Maps, P: PlaceCounter> {
-    pub rewriter: FrameRewriter<'m, 'h, M>,
+pub struct NotingRewriter<'n, 'm, 'h, 'r, M: Maps, P: PlaceCounter> {
+    pub rewriter: FrameRewriter<'m, 'h, 'r, M>,
     pub is_noted: bool,
     pub notes: &'n mut UrlNotes,
     pub places: &'n P,
@@ -32,7 +32,7 @@ pub struct NotingRewriter<'n, 'm, 'h, M: Maps, P: PlaceCounter> {
     pub passed: u64,
 }
 
-impl<M: Maps, P: PlaceCounter> LineEditor for NotingRewriter<'_, '_, '_, M, P> {
+impl<M: Maps, P: PlaceCounter> LineEditor for NotingRewriter<'_, '_, '_, '_, M, P> {
     ghost use Rattle.smap_trace.specs.Private.NotingRewriter.{NotingBecomes, NotingReaches, NotingSteps, noting_room};
     ghost use Rattle.smap_trace.specs.Laws.NotingRewriter.{became_noted, noting_goes_on, noting_stays, room_after_note, same_noted, some_noted};
 
@@ -42,7 +42,7 @@ impl<M: Maps, P: PlaceCounter> LineEditor for NotingRewriter<'_, '_, '_, M, P> {
 
     ghost Reaches = { NotingReaches M.Finds };
 
-    ghost room = { noting_room };
+    ghost room = { noting_room M.found };
 
     fn edit<W: ByteSink>(
         &mut self,
@@ -76,7 +76,7 @@ impl<M: Maps, P: PlaceCounter> LineEditor for NotingRewriter<'_, '_, '_, M, P> {
 }
 
 // Notes what became of a line, where it is a frame, over maps of which that of its URL was looked for.
-fn note_line<M: Maps>(rewriter: &FrameRewriter<'_, '_, M>, line: &[u8], notes: &mut UrlNotes)
+fn note_line<M: Maps>(rewriter: &FrameRewriter<'_, '_, '_, M>, line: &[u8], notes: &mut UrlNotes)
     requires one { has_line_end line.now ≡ false }
     requires short { length line.now ≤ most_line_bytes }
     ensures { IsLineNoted (hiding_seen rewriter.now.hiding) (M.found rewriter.now.maps.now) (frame_of line.now)
@@ -89,7 +89,7 @@ fn note_line<M: Maps>(rewriter: &FrameRewriter<'_, '_, M>, line: &[u8], notes: &
 }
 
 // What a frame is noted as, over maps of which that of its URL was looked for.
-fn naming_of<'a, M: Maps>(rewriter: &FrameRewriter<'_, '_, M>, frame: &Frame<'a>) -> Naming<'a>
+fn naming_of<'a, M: Maps>(rewriter: &FrameRewriter<'_, '_, '_, M>, frame: &Frame<'a>) -> Naming<'a>
     ensures { naming_seen result ≡ naming_in (hiding_seen rewriter.now.hiding) (parts_seen frame.now)
         (M.found rewriter.now.maps.now frame.now.url.now) }
 {

@@ -1,6 +1,7 @@
 //! Where a place of a generated program comes from.
 ghost use Rattle.std.specs.Prelude.{◌≡◌, option_map};
 ghost use Rattle.smap_record.specs.Sources.{source_of};
+ghost use Rattle.smap_trace.specs.Private.Remembered.{known_name, location_from, origin_at};
 ghost use Rattle.smap_trace.specs.Rewritten.{name_in, original_at};
 ghost use Rattle.smap_trace.specs.SightSeen.{original_seen};
 
@@ -36,19 +37,61 @@ pub fn original_at<'t>(
 ) -> Option<Original<'t>>
     ensures { option_map original_seen result ≡ original_at map.now.stated line column }
 {
+    original_from(map, origin_at(alloc, map, line, column))
+}
+
+// A source of a map, by its index, and a line and a column in it, from 0; and whether it has a name that can be printed.
+#[derive(Clone, Copy)]
+pub struct KnownOrigin {
+    pub source: u32,
+    pub line: u32,
+    pub column: u32,
+    pub is_named: bool,
+}
+
+// The origin of a place in a map, if it has one.
+pub fn origin_at(alloc: Global, map: &MapFile, line: u32, column: u32) -> Option<KnownOrigin>
+    ensures { result ≡ origin_at map.now.stated line column }
+{
     let mut meter = Meter::new(alloc);
     let line = line.saturating_sub(1);
     let column = column.saturating_sub(1);
     let Answer::Found { origin, .. } = map.look_up(line, column, &mut meter) else {
         return None;
     };
-    let source = map.source(origin.source);
-    Some(Original {
-        name: printable_name(source),
-        ignored: is_ignored(source),
-        line: u64::from(origin.line) + 1,
-        column: u64::from(origin.column) + 1,
+    Some(KnownOrigin {
+        source: origin.source,
+        line: origin.line,
+        column: origin.column,
+        is_named: printable_name(map.source(origin.source)).is_some(),
     })
+}
+
+// Where a place comes from that has this origin in a map, if it has one.
+pub fn original_from<'t>(map: &'t MapFile, origin: Option<KnownOrigin>) -> Option<Original<'t>>
+    ensures { option_map original_seen result ≡ option_map (location_from map.now.stated) origin }
+{
+    let KnownOrigin {
+        source,
+        line,
+        column,
+        is_named,
+    } = origin?;
+    let source = map.source(source);
+    Some(Original {
+        name: known_name(source, is_named),
+        ignored: is_ignored(source),
+        line: u64::from(line) + 1,
+        column: u64::from(column) + 1,
+    })
+}
+
+// The name of a source of which it is known whether it has one that can be printed.
+fn known_name(source: Option<&SourceEntry>, is_named: bool) -> Option<&str>
+    ensures { option_map (λ name. name.now) result
+        ≡ known_name is_named (option_map (λ entry. source_of entry.now) source.entry) }
+{
+    if is_named { source_name(source) } else { None }
 }
 
 // The name of a source, where it has one that can be printed: it has a byte, and none is a control character of ASCII.

@@ -22,7 +22,7 @@ pub trait PlaceCounter {
 
 /// How many places were passed, at most so many, after a line, over maps of which that of its frame's URL was looked for.
 pub fn passed_after<M: Maps, P: PlaceCounter>(
-    rewriter: &FrameRewriter<'_, '_, M>,
+    rewriter: &FrameRewriter<'_, '_, '_, M>,
     places: &P,
     most: u64,
     passed: u64,
@@ -42,7 +42,7 @@ pub fn passed_after<M: Maps, P: PlaceCounter>(
 
 // How many places are passed in a line: all where it is no frame; and in a frame whose URL has no map those of other URLs.
 fn passed_in<M: Maps, P: PlaceCounter>(
-    rewriter: &FrameRewriter<'_, '_, M>,
+    rewriter: &FrameRewriter<'_, '_, '_, M>,
     places: &P,
     line: &[u8],
 ) -> u64

@@ -14,6 +14,7 @@ use crate::maps::{Maps, TableMaps};
 use crate::noting_rewriter::NotingRewriter;
 use crate::outcome::{RewriteCounts, RewriteFault, Summary};
 use crate::passed::PlaceCounter;
+use crate::remembered::Remembered;
 use crate::table::Table;
 use crate::url_notes::UrlNotes;
 use smap_io::{ByteSink, ByteSource};
@@ -105,6 +106,7 @@ pub fn rewrite_over<R: ByteSource, W: ByteSink, M: Maps>(
     ensures memory_output { IfErr result (λ fault. fault ≡ Memory → output.new ≡ output.old) }
 {
     let RewriteOptions { hiding, most } = options;
+    let mut remembered = Remembered::new(alloc);
     let mut rewriter = FrameRewriter {
         alloc,
         maps,
@@ -112,6 +114,7 @@ pub fn rewrite_over<R: ByteSource, W: ByteSink, M: Maps>(
         staying: 0,
         mapped: 0,
         hidden: 0,
+        remembered: &mut remembered,
     };
     let lines = edit_lines(alloc, input, output, &mut rewriter, most)?;
     Ok(counts_of(&lines, &rewriter, 0))
@@ -152,6 +155,7 @@ pub fn rewrite_noting<R: ByteSource, W: ByteSink, M: Maps, P: PlaceCounter>(
     ensures memory_output { IfErr result (λ fault. fault ≡ Memory → output.new ≡ output.old) }
 {
     let RewriteOptions { hiding, most } = options;
+    let mut remembered = Remembered::new(alloc);
     let mut noting = NotingRewriter {
         rewriter: FrameRewriter {
             alloc,
@@ -160,6 +164,7 @@ pub fn rewrite_noting<R: ByteSource, W: ByteSink, M: Maps, P: PlaceCounter>(
             staying: 0,
             mapped: 0,
             hidden: 0,
+            remembered: &mut remembered,
         },
         is_noted: asked.is_noted,
         notes,
@@ -174,7 +179,7 @@ pub fn rewrite_noting<R: ByteSource, W: ByteSink, M: Maps, P: PlaceCounter>(
 // What was counted of lines, of the frames among them, and of the places that were passed.
 fn counts_of<M: Maps>(
     lines: &LineCounts,
-    rewriter: &FrameRewriter<'_, '_, M>,
+    rewriter: &FrameRewriter<'_, '_, '_, M>,
     passed: u64,
 ) -> RewriteCounts
     requires { rewriter.now.staying + rewriter.now.mapped + rewriter.now.hidden < 2 ^ 64 }

@@ -10,7 +10,7 @@ use Rattle.smap_trace.specs.declared.noting_rewriter.NotingRewriter.{NotingRewri
 module _ {M P : Type 0} (Gives : M → (url : List ℕ) → Option MapRecord → Type 0) (Finds : M → (url : List ℕ) → M → Type 0)
     (found : M → (url : List ℕ) → Option MapRecord) (count : P → (own : Option (List ℕ)) → (line : List ℕ) → ℕ) where
   pub room_after_note : (noting after : NotingRewriter M P) (line : Line) (text : List ℕ) → NotingSteps Finds found count noting line text after
-      → noting_room noting ≤ noting_room after + 1
+      → noting_room found noting ≤ noting_room found after + 1
   room_after_note noting after line text is = room_after Gives Finds found noting.rewriter after.rewriter line text is.step
 
   pub some_noted : (some : (maps : M) (url : List ℕ) → (stated : Option MapRecord) × Gives maps url stated) →

@@ -1,13 +1,13 @@
 -- Laws of the editor that rewrites frames, which its trait asks for: a line takes room for one, and becomes what it may; and what
 -- another may become after it, it may become before.
-use Rattle.std.specs.Prelude.{◌≡◌, ◌≤◌, ◌+◌, ℕ, List, Option, Some, None, refl}
+use Rattle.std.specs.Prelude.{◌≡◌, ◌≤◌, ◌+◌, ℕ, Bool, true, false, List, Option, Some, None, cond, refl}
 use Rattle.std.proofs.Common.{ap, arith, subst, ◌∙◌}
 use Rattle.smap_lines.specs.Lines.{Line}
 use Rattle.smap_record.specs.Record.{MapRecord}
 use Rattle.smap_trace.specs.Frame.{FrameParts}
 use Rattle.smap_trace.specs.FrameOf.{frame_of}
 use Rattle.smap_trace.specs.Hiding.{HidingSeen, hiding_seen}
-use Rattle.smap_trace.specs.Private.FrameRewriter.{RewriterBecomes, RewriterReaches, RewriterSteps, room_of, trace_now}
+use Rattle.smap_trace.specs.Private.FrameRewriter.{RewriterBecomes, RewriterReaches, RewriterSteps, is_sound, room_of, trace_now}
 use Rattle.smap_trace.specs.Laws.Looked.{looked_both, looked_none}
 use Rattle.smap_trace.specs.Rewriting.{TraceStep, hidden_in, mapped_in, staying_in}
 use Rattle.smap_trace.specs.Rewritten.{Fate, FateStep, MayMeet, fate_at, hidden, line_after, no_frame, original_in, replaced, stays}
@@ -19,14 +19,24 @@ one_at_most stays = omega arith
 one_at_most (replaced text) = omega arith
 one_at_most hidden = omega arith
 
+-- room, if something holds
+room_kept : (is : Bool) (old new : ℕ) → is ≡ true → old ≤ new + 1 → old ≤ cond is new 0 + 1
+room_kept true old new holds few = few
+room_kept false old new holds few = absurd (cc)
+
+-- which stays so
+room_left : (was is : Bool) (old new : ℕ) → (was ≡ true → is ≡ true) → old ≤ new + 1 → cond was old 0 ≤ cond is new 0 + 1
+room_left true is old new keeps few = room_kept is old new (keeps refl) few
+room_left false is old new keeps few = omega arith
+
 module _ {M : Type 0} (Gives : M → (url : List ℕ) → Option MapRecord → Type 0) (Finds : M → (url : List ℕ) → M → Type 0)
     (found : M → (url : List ℕ) → Option MapRecord) where
   pub room_after : (rewriter after : FrameRewriter M) (line : Line) (text : List ℕ) → RewriterSteps Finds found rewriter line text after
-      → room_of rewriter ≤ room_of after + 1
+      → room_of found rewriter ≤ room_of found after + 1
   room_after rewriter after line text is =
       let one = one_at_most is.step.met in
       let staying = is.step.staying in let mapped = is.step.mapped in let hiding = is.step.hiding in
-      omega (arith, one, staying, mapped, hiding)
+      room_left (is_sound found rewriter) (is_sound found after) _ _ is.sound (omega (arith, one, staying, mapped, hiding))
 
   module _ (some : (maps : M) (url : List ℕ) → (stated : Option MapRecord) × Gives maps url stated) where
     some_met : (maps : M) (hide : HidingSeen) (parts : Option FrameParts) → (met : Fate) × MayMeet (Gives maps) hide parts met

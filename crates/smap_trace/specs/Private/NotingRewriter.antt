@@ -39,5 +39,5 @@ abbrev pub NotingReaches : {M P : Type 0} → (Finds : M → (url : List ℕ) �
 NotingReaches Finds old later = RewriterReaches Finds old.rewriter later.rewriter × (later.notes.ghost_name ≡ old.notes.ghost_name)
 
 -- how many lines it can take
-abbrev pub noting_room : {M P : Type 0} → NotingRewriter M P → ℕ
-noting_room noting = room_of noting.rewriter
+abbrev pub noting_room : {M P : Type 0} → (found : M → (url : List ℕ) → Option MapRecord) → NotingRewriter M P → ℕ
+noting_room found noting = room_of found noting.rewriter
