@@ -6,7 +6,7 @@ use Rattle.smap_locations.specs.ListLine.{is_folder}
 use Rattle.smap_by_text.specs.ByText.{value_under}
 use Rattle.smap_locations.specs.Named.{Named, twice}
 use Rattle.smap_locations.specs.Paths.{map_path, without_query}
-use Rattle.smap_locations.specs.Patterns.{has_in_text, needs_query, path_by_patterns}
+use Rattle.smap_locations.specs.Patterns.{has_in_text, needs_query, path_by_patterns, text_by_patterns}
 use Rattle.smap_locations.specs.declared.refusal.LocationRefusal.{LocationRefusal}
 use Rattle.smap_locations.specs.declared.refusal.LocationRefusal.TheVariants.{NoFolder}
 
@@ -40,6 +40,10 @@ path_for locations url =
     or_else (value_under url locations.files)
     (or_else (value_under (without_query url) locations.files)
     (or_else (path_in_folders locations.folders (without_query url)) (path_by_patterns locations.patterns url (without_query url))))
+
+-- the text of the pattern that decides for a URL, where one does
+abbrev pub pattern_for : LocationsSeen → (url : List ℕ) → Option (List ℕ)
+pattern_for locations url = text_by_patterns locations.patterns url (without_query url)
 
 -- a pattern has the URL, and not by an empty text
 abbrev pub has_pattern_in_text : LocationsSeen → (url : List ℕ) → Bool

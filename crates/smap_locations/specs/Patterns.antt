@@ -1,7 +1,7 @@
 -- Patterns of URLs (this project's own): a text that stands behind `*`, with the path of a file or, where that ends in `/`, of a
 -- folder. A file is for the URLs that end with the text, and a folder for those in which it stands; and there a piece of the
 -- URL begins, which `/` or `\` ends. Of a URL's patterns the one with the longest text decides.
-use Rattle.std.specs.Prelude.{ℕ, ◌==◌, ◌||◌, ◌&&◌, ◌-◌, Bool, true, not, nat_lt, List, [], ◌∷◌, Option, Some, None, codes, drop, is_some, length, map, take}
+use Rattle.std.specs.Prelude.{ℕ, ◌==◌, ◌||◌, ◌&&◌, ◌-◌, Bool, true, not, nat_lt, List, [], ◌∷◌, Option, Some, None, codes, drop, is_some, length, map, option_map, take}
 use Rattle.std.specs.Prelude.{if◌then◌else◌}
 use Rattle.std.specs.Bool.{nat_eq}
 use Rattle.std.specs.List.{ends_with, list_any, starts_with}
@@ -101,6 +101,10 @@ deciding url short best (pattern ∷ patterns) = deciding url short (better url 
 abbrev pub path_of : (short : List ℕ) → Option (List ℕ × List ℕ) → Option (List ℕ)
 path_of short None = None
 path_of short (Some pattern) = path_by pattern short
+
+-- the text of the pattern that decides for a URL
+abbrev pub text_by_patterns : (patterns : Named) → (url short : List ℕ) → Option (List ℕ)
+text_by_patterns patterns url short = option_map (λ pattern. pattern.0) (deciding url short None patterns)
 
 -- the path that patterns give for a URL
 abbrev pub path_by_patterns : (patterns : Named) → (url short : List ℕ) → Option (List ℕ)

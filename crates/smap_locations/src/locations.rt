@@ -2,7 +2,7 @@
 ghost use Rattle.std.specs.Prelude.{◌≡◌, ◌≤◌, ◌==◌, ◌++◌, ◌∷◌, [], is_some, not, string_bytes, option_map, MatchOption};
 ghost use Rattle.std.specs.Prelude.{OnErr, OnOk, IfErr, IfOk, IsErrAnd, length, map};
 ghost use Rattle.smap_locations.specs.Deciding.{decided_by, longest_prefix};
-ghost use Rattle.smap_locations.specs.Locations.{has_pattern_in_text, key_for, path_for, path_in_folders, prefix_refusal};
+ghost use Rattle.smap_locations.specs.Locations.{has_pattern_in_text, key_for, path_for, path_in_folders, pattern_for, prefix_refusal};
 ghost use Rattle.smap_locations.specs.Patterns.{has_text, pattern_refusal};
 ghost use Rattle.std.specs.List.{list_any};
 ghost use Rattle.smap_by_text.specs.ByText.{IsWith, value_under};
@@ -144,6 +144,13 @@ impl Locations {
         ensures { result ≡ has_pattern_in_text self.now url.now }
     {
         self.patterns.has_in_text(url, without_query(url))
+    }
+
+    /// The text of the pattern that decides for a URL, where one does. The call takes no memory.
+    pub fn pattern_for(&self, url: &[u8]) -> Option<&[u8]>
+        ensures { option_map (λ text. text.now) result ≡ pattern_for self.now url.now }
+    {
+        self.patterns.text_for(url, without_query(url))
     }
 
     /// The path of the file that has a URL's map, where there is one: what is named for the URL, or for it without its query

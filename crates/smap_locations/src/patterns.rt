@@ -4,7 +4,7 @@ ghost use Rattle.std.specs.Prelude.{OnErr, OnOk, IfErr, IfOk, IsErrAnd};
 ghost use Rattle.std.specs.List.{list_any};
 ghost use Rattle.smap_locations.specs.PatternSeen.{pattern_seen};
 ghost use Rattle.smap_locations.specs.Deciding.{pattern_name};
-ghost use Rattle.smap_locations.specs.Patterns.{deciding, has_in_text, has_text, is_better, needs_query, path_by_patterns, pattern_refusal};
+ghost use Rattle.smap_locations.specs.Patterns.{deciding, has_in_text, has_text, is_better, needs_query, path_by_patterns, pattern_refusal, text_by_patterns};
 ghost use Rattle.smap_locations.specs.declared.refusal.LocationRefusal.TheVariants.{Memory};
 
 use crate::list_line::is_folder;
@@ -90,6 +90,16 @@ impl Patterns {
         self.all
             .iter()
             .any(|pattern| pattern.needs_query(url, short))
+    }
+
+    /// The text of the pattern that decides for a URL, where one does. The URL is `short` without its query and its fragment.
+    pub fn text_for(&self, url: &[u8], short: &[u8]) -> Option<&[u8]>
+        ensures { option_map (λ text. text.now) result ≡ text_by_patterns self.now url.now short.now }
+    {
+        match deciding(&self.all, url, short) {
+            Some(pattern) => Some(&pattern.text),
+            None => None,
+        }
     }
 
     /// The path that the pattern gives which decides for a URL, where one does. The URL is `short` without its query and
