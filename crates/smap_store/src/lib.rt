@@ -18,6 +18,7 @@ mod loader;
 mod stored;
 
 pub use cache::MapCache;
+pub use fileless::asks_no_file;
 pub use list::{add_list, add_rule};
 pub use loader::{LoadedMap, MapLoader, NoMap};
 pub use stored::StoredMaps;
