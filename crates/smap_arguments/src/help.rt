@@ -42,9 +42,9 @@ Answers:
                                      ` ignored` where the map says to pass over the source
   none                               no mapping leads there
 
-SOURCE is the name of a source, as `smap sources` prints it, or its number there in brackets, as `[0]`. Each mapping
-into its LINE answers, in the order of the generated file. With COLUMN only those into the greatest column that is
-not after it or, with --after, into the least that is not before it.
+SOURCE is the name of a source, as `smap sources` prints it, or its number there in brackets, such as `[0]`. Each
+mapping into its LINE answers, in the order of the generated file. With COLUMN only those into the greatest column
+that is not after it or, with --after, into the least that is not before it.
 
 LINE and COLUMN may be one word, LINE:COLUMN.
 
@@ -74,7 +74,8 @@ Answer: for each mapping one line, in their order: LINE:COLUMN of the generated 
 original position, as `smap lookup` prints it, or `unmapped`. With LINE only the mappings on that line; nothing
 where it has none. With --json each is a JSON object.
 
-The lines are written while the map is gone through, so `head` may follow.
+The lines are written while the map is gone through. Where a command behind a pipe ends before, such as `head`, so
+does this one, with `device: X2 Write` and status 3.
 
 Example: smap mappings examples/preset-react.js.map 65";
 
@@ -106,8 +107,8 @@ there is none, against the map's own.
 What ends in `/` behind the `=` is a folder: PREFIX=FOLDER/, where PREFIX ends in `/`, too. The map of a URL that
 begins with PREFIX is the file FOLDER/REST.map, REST being what the URL has behind PREFIX, without its query and
 fragment. Each line of the file of --maps is a URL and a file, or a prefix and a folder, with one TAB between
-them; empty lines and those that begin with `#` are passed over. Maps of folders and lists are read when the text
-first names them. One that cannot be read is reported on standard error, and the rest goes on.
+them; empty lines and those that begin with `#` are passed over. Maps of folders, patterns and lists are read when
+the text first names them. One that cannot be read is reported on standard error, and the rest goes on.
 
 What begins with `*` is for more than one host or folder: *END=FILE gives the map of each URL that ends in END, from
 a `/` on, and *=FILE that of every URL; *MIDDLE=FOLDER/, where MIDDLE ends in `/`, the folder of those that have MIDDLE
@@ -232,8 +233,8 @@ Example: smap fit examples/receipt.min.js.map examples/receipt.min.js";
 pub const EXPLAIN_ABOUT: &str = "Says what a code of a refusal means, and what to do about it";
 
 pub const EXPLAIN_NOTES: &str = "\
-CODE is a code as `M14`, the name behind it as `Text`, or a word that is printed without a code, as `memory`; in
-capital or small letters.
+CODE is a code, such as `M14`, the name behind it, such as `Text`, or a word that is printed without a code, such as
+`memory`; in capital or small letters.
 
 Answer: what the code means, what usually causes it, and what to do. Without CODE all codes and names, one a line.
 
@@ -293,7 +294,7 @@ pub const PAIRS_HELP: &str =
 
 pub const LIST_HELP: &str = "Path of a list of more maps: on each line URL, TAB and FILE";
 
-pub const CODE_HELP: &str = "Code of a refusal, as M14, or its name";
+pub const CODE_HELP: &str = "Code of a refusal, such as M14, or its name";
 
 pub const OUTER_HELP: &str = "Path of the source map file of the last step";
 
@@ -346,8 +347,8 @@ pub const SOURCE_AFTER_HELP: &str =
 pub const ALIKE_HELP: &str = "Say which sources end alike where there is no such one";
 
 pub const CACHE_HELP: &str = "\
-Keep maps of folders and lists up to this many bytes of their files, else 1073741824; the
-output is the same";
+Keep maps of folders, patterns and lists up to this many bytes of their files, else
+1073741824; the output is the same";
 
 pub const LIMIT_HELP: &str =
     "Refuse a text of more bytes than this, 1 to 9223372036854775807, else 1073741824";
