@@ -23,7 +23,7 @@ const OVERLAP_WHY =
 const NEAREST =
   '  line 2 has no mapping/  the last mapping at the position or before it is at line 1, column 2/  no mapping stands after it/';
 const CODE =
-  'C1 SourceIndex/  means: The outer map has no source of this number./  causes: Sources count from 0, or the number is of another map./  to do: See with `smap show OUTER` which sources the map has./';
+  'C1 SourceIndex/  means: The map, in `compose` the outer one, has no source of this number./  causes: Sources count from 0, or the number is of another map./  to do: See with `smap sources MAP` which sources the map has./';
 const PRUNED = '{"mappings":"AAAA,KACI","names":[],"sources":["a.ts"],"version":3}';
 const LISTED = '1:1 a.js:1:1/1:11 b.js:1:1/';
 const LISTED_JSON =

@@ -19,9 +19,9 @@ pub const O2: &Row = &Row {
 
 pub const C1: &Row = &Row {
     code: Code::C1,
-    meaning: "The outer map has no source of this number.",
+    meaning: "The map, in `compose` the outer one, has no source of this number.",
     cause: "Sources count from 0, or the number is of another map.",
-    remedy: "See with `smap show OUTER` which sources the map has.",
+    remedy: "See with `smap sources MAP` which sources the map has.",
 };
 
 pub const C2: &Row = &Row {
@@ -42,11 +42,11 @@ pub const C3: &Row = &Row {
 
 pub const C4: &Row = &Row {
     code: Code::C4,
-    meaning: "The outer map has no source of the name that follows.",
+    meaning: "The map, in `compose` the outer one, has no source of the name that follows.",
     cause: "\
         The name is written otherwise in the map, or was resolved against another base. Or the map \
         leads to the sources already, since the bundler read the maps of its inputs.",
-    remedy: "See with `smap show OUTER` how the sources are called, and write the name so.",
+    remedy: "See with `smap sources MAP` how the sources are called, and write the name so.",
 };
 
 pub const E1: &Row = &Row {

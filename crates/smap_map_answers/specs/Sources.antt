@@ -1,5 +1,6 @@
 -- What `sources` prints of the sources of a map, and of the content of one.
-use Rattle.std.specs.Prelude.{◌≡◌, ℕ, List, [], ◌∷◌, Option, Some, None, codes, option_and_then, slice_get}
+use Rattle.std.specs.Prelude.{◌≡◌, ℕ, List, [], ◌∷◌, Option, Some, None, codes, slice_get}
+use Rattle.smap_codes.specs.declared.code.Code.TheVariants.{C1}
 use Rattle.smap_record.specs.Record.{MapRecord}
 use Rattle.smap_record.specs.Sources.{StatedSource}
 use Rattle.smap_command.specs.Lines.{line_from}
@@ -7,7 +8,7 @@ use Rattle.smap_positions.specs.Sources.{IsSourcesText}
 use Rattle.smap_positions.specs.declared.options.SourceOptions.{SourceOptions}
 use Rattle.smap_replies.specs.Files.{MayRead}
 use Rattle.smap_replies.specs.Map.{OfText}
-use Rattle.smap_replies.specs.Outcome.{Report, answer, refusal}
+use Rattle.smap_replies.specs.Outcome.{Report, answer, refusal, refused_by}
 
 -- ---- the sources
 
@@ -28,10 +29,16 @@ ReportsSources Reads options (Some path) stated report =
 abbrev pub no_content_line : List ℕ
 no_content_line = line_from (codes "refused: no content" ∷ [])
 
+-- that of a source, where the map holds it
 abbrev pub content_report : Option (List ℕ) → Report
 content_report None = refusal None no_content_line
 content_report (Some content) = answer content
 
--- the content of this source, from 0, where the map has it
+-- that of a source, where there is one
+abbrev pub source_report : Option StatedSource → Report
+source_report None = refused_by C1
+source_report (Some source) = content_report source.content
+
+-- that of the source of this index, from 0
 abbrev pub content_result : (source : ℕ) → MapRecord → Report
-content_result source stated = content_report (option_and_then (λ (s : StatedSource). s.content) (slice_get stated.sources source))
+content_result source stated = source_report (slice_get stated.sources source)

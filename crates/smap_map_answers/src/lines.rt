@@ -14,7 +14,7 @@ pub const BAD_POSITION_REFUSED: &str = "refused: P1 BadPosition ";
 /// Standard error: a line of standard input is longer than a position is (P2).
 pub const LONG_POSITION_REFUSED: &str = "refused: P2 LongLine\n";
 
-/// Standard error: the map has no source of this index, or not its content.
+/// Standard error: the map does not hold the content of a source.
 pub const NO_CONTENT: &str = "refused: no content\n";
 
 /// Standard output: where a place stands in its source. The line and the column count from 0 here,

@@ -1,13 +1,14 @@
 //! Printing the sources of a map, and how much of the generated file each makes.
-ghost use Rattle.std.specs.Prelude.{◌≡◌, option_and_then, option_copied, option_map, slice_get};
+ghost use Rattle.std.specs.Prelude.{◌≡◌, option_copied};
 ghost use Rattle.smap_replies.specs.Map.{IsResult, ReportsMap};
 ghost use Rattle.smap_replies.specs.Outcome.{OrMemory, report_of};
-ghost use Rattle.smap_map_answers.specs.Sources.{IsSourcesReported, ReportsSources, content_result};
+ghost use Rattle.smap_map_answers.specs.Sources.{IsSourcesReported, ReportsSources, content_report, content_result};
 
 use crate::lines;
+use smap_codes::Code;
 use smap_positions::{SourceOptions, sources_text};
 use smap_record::MapFile;
-use smap_replies::{Failure, FileReader, MapReader, Reply, read_map, read_text};
+use smap_replies::{Failure, FileReader, MapReader, Reply, read_map, read_text, refused_by};
 use std::alloc::Global;
 
 /// Reads the map that the file at this path is, and its generated file, where one is given, and prints the map's sources.
@@ -75,23 +76,26 @@ pub fn answer_content<F: FileReader>(
     reported_content(alloc, &read_map(alloc, maps, 0, path)?, source)
 }
 
-// The content of a source, or that there is none.
+// The content of the source of this index, or that there is no such source.
 fn reported_content(alloc: Global, map: &MapFile, source: u32) -> Result<Reply, Failure>
     ensures { OrMemory (IsResult (content_result source) map.now.stated) (report_of result) }
 {
-    match content_of(map, source) {
+    match map.source(source) {
+        Some(source) => content_reply(alloc, source.content.as_deref()),
+        None => Err(refused_by(alloc, Code::C1)?),
+    }
+}
+
+// The content of a source, or that the map does not hold it.
+fn content_reply(alloc: Global, content: Option<&str>) -> Result<Reply, Failure>
+    ensures { OrMemory (λ report. report ≡ content_report (option_copied content.entry))
+        (report_of result) }
+{
+    match content {
         Some(content) => Ok(Reply::Text(String::from_str(alloc, content)?)),
         None => {
             let line = String::from_str(alloc, lines::NO_CONTENT)?;
             Err(Failure::Refusal { code: None, line })
         }
     }
-}
-
-// The content of a source, where the map has it.
-fn content_of(map: &MapFile, source: u32) -> Option<&str>
-    ensures { option_map (λ content. content.now) result
-        ≡ option_and_then (λ s. s.content) (slice_get map.now.stated.sources source) }
-{
-    map.source(source)?.content.as_deref()
 }
