@@ -111,8 +111,8 @@ them; empty lines and those that begin with `#` are passed over. Maps of folders
 the text first names them. One that cannot be read is reported on standard error, and the rest goes on.
 
 What begins with `*` is for more than one host or folder: *END=FILE gives the map of each URL that ends in END, from
-a `/` on, and *=FILE that of every URL; *MIDDLE=FOLDER/, where MIDDLE ends in `/`, the folder of those that have MIDDLE
-in them. A URL or a prefix that fits comes first, and then the longest of these.
+a `/` on, and *=FILE that of every URL; *MIDDLE=FOLDER/, where MIDDLE ends in `/` or `\\`, the folder of those that
+have MIDDLE in them. A URL or a prefix that fits comes first, and then the longest of these.
 
 With --paths a source with a relative name goes on from the folder of the map's URL, where that is a path, as node
 prints paths: not with --base.

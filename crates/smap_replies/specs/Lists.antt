@@ -15,7 +15,7 @@ use Rattle.smap_replies.specs.Outcome.{Report, misuse, out_of_memory}
 -- in words, memory aside
 abbrev pub reason_of : ListFault → Option (List ℕ)
 reason_of NoTab = Some (codes "no TAB")
-reason_of NoFolder = Some (codes "no folder")
+reason_of NoFolder = Some (codes "a folder needs PREFIX/, *MIDDLE/ or *MIDDLE\\")
 reason_of BadUrl = Some (text_of called.A1)
 reason_of Twice = Some (text_of called.A2)
 reason_of Memory = None

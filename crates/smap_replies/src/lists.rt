@@ -24,7 +24,7 @@ pub fn reason_of(fault: ListFault) -> Option<&'static str>
 {
     match fault {
         ListFault::NoTab => Some("no TAB"),
-        ListFault::NoFolder => Some("no folder"),
+        ListFault::NoFolder => Some("a folder needs PREFIX/, *MIDDLE/ or *MIDDLE\\"),
         ListFault::BadUrl => Some(Code::A1.text()),
         ListFault::Twice => Some(Code::A2.text()),
         ListFault::Memory => None,

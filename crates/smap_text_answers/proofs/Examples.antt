@@ -19,7 +19,7 @@ use Rattle.smap_text_answers.specs.Trace.{Gathers}
 
 -- ---- rules and lines that are refused
 
-a_prefix_without_slash : rule_refusal NoFolder (codes "https://a.test/js") (codes "maps/") ≡ misuse (codes "usage: no folder: https://a.test/js=maps/\n")
+a_prefix_without_slash : rule_refusal NoFolder (codes "https://a.test/js") (codes "maps/") ≡ misuse (codes "usage: a folder needs PREFIX/, *MIDDLE/ or *MIDDLE\\: https://a.test/js=maps/\n")
 unfolding shown
 a_prefix_without_slash = refl
 
