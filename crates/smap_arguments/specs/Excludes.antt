@@ -17,7 +17,7 @@ both_flags_line = codes "usage: --hide-ignored with --anywhere" ++ 10 ∷ []
 
 -- each place is one of a URL that ends in nothing, as times of day are
 abbrev pub any_url_line : Text
-any_url_line = codes "usage: * with --anywhere" ++ 10 ∷ []
+any_url_line = codes "usage: *=FILE with --anywhere" ++ 10 ∷ []
 
 -- a URL is the pattern of all that there are: `*` alone
 abbrev pub is_any_url : (url : Text) → Bool

@@ -22,7 +22,7 @@ pub const HIDDEN_ANYWHERE: &str = "usage: --hide with --anywhere\n";
 pub const EXPLAINED_ANYWHERE: &str = "usage: --explain with --anywhere\n";
 
 /// Standard error: a URL is `*` alone, which each place has, as times of day are.
-pub const ANY_URL: &str = "usage: * with --anywhere\n";
+pub const ANY_URL: &str = "usage: *=FILE with --anywhere\n";
 
 pub const BASE_AND_PATHS: &str = "usage: --base with --paths\n";
 
