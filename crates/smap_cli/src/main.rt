@@ -1,6 +1,7 @@
 //! `smap` answers questions about source maps from the command line. The words are parsed by smap_arguments, and the command
-//! is run by smap_answers. Where a refusal goes to a terminal, a last line says which word of `explain` says more; and where
-//! `rewrite` has nothing to say but passed places over, which option takes them.
+//! is run by smap_answers. Where a refusal goes to a terminal, a last line says which word of `explain` says more; where
+//! `rewrite` has nothing to say but passed places over, which option takes them; and after a mistake in the words of a command
+//! that reads standard input, that it does.
 #![tactic(auto)]
 
 mod hint;
@@ -9,7 +10,7 @@ mod usage;
 ghost use Rattle.std.specs.Prelude.{IfOk};
 ghost use Rattle.smap_answers.specs.Run.{IsRunnable};
 
-use hint::hint_line;
+use hint::{hint_line, input_line, reads_input};
 use smap_answers::{Failure, Reply, print_error, report, run_reading};
 pub use smap_arguments::{Usage, parse};
 pub use smap_command::Command;
@@ -40,7 +41,13 @@ fn main(rt: HostRuntime) -> ExitCode {
             );
             status
         }
-        Err(outcome) => report(&outcome, &mut output, &mut errors, &mut first),
+        Err(outcome) => {
+            let status = report(&outcome, &mut output, &mut errors, &mut first);
+            if is_terminal && let Some(hint) = input_hint(&rt, &outcome) {
+                print_error(&mut errors, hint.as_bytes());
+            }
+            status
+        }
     };
     if let Some(code) = first
         && is_terminal
@@ -49,6 +56,21 @@ fn main(rt: HostRuntime) -> ExitCode {
         print_error(&mut errors, hint.as_bytes());
     }
     ExitCode::from(status)
+}
+
+// The line after a mistake in the words of a command that reads standard input: often the text is among them.
+fn input_hint(rt: &HostRuntime, outcome: &Result<Reply, Failure>) -> Option<String> {
+    let Err(Failure::Misuse(_)) = outcome else {
+        return None;
+    };
+    let Ok(arguments) = arguments_of(rt) else {
+        return None;
+    };
+    let name = arguments.get(1)?;
+    if !reads_input(name) {
+        return None;
+    }
+    input_line(rt.alloc(), name).ok()
 }
 
 // The command that the command line asks for.
