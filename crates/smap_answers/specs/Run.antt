@@ -25,6 +25,7 @@ use Rattle.smap_replies.specs.InTurn.{ReportsEach}
 use Rattle.smap_replies.specs.Map.{IsLine, IsResult, ReportsMap}
 use Rattle.smap_replies.specs.Runs.{ReportsAside, ReportsUnread, RunsOne}
 use Rattle.smap_replies.specs.Streams.{Streams}
+use Rattle.smap_replies.specs.Why.{ReportsMapWhy}
 use Rattle.smap_sequences.specs.Sequences.{IsWaiting, most_sequences}
 use Rattle.smap_sequences.specs.Source.{without_seen}
 use Rattle.smap_text_answers.specs.Rewrite.{RunsRewrite}
@@ -39,9 +40,9 @@ Runs Reads (Check path base interval options) = λ status before after. (after.i
     × ChecksAll Reads base interval (form_of options) options.explain 0 (paths_of (string_bytes path) options) status before.sinks after.sinks
 Runs Reads (Show path base options) = RunsOne (ReportsAside (ReportsMap Reads 0 (string_bytes path) base usual_interval (IsResult (shown_result options))))
 Runs Reads (Lookup path line column base interval after options) =
-    RunsOne (ReportsAside (ReportsMap Reads 0 (string_bytes path) base interval (IsLine (lookup_print (direction_of after) options line column))))
+    RunsOne (ReportsAside (ReportsMapWhy Reads options.explain 0 (string_bytes path) base interval (IsLine (lookup_print (direction_of after) options line column))))
 Runs Reads (Generated path source line column base after options) =
-    RunsOne (ReportsAside (ReportsMap Reads 0 (string_bytes path) base usual_interval
+    RunsOne (ReportsAside (ReportsMapWhy Reads options.explain 0 (string_bytes path) base usual_interval
     (IsResult (generated_result options (string_bytes source) line column after))))
 Runs Reads (Positions path base interval after form) = RunsOne (PositionsReports Reads (string_bytes path) base interval (record { direction = direction_of after; form = form }))
 Runs Reads (Mappings path base line form) =

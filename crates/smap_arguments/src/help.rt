@@ -18,7 +18,8 @@ Answers:
   none                no mapping stands at the position or before it on its line
 
 The last mapping at the position or before it answers or, with --after, the first at it or after it.
-With --explain the answer is followed by which mappings stand nearest before and after the position.
+With --explain the answer is followed by which mappings stand nearest before and after the position, and a refusal by
+why the map is refused.
 
 LINE and COLUMN may be one word, LINE:COLUMN.
 
@@ -48,7 +49,8 @@ that is not after it or, with --after, into the least that is not before it.
 
 LINE and COLUMN may be one word, LINE:COLUMN.
 
-With --explain a source that the map does not have is followed by those whose names end alike.
+With --explain a source that the map does not have is followed by those whose names end alike, and a refusal of the
+map by why it is refused.
 
 Example: smap lookup --generated examples/preset-react.js.map preset-react.js 40";
 

@@ -1,29 +1,24 @@
 -- What `check` prints: of one file, or of each of several, in their order.
-use Rattle.std.specs.Prelude.{◌≡◌, ℕ, ◌⊎◌, ◌++◌, ◌==◌, Bool, true, false, List, ◌∷◌, Option, Some, Ok, Err, codes, if◌then◌else◌, length, map, string_bytes}
+use Rattle.std.specs.Prelude.{◌≡◌, ℕ, ◌==◌, Bool, List, ◌∷◌, Option, if◌then◌else◌, length, map, string_bytes}
 use Rattle.smap_explain.specs.Explain.{IsExplained}
 use Rattle.smap_explain.specs.declared.explanation.Explanation.{Explanation}
-use Rattle.smap_io.specs.declared.transfer.ReadFailure.TheVariants.{Device}
 use Rattle.smap_positions.specs.Json.{json_line}
-use Rattle.smap_record.specs.Codes.{map_code}
 use Rattle.smap_record.specs.Record.{record_of}
 use Rattle.smap_record.specs.declared.refusal.MapRefusal.{MapRefusal}
 use Rattle.smap_verdicts.specs.Counts.{counts_value, map_counts}
-use Rattle.smap_verdicts.specs.Keys.{explanation_text}
-use Rattle.smap_verdicts.specs.Refusal.{refusal_text, refusal_value}
+use Rattle.smap_verdicts.specs.Refusal.{refusal_value}
 use Rattle.smap_verdicts.specs.declared.counts.MapCounts.{MapCounts}
 use Rattle.smap_replies.specs.Files.{MayRead}
 use Rattle.smap_replies.specs.InTurn.{ReportsEach}
 use Rattle.smap_check_answers.specs.Lines.{counts_line, map_counts_line}
-use Rattle.smap_replies.specs.Lines.{file_failed_line, map_refused_line}
-use Rattle.smap_replies.specs.Map.{IsLine, ReportsRead, refusal_result}
-use Rattle.smap_replies.specs.Outcome.{Report, failure, refusal, refused_answer}
+use Rattle.smap_replies.specs.Map.{IsLine, ReportsRead}
+use Rattle.smap_replies.specs.Outcome.{Report, refused_answer}
 use Rattle.smap_replies.specs.Streams.{Sinks}
+use Rattle.smap_replies.specs.Why.{IsRefused, OfFileWhy}
 use Rattle.smap_check_answers.specs.declared.check.FileForm.{FileForm}
 use Rattle.smap_check_answers.specs.declared.check.FileForm.TheVariants.{Counts, Named, Object}
 use Rattle.smap_command.specs.Options.{is_json}
 use Rattle.smap_command.specs.declared.options.CheckOptions.{CheckOptions}
-use Rattle.smap_replies.specs.declared.files.UnreadCause.{UnreadCause}
-use Rattle.smap_replies.specs.declared.files.UnreadCause.TheVariants as causes
 use Rattle.url.specs.Parts.{Parts}
 
 -- ---- a file
@@ -33,17 +28,6 @@ abbrev pub accepted_line : (path : List ℕ) → FileForm → MapCounts → List
 accepted_line path Counts counts = counts_line counts
 accepted_line path Named counts = map_counts_line path counts
 accepted_line path Object counts = json_line (counts_value path counts)
-
--- the line of a refusal, and then why the map is refused
-pub record IsWhyLine (bytes path : List ℕ) (refused : MapRefusal) (line : List ℕ) : Type 0 where
-  pub explanation : Explanation
-  pub known : IsExplained bytes refused explanation
-  pub text : line ≡ map_refused_line path (refusal_text refused) ++ explanation_text explanation
-
--- a refusal is reported on standard error, and why, where that is asked
-abbrev pub IsLineReported : (bytes path : List ℕ) → (explain : Bool) → MapRefusal → Report → Type 0
-IsLineReported bytes path false refused report = report ≡ refusal_result path refused
-IsLineReported bytes path true refused report = (line : List ℕ) × IsWhyLine bytes path refused line × (report ≡ refusal (Some (map_code refused)) line)
 
 -- the line of an object that reports a refusal, and why the map is refused
 pub record IsWhyObject (bytes path : List ℕ) (refused : MapRefusal) (line : List ℕ) : Type 0 where
@@ -58,8 +42,8 @@ IsObjectReported bytes path refused report = (line : List ℕ) × IsWhyObject by
 -- the map of these bytes at a path is refused: an answer in JSON, and else a line for standard error
 abbrev pub IsRefusedReported : (bytes path : List ℕ) → FileForm → (explain : Bool) → MapRefusal → Report → Type 0
 IsRefusedReported bytes path Object explain refused report = IsObjectReported bytes path refused report
-IsRefusedReported bytes path Counts explain refused report = IsLineReported bytes path explain refused report
-IsRefusedReported bytes path Named explain refused report = IsLineReported bytes path explain refused report
+IsRefusedReported bytes path Counts explain refused report = IsRefused bytes path explain refused report
+IsRefusedReported bytes path Named explain refused report = IsRefused bytes path explain refused report
 
 -- the file of these bytes is reported, with checkpoints at the interval k
 abbrev pub ChecksBytes : Option Parts → (k : ℕ) → FileForm → (explain : Bool) → (path bytes : List ℕ) → Report → Type 0
@@ -67,23 +51,9 @@ ChecksBytes base k form explain path bytes =
     ReportsRead (IsRefusedReported bytes path form explain) (record_of bytes base k)
     (IsLine (λ stated. accepted_line path form (map_counts stated k)))
 
--- why a file can't be read
-abbrev pub cause_text : UnreadCause → List ℕ
-cause_text causes.Missing = codes "  there is no such file\n"
-cause_text causes.Folder = codes "  the path is that of a folder\n"
-cause_text causes.NoPermission = codes "  the file may not be read: permission is denied\n"
-cause_text causes.Other = codes "  reading the file failed for another cause\n"
-
--- the file at a path can't be read, and that is reported, and why, where that is asked: the machine says the cause
-abbrev pub IsUnreadReported : (path : List ℕ) → (explain : Bool) → Report → Type 0
-IsUnreadReported path false report = report ≡ failure (file_failed_line path)
-IsUnreadReported path true report = (cause : UnreadCause) × (report ≡ failure (file_failed_line path ++ cause_text cause))
-
 -- the file of a path is reported: it can't be read, or its bytes decide
 abbrev pub ChecksFile : MayRead → Option Parts → (k : ℕ) → FileForm → (explain : Bool) → (number : ℕ) (path : List ℕ) → Report → Type 0
-ChecksFile Reads base k form explain number path report =
-    (Reads number path (Err Device) × IsUnreadReported path explain report)
-    ⊎ ((bytes : List ℕ) × Reads number path (Ok bytes) × ChecksBytes base k form explain path bytes report)
+ChecksFile Reads base k form explain number path = OfFileWhy Reads explain number path (ChecksBytes base k form explain path)
 
 -- ---- several files
 

@@ -1,9 +1,8 @@
 //! Checking map files: how much each holds.
-ghost use Rattle.std.specs.Prelude.{◌≡◌, ◌≢◌, ◌++◌, false, map, option_copied, string_bytes, IfOk};
-ghost use Rattle.smap_check_answers.specs.Check.{ChecksAll, ChecksBytes, ChecksFile, IsLineReported, IsObjectReported, IsRefusedReported, IsUnreadReported};
-ghost use Rattle.smap_check_answers.specs.Check.{IsWhyLine, IsWhyObject, accepted_line, cause_text, form_of, paths_of};
-ghost use Rattle.smap_replies.specs.Lines.{file_failed_line};
-ghost use Rattle.smap_replies.specs.Outcome.{OrMemory, failure_report, report_of};
+ghost use Rattle.std.specs.Prelude.{◌≡◌, ◌≢◌, false, map, option_copied, string_bytes, IfOk};
+ghost use Rattle.smap_check_answers.specs.Check.{ChecksAll, ChecksBytes, ChecksFile, IsObjectReported, IsRefusedReported};
+ghost use Rattle.smap_check_answers.specs.Check.{IsWhyObject, accepted_line, form_of, paths_of};
+ghost use Rattle.smap_replies.specs.Outcome.{OrMemory, report_of};
 ghost use Rattle.smap_replies.specs.Streams.{sinks_seen};
 ghost use Rattle.smap_record.specs.declared.refusal.MapRefusal.TheVariants.{Memory};
 
@@ -13,11 +12,8 @@ use smap_command::CheckOptions;
 use smap_explain::explain;
 use smap_io::{ByteSink, ReadFailure};
 use smap_record::{MapFile, MapRefusal};
-use smap_replies::{
-    DONE, Failure, FileReader, MapReader, Reply, UnreadCause, file_failed_line, refusal_line,
-    report,
-};
-use smap_verdicts::{MapCounts, counts_json, explanation_text, map_counts, refusal_json};
+use smap_replies::{DONE, Failure, FileReader, MapReader, Reply, refused_map, report, unread_file};
+use smap_verdicts::{MapCounts, counts_json, map_counts, refusal_json};
 use std::alloc::{AllocError, Global};
 
 // How a file is reported.
@@ -126,7 +122,7 @@ fn checked_file<F: FileReader>(
 {
     match maps.files.read_file(alloc, number, path) {
         Ok(bytes) => answer_bytes(alloc, maps, &bytes, path, how),
-        Err(ReadFailure::Device) => Err(unread(alloc, maps.files, path, how)?),
+        Err(ReadFailure::Device) => Err(unread_file(alloc, maps.files, path, how.explain)?),
         Err(ReadFailure::Memory) => Err(Failure::Memory),
     }
 }
@@ -179,7 +175,7 @@ fn refused_reply(
     match how.form {
         FileForm::Object => object_reply(alloc, path, bytes, refused),
         FileForm::Counts | FileForm::Named => {
-            Err(line_failure(alloc, path, bytes, refused, how)?)
+            Err(refused_map(alloc, path, bytes, refused, how.explain)?)
         }
     }
 }
@@ -210,78 +206,4 @@ fn why_object(
 {
     let explanation = explain(alloc, bytes, refused)?;
     lines::object_line(refusal_json(alloc, path, refused, &explanation)?)
-}
-
-fn line_failure(
-    alloc: Global,
-    path: &str,
-    bytes: &[u8],
-    refused: MapRefusal,
-    how: Reporting,
-) -> Result<Failure, AllocError>
-    ensures reported { IfOk result (λ failure. IsLineReported bytes.now path.now how.explain refused
-        (failure_report failure)) }
-    ensures not_memory { IfOk result (λ _. refused ≢ Memory) }
-{
-    let line = if how.explain {
-        why_line(alloc, path, bytes, refused)?
-    } else {
-        refusal_line(alloc, path, refused)?
-    };
-    Ok(Failure::refusal(refused.code(), line))
-}
-
-// The line that reports a refusal, and the lines that say why.
-fn why_line(
-    alloc: Global,
-    path: &str,
-    bytes: &[u8],
-    refused: MapRefusal,
-) -> Result<String, AllocError>
-    ensures reported { IfOk result (λ line. IsWhyLine bytes.now path.now refused
-        (string_bytes line)) }
-    ensures not_memory { IfOk result (λ _. refused ≢ Memory) }
-{
-    let line = refusal_line(alloc, path, refused)?;
-    let explanation = explain(alloc, bytes, refused)?;
-    let why = explanation_text(alloc, &explanation)?;
-    format!(in alloc; "{line}{why}")
-}
-
-// That the file at a path can't be read and, where that is asked, why not.
-fn unread<F: FileReader>(
-    alloc: Global,
-    reader: &F,
-    path: &str,
-    how: Reporting,
-) -> Result<Failure, AllocError>
-    ensures { IfOk result (λ failure. IsUnreadReported path.now how.explain
-        (failure_report failure)) }
-{
-    let line = if how.explain {
-        cause_line(alloc, path, reader.unread_cause(path))?
-    } else {
-        file_failed_line(alloc, path)?
-    };
-    Ok(Failure::Unreadable(line))
-}
-
-fn cause_line(alloc: Global, path: &str, cause: UnreadCause) -> Result<String, AllocError>
-    ensures { IfOk result (λ line. string_bytes line
-        ≡ file_failed_line path.now ++ cause_text cause) }
-{
-    let (line, cause) = (file_failed_line(alloc, path)?, cause_text(cause));
-    format!(in alloc; "{line}{cause}")
-}
-
-// Why a file can't be read, in a sentence.
-fn cause_text(cause: UnreadCause) -> &'static str
-    ensures { result.now ≡ cause_text cause }
-{
-    match cause {
-        UnreadCause::Missing => "  there is no such file\n",
-        UnreadCause::Folder => "  the path is that of a folder\n",
-        UnreadCause::NoPermission => "  the file may not be read: permission is denied\n",
-        UnreadCause::Other => "  reading the file failed for another cause\n",
-    }
 }

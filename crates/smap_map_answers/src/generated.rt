@@ -3,8 +3,9 @@ ghost use Rattle.std.specs.Prelude.{◌≡◌, option_copied, string_bytes, IfOk
 ghost use Rattle.std.specs.Char.{is_ascii_digit};
 ghost use Rattle.std.specs.List.{list_all};
 ghost use Rattle.smap_index.specs.Parts.{joined};
-ghost use Rattle.smap_replies.specs.Map.{IsResult, ReportsMap};
+ghost use Rattle.smap_replies.specs.Map.{IsResult};
 ghost use Rattle.smap_replies.specs.Outcome.{OrMemory, report_of};
+ghost use Rattle.smap_replies.specs.Why.{ReportsMapWhy};
 ghost use Rattle.smap_map_answers.specs.Generated.{asked_sources, bracketed, direction_of, generated_result};
 ghost use Rattle.smap_map_answers.specs.Generated.{is_asked, is_in_brackets, mappings_from, mappings_of};
 ghost use Rattle.smap_map_answers.specs.Generated.{alike_line, alike_lines, alike_source, ends_alike};
@@ -15,7 +16,7 @@ use smap_command::LookupOptions;
 use smap_originals::{Asked, Direction, generated_for, generated_next};
 use smap_positions::generated_text;
 use smap_record::{MapFile, Mapping, source_name};
-use smap_replies::{Failure, FileReader, MapReader, Reply, read_map};
+use smap_replies::{Failure, FileReader, MapReader, Reply, read_map_explained};
 use smap_text::shown;
 use std::alloc::{AllocError, Global};
 
@@ -33,19 +34,20 @@ pub struct GeneratedAsked<'a> {
     pub options: LookupOptions,
 }
 
-/// Looks an original place up in the map that the file at this path is.
+/// Looks an original place up in the map that the file at this path is. Where it is none, and that is asked, why is reported
+/// too.
 pub fn answer_generated<F: FileReader>(
     alloc: Global,
     maps: &MapReader<'_, F>,
     path: &str,
     asked: GeneratedAsked<'_>,
 ) -> Result<Reply, Failure>
-    ensures { OrMemory (ReportsMap (F.gives maps.now.files.now) 0 path.now
-        (option_copied maps.now.base) maps.now.interval
+    ensures { OrMemory (ReportsMapWhy (F.gives maps.now.files.now) asked.entry.options.explain
+        0 path.now (option_copied maps.now.base) maps.now.interval
         (IsResult (generated_result asked.entry.options asked.entry.source.now asked.entry.line asked.entry.column asked.entry.after)))
         (report_of result) }
 {
-    let map = read_map(alloc, maps, 0, path)?;
+    let map = read_map_explained(alloc, maps, 0, path, asked.options.explain)?;
     generated_of(alloc, &map, &asked)
 }
 

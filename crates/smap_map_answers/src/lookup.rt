@@ -1,13 +1,14 @@
 //! Looking a position up in a map file.
 ghost use Rattle.std.specs.Prelude.{◌≡◌, option_copied, string_bytes, IfOk};
 ghost use Rattle.smap_map_answers.specs.Lookup.{about_text, lookup_lines, lookup_print};
-ghost use Rattle.smap_replies.specs.Map.{IsLine, ReportsMap};
+ghost use Rattle.smap_replies.specs.Map.{IsLine};
 ghost use Rattle.smap_replies.specs.Outcome.{OrMemory, report_of};
+ghost use Rattle.smap_replies.specs.Why.{ReportsMapWhy};
 
 use smap_command::LookupOptions;
 use smap_positions::{Direction, lookup_as_json, lookup_text};
 use smap_record::{MapFile, Meter};
-use smap_replies::{Failure, FileReader, MapReader, Reply, read_map};
+use smap_replies::{Failure, FileReader, MapReader, Reply, read_map_explained};
 use smap_verdicts::nearest_text;
 use std::alloc::{AllocError, Global};
 
@@ -24,19 +25,19 @@ pub struct LookUp {
     pub options: LookupOptions,
 }
 
-/// Looks a position up in the map that the file at this path is.
+/// Looks a position up in the map that the file at this path is. Where it is none, and that is asked, why is reported too.
 pub fn answer_lookup<F: FileReader>(
     alloc: Global,
     maps: &MapReader<'_, F>,
     path: &str,
     asked: LookUp,
 ) -> Result<Reply, Failure>
-    ensures { OrMemory (ReportsMap (F.gives maps.now.files.now) 0 path.now
+    ensures { OrMemory (ReportsMapWhy (F.gives maps.now.files.now) asked.options.explain 0 path.now
         (option_copied maps.now.base) maps.now.interval
         (IsLine (lookup_print asked.direction asked.options asked.line asked.column)))
         (report_of result) }
 {
-    let map = read_map(alloc, maps, 0, path)?;
+    let map = read_map_explained(alloc, maps, 0, path, asked.options.explain)?;
     Ok(Reply::Bytes(lookup_print(alloc, &map, asked)?))
 }
 

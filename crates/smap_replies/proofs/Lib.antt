@@ -3,3 +3,4 @@ pub mod NextLaws
 pub mod RunLaws
 mod ShownLaws
 pub mod TextLaws
+pub mod WhyLaws

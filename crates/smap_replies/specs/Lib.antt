@@ -8,3 +8,4 @@ pub mod Map
 pub mod Outcome
 pub mod Runs
 pub mod Streams
+pub mod Why

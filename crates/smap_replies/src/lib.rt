@@ -18,6 +18,7 @@ mod outcome;
 mod refusal;
 mod reporting;
 mod text;
+mod why;
 
 pub use files::{FileReader, Loaded, LoadedFiles, UnreadCause};
 pub use lines::{NO_MEMORY, file_failed_line};
@@ -27,3 +28,4 @@ pub use outcome::{DONE, FAILED, Failure, REFUSED, Reply};
 pub use refusal::{refusal_line, refusal_of, refused_argument, refused_by, refused_file};
 pub use reporting::{print_error, report};
 pub use text::{read_text, text_of};
+pub use why::{read_map_explained, refused_map, unread_file};

@@ -1,0 +1,57 @@
+-- Why a file gives no map, where that is asked.
+use Rattle.std.specs.Prelude.{◌≡◌, ℕ, ◌⊎◌, ◌++◌, Bool, true, false, List, Option, Some, Ok, Err, codes}
+use Rattle.smap_explain.specs.Explain.{IsExplained}
+use Rattle.smap_explain.specs.declared.explanation.Explanation.{Explanation}
+use Rattle.smap_io.specs.declared.transfer.ReadFailure.TheVariants.{Device}
+use Rattle.smap_record.specs.Codes.{map_code}
+use Rattle.smap_record.specs.Record.{MapRecord, record_of}
+use Rattle.smap_record.specs.declared.refusal.MapRefusal.{MapRefusal}
+use Rattle.smap_replies.specs.Files.{MayRead}
+use Rattle.smap_replies.specs.Lines.{file_failed_line, map_refused_line}
+use Rattle.smap_replies.specs.Map.{ReportsRead, refusal_result}
+use Rattle.smap_replies.specs.Outcome.{Report, failure, refusal}
+use Rattle.smap_replies.specs.declared.files.UnreadCause.{UnreadCause}
+use Rattle.smap_replies.specs.declared.files.UnreadCause.TheVariants as causes
+use Rattle.smap_verdicts.specs.Keys.{explanation_text}
+use Rattle.smap_verdicts.specs.Refusal.{refusal_text}
+use Rattle.url.specs.Parts.{Parts}
+
+-- ---- a map that is refused
+
+-- the line of a refusal, and then why the map is refused
+pub record IsWhyLine (bytes path : List ℕ) (refused : MapRefusal) (line : List ℕ) : Type 0 where
+  pub explanation : Explanation
+  pub known : IsExplained bytes refused explanation
+  pub text : line ≡ map_refused_line path (refusal_text refused) ++ explanation_text explanation
+
+-- a refusal is reported on standard error, and why, where that is asked
+abbrev pub IsRefused : (bytes path : List ℕ) → (explain : Bool) → MapRefusal → Report → Type 0
+IsRefused bytes path false refused report = report ≡ refusal_result path refused
+IsRefused bytes path true refused report = (line : List ℕ) × IsWhyLine bytes path refused line × (report ≡ refusal (Some (map_code refused)) line)
+
+-- ---- a file that can't be read
+
+-- why not
+abbrev pub cause_text : UnreadCause → List ℕ
+cause_text causes.Missing = codes "  there is no such file\n"
+cause_text causes.Folder = codes "  the path is that of a folder\n"
+cause_text causes.NoPermission = codes "  the file may not be read: permission is denied\n"
+cause_text causes.Other = codes "  reading the file failed for another cause\n"
+
+-- the file at a path can't be read, and that is reported, and why, where that is asked: the machine says the cause
+abbrev pub IsUnreadFor : (path : List ℕ) → (explain : Bool) → Report → Type 0
+IsUnreadFor path false report = report ≡ failure (file_failed_line path)
+IsUnreadFor path true report = (cause : UnreadCause) × (report ≡ failure (file_failed_line path ++ cause_text cause))
+
+-- ---- either
+
+-- the file of this number and path can't be read, or its bytes decide
+abbrev pub OfFileWhy : MayRead → (explain : Bool) → (number : ℕ) (path : List ℕ) → (List ℕ → Report → Type 0) → Report → Type 0
+OfFileWhy Reads explain number path Reports report =
+    (Reads number path (Err Device) × IsUnreadFor path explain report)
+    ⊎ ((bytes : List ℕ) × Reads number path (Ok bytes) × Reports bytes report)
+
+-- its map is refused, or what it states decides
+abbrev pub ReportsMapWhy : MayRead → (explain : Bool) → (number : ℕ) (path : List ℕ) → Option Parts → (k : ℕ) → (MapRecord → Report → Type 0) → Report → Type 0
+ReportsMapWhy Reads explain number path base k Reports =
+    OfFileWhy Reads explain number path (λ bytes. ReportsRead (IsRefused bytes path explain) (record_of bytes base k) Reports)

@@ -1,0 +1,140 @@
+//! Saying why a file gives no map, where that is asked.
+ghost use Rattle.std.specs.Prelude.{◌≡◌, ◌≢◌, ◌++◌, option_copied, string_bytes, true, IfErr, IfOk};
+ghost use Rattle.smap_record.specs.MapFile.{IsMapOf};
+ghost use Rattle.smap_record.specs.Record.{record_of};
+ghost use Rattle.smap_record.specs.declared.refusal.MapRefusal.TheVariants.{Memory};
+ghost use Rattle.smap_replies.specs.Lines.{file_failed_line};
+ghost use Rattle.smap_replies.specs.Map.{IsStated, Never, ReportsRead};
+ghost use Rattle.smap_replies.specs.Outcome.{OrMemory, failure_report};
+ghost use Rattle.smap_replies.specs.Why.{IsRefused, IsUnreadFor, IsWhyLine, ReportsMapWhy, cause_text};
+
+use crate::files::{FileReader, UnreadCause};
+use crate::lines::file_failed_line;
+use crate::map::{MapReader, read_map};
+use crate::outcome::Failure;
+use crate::refusal::refusal_line;
+use smap_explain::explain;
+use smap_io::ReadFailure;
+use smap_record::{MapFile, MapRefusal, Url};
+use smap_verdicts::explanation_text;
+use std::alloc::{AllocError, Global};
+
+/// The map that the file of this number and path is. Where it is none, and `explain` asks for that, why is reported too: for
+/// that the bytes of the file are kept until its map is read.
+pub fn read_map_explained<F: FileReader>(
+    alloc: Global,
+    maps: &MapReader<'_, F>,
+    number: usize,
+    path: &str,
+    explain: bool,
+) -> Result<MapFile, Failure>
+    ensures read { IfOk result (λ map. IsStated (F.gives maps.now.files.now) number path.now
+        (option_copied maps.now.base) maps.now.interval map.stated) }
+    ensures refused { IfErr result (λ failure. OrMemory
+        (ReportsMapWhy (F.gives maps.now.files.now) explain number path.now
+        (option_copied maps.now.base) maps.now.interval Never) (failure_report failure)) }
+{
+    if !explain {
+        return read_map(alloc, maps, number, path);
+    }
+    match maps.files.read_file(alloc, number, path) {
+        Ok(bytes) => explained_map(alloc, path, &bytes, maps.base, maps.interval),
+        Err(ReadFailure::Device) => Err(unread_file(alloc, maps.files, path, true)?),
+        Err(ReadFailure::Memory) => Err(Failure::Memory),
+    }
+}
+
+// The map that the bytes of the file at this path are, or why they are none.
+fn explained_map(
+    alloc: Global,
+    path: &str,
+    bytes: &[u8],
+    base: Option<&Url>,
+    interval: u32,
+) -> Result<MapFile, Failure>
+    ensures read { IfOk result
+        (IsMapOf (record_of bytes.now (option_copied base.entry) interval) interval) }
+    ensures refused { IfErr result (λ failure. OrMemory
+        (ReportsRead (IsRefused bytes.now path.now true)
+        (record_of bytes.now (option_copied base.entry) interval) Never) (failure_report failure)) }
+{
+    match MapFile::read(alloc, bytes, base, interval) {
+        Ok(map) => Ok(map),
+        Err(refused) => Err(refused_map(alloc, path, bytes, refused, true)?),
+    }
+}
+
+/// Why the map of the file of these bytes is refused: its refusal and, where that is asked, what is known of it. Out of
+/// memory is no refusal of the map.
+pub fn refused_map(
+    alloc: Global,
+    path: &str,
+    bytes: &[u8],
+    refused: MapRefusal,
+    explain: bool,
+) -> Result<Failure, AllocError>
+    ensures reported { IfOk result (λ failure. IsRefused bytes.now path.now explain refused
+        (failure_report failure)) }
+    ensures not_memory { IfOk result (λ _. refused ≢ Memory) }
+{
+    let line = if explain {
+        why_line(alloc, path, bytes, refused)?
+    } else {
+        refusal_line(alloc, path, refused)?
+    };
+    Ok(Failure::refusal(refused.code(), line))
+}
+
+// The line that reports a refusal, and the lines that say why.
+fn why_line(
+    alloc: Global,
+    path: &str,
+    bytes: &[u8],
+    refused: MapRefusal,
+) -> Result<String, AllocError>
+    ensures reported { IfOk result (λ line. IsWhyLine bytes.now path.now refused
+        (string_bytes line)) }
+    ensures not_memory { IfOk result (λ _. refused ≢ Memory) }
+{
+    let line = refusal_line(alloc, path, refused)?;
+    let explanation = explain(alloc, bytes, refused)?;
+    let why = explanation_text(alloc, &explanation)?;
+    format!(in alloc; "{line}{why}")
+}
+
+/// That the file at a path can't be read and, where that is asked, why not.
+pub fn unread_file<F: FileReader>(
+    alloc: Global,
+    reader: &F,
+    path: &str,
+    explain: bool,
+) -> Result<Failure, AllocError>
+    ensures { IfOk result (λ failure. IsUnreadFor path.now explain (failure_report failure)) }
+{
+    let line = if explain {
+        cause_line(alloc, path, reader.unread_cause(path))?
+    } else {
+        file_failed_line(alloc, path)?
+    };
+    Ok(Failure::Unreadable(line))
+}
+
+fn cause_line(alloc: Global, path: &str, cause: UnreadCause) -> Result<String, AllocError>
+    ensures { IfOk result (λ line. string_bytes line
+        ≡ file_failed_line path.now ++ cause_text cause) }
+{
+    let (line, cause) = (file_failed_line(alloc, path)?, cause_text(cause));
+    format!(in alloc; "{line}{cause}")
+}
+
+// Why a file can't be read, in a sentence.
+fn cause_text(cause: UnreadCause) -> &'static str
+    ensures { result.now ≡ cause_text cause }
+{
+    match cause {
+        UnreadCause::Missing => "  there is no such file\n",
+        UnreadCause::Folder => "  the path is that of a folder\n",
+        UnreadCause::NoPermission => "  the file may not be read: permission is denied\n",
+        UnreadCause::Other => "  reading the file failed for another cause\n",
+    }
+}
