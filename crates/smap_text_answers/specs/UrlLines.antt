@@ -83,6 +83,11 @@ CauseIs path report text = MatchBool (report.status == 3) ((cause : UnreadCause)
 abbrev pub late_text : (path : List ℕ) → List ℕ
 late_text path = codes "no map came from " ++ shown path
 
+-- ---- no URL was named
+
+abbrev pub no_frame_line : List ℕ
+no_frame_line = codes "no line is a frame: --anywhere finds places in other text, and a text in UTF-16 is to be converted first\n"
+
 module _ (Reads : MayRead) (paths : Bool) (base : Option Parts) (k number : ℕ) where
   abbrev pub IsCause : (url path text : List ℕ) → Type 0
   IsCause url path text =
@@ -107,8 +112,13 @@ module _ (Reads : MayRead) (paths : Bool) (base : Option Parts) (k number : ℕ)
     AreUrlLines [] text = text ≡ []
     AreUrlLines (note ∷ notes) text = (line : List ℕ) × (rest : List ℕ) × IsUrlLine note line × AreUrlLines notes rest × (text ≡ line ++ rest)
 
+    -- where no URL was named, no line is a frame, and that is said
+    abbrev pub AreAllLines : List UrlNoteSeen → (text : List ℕ) → Type 0
+    AreAllLines [] text = text ≡ no_frame_line
+    AreAllLines (note ∷ notes) text = AreUrlLines (note ∷ notes) text
+
     -- these lines are reported, or that memory ran out
     abbrev pub TellsUrls : NotesSeen → (status : ℕ) → (before after : SinkSeen) → Type 0
     TellsUrls notes status before after =
-        ((text : List ℕ) × (status ≡ 0) × (notes.is_short ≡ false) × AreUrlLines notes.notes text × IsReportedTo before after text)
+        ((text : List ℕ) × (status ≡ 0) × (notes.is_short ≡ false) × AreAllLines notes.notes text × IsReportedTo before after text)
         ⊎ ((status ≡ 3) × IsReportedTo before after memory_line)

@@ -5,7 +5,8 @@ ghost use Rattle.smap_locations.specs.ListLine.{is_rule};
 ghost use Rattle.smap_replies.specs.Arguments.{argument_of};
 ghost use Rattle.smap_replies.specs.Outcome.{failure_report};
 ghost use Rattle.smap_text.specs.Shown.{shown};
-ghost use Rattle.smap_text_answers.specs.UrlLines.{AreUrlLines, CauseIs, IsCause, IsEnd, IsUrlLine, TellsUrls, body_of, cause_text, counts_text, deciding_name, found_text, late_text, nearest_text, unknown_text, unmapped_text, unread_text, url_file, word_file};
+ghost use Rattle.smap_text_answers.specs.UrlLines.{AreAllLines, AreUrlLines, CauseIs, IsCause, IsEnd, IsUrlLine, TellsUrls};
+ghost use Rattle.smap_text_answers.specs.UrlLines.{body_of, cause_text, counts_text, deciding_name, found_text, late_text, nearest_text, unknown_text, unmapped_text, unread_text, url_file, word_file};
 ghost use Rattle.smap_trace.specs.NotesSeen.{note_seen, notes_seen};
 
 use crate::loader::FileLoader;
@@ -21,6 +22,10 @@ use std::alloc::{AllocError, Global};
 
 // How many bytes of a URL are printed.
 const MOST_URL_BYTES: usize = 1024;
+
+// No URL was noted: no line is a frame.
+const NO_FRAME: &str =
+    "no line is a frame: --anywhere finds places in other text, and a text in UTF-16 is to be converted first\n";
 
 /// Reports what became of the URLs that were noted, or that memory ran out, and gives the status of that.
 pub fn tell_urls<F: FileReader, E: ByteSink>(
@@ -47,7 +52,7 @@ pub fn tell_urls<F: FileReader, E: ByteSink>(
     }
 }
 
-// The lines of all URLs that were noted, where memory was enough.
+// The lines of all URLs that were noted, or that there is none, where memory was enough.
 fn lines_of<F: FileReader, E: ByteSink>(
     alloc: Global,
     request: &RewriteRequest<'_, '_, F>,
@@ -57,7 +62,7 @@ fn lines_of<F: FileReader, E: ByteSink>(
 ) -> Result<Vec<u8>, AllocError>
     ensures same { errors.new ≡ errors.old }
     ensures enough { IfOk result (λ _. notes.now.is_short ≡ false) }
-    ensures lines { IfOk result (λ text. AreUrlLines (F.gives request.now.maps.now.files.now) request.now.paths
+    ensures lines { IfOk result (λ text. AreAllLines (F.gives request.now.maps.now.files.now) request.now.paths
         (option_copied request.now.maps.now.base) request.now.maps.now.interval
         (length request.now.arguments.now + 1) (map argument_of request.now.arguments.now)
         sources.now.locations (map note_seen notes.now.notes.items) text.items) }
@@ -75,13 +80,31 @@ fn lines_of<F: FileReader, E: ByteSink>(
         reported: 0,
         refused: 0,
     };
-    lines_by(
+    all_lines(
         alloc,
         &loader,
         request.arguments,
         &sources.locations,
         &notes.notes,
     )
+}
+
+// The lines of all of these, or that there is none.
+fn all_lines<F: FileReader, E: ByteSink>(
+    alloc: Global,
+    loader: &FileLoader<'_, '_, '_, F, E>,
+    arguments: &[(String, String)],
+    locations: &Locations,
+    notes: &[UrlNote],
+) -> Result<Vec<u8>, AllocError>
+    ensures { IfOk result (λ text. AreAllLines (F.gives loader.now.maps.now.files.now) loader.now.paths
+        (option_copied loader.now.maps.now.base) loader.now.maps.now.interval loader.now.number
+        (map argument_of arguments.now) locations.now (map note_seen notes.now) text.items) }
+{
+    if notes.is_empty() {
+        return Vec::from_slice(alloc, NO_FRAME.as_bytes());
+    }
+    lines_by(alloc, loader, arguments, locations, notes)
 }
 
 // The lines of all of these.
