@@ -1,6 +1,6 @@
 -- What is said at the end of the URLs that a trace named: a line for each of the first 100, with what decided, and the file that its map came from, or
 -- why it had none (this project's own).
-use Rattle.std.specs.Prelude.{◌≡◌, ◌⊎◌, ℕ, ◌==◌, ◌&&◌, ◌-◌, Bool, false, not, List, [], ◌∷◌, ◌++◌, Option, Some, None, MatchBool, MatchOption, codes}
+use Rattle.std.specs.Prelude.{◌≡◌, ◌⊎◌, ℕ, ◌==◌, ◌&&◌, ◌-◌, Bool, false, not, List, [], ◌∷◌, ◌++◌, Option, Some, None, MatchBool, MatchOption, codes, if◌then◌else◌}
 use Rattle.std.specs.Prelude.{length, option_map, take, unwrap_or}
 use Rattle.std.specs.Fmt.{decimal}
 use Rattle.std.specs.List.{concat, find}
@@ -22,8 +22,11 @@ use Rattle.smap_text_answers.specs.Nearest.{nearest_of}
 use Rattle.smap_trace.specs.UrlNotes.{NotesSeen, UrlNoteSeen}
 
 -- how many frames name the URL, and how many of them were replaced
+abbrev pub frames_text : (frames : ℕ) → List ℕ
+frames_text frames = if frames == 1 then codes " frame, " else codes " frames, "
+
 abbrev pub counts_text : (frames mapped : ℕ) → List ℕ
-counts_text frames mapped = concat (codes ": " ∷ decimal frames ∷ codes " frames, " ∷ decimal mapped ∷ codes " mapped, " ∷ [])
+counts_text frames mapped = concat (codes ": " ∷ decimal frames ∷ frames_text frames ∷ decimal mapped ∷ codes " mapped, " ∷ [])
 
 -- ---- a map was found
 

@@ -6,7 +6,7 @@ ghost use Rattle.smap_replies.specs.Arguments.{argument_of};
 ghost use Rattle.smap_replies.specs.Outcome.{failure_report};
 ghost use Rattle.smap_text.specs.Shown.{shown};
 ghost use Rattle.smap_text_answers.specs.UrlLines.{AreAllLines, AreUrlLines, CauseIs, IsCause, IsEnd, IsUrlLine, TellsUrls};
-ghost use Rattle.smap_text_answers.specs.UrlLines.{body_of, cause_text, counts_text, deciding_name, found_text, late_text, nearest_text, unknown_text, unmapped_text, unread_text, url_file, word_file};
+ghost use Rattle.smap_text_answers.specs.UrlLines.{body_of, cause_text, counts_text, deciding_name, found_text, frames_text, late_text, nearest_text, unknown_text, unmapped_text, unread_text, url_file, word_file};
 ghost use Rattle.smap_trace.specs.NotesSeen.{note_seen, notes_seen};
 
 use crate::loader::FileLoader;
@@ -163,7 +163,15 @@ fn shown_url(alloc: Global, url: &[u8]) -> Result<Vec<u8>, AllocError>
 fn counts_text(alloc: Global, frames: u64, mapped: u64) -> Result<String, AllocError>
     ensures { IfOk result (λ text. string_bytes text ≡ counts_text frames mapped) }
 {
-    format!(in alloc; ": {frames} frames, {mapped} mapped, ")
+    let named = frames_text(frames);
+    format!(in alloc; ": {frames}{named}{mapped} mapped, ")
+}
+
+// What so many frames are called, for one line.
+fn frames_text(frames: u64) -> &'static str
+    ensures { result.now ≡ frames_text frames }
+{
+    if frames == 1 { " frame, " } else { " frames, " }
 }
 
 // The end of the line of a URL: where its map came from, or why it has none.
