@@ -18,6 +18,7 @@ use Rattle.smap_replies.specs.declared.files.UnreadCause.{UnreadCause}
 use Rattle.smap_replies.specs.declared.files.UnreadCause.TheVariants as causes
 use Rattle.smap_text.specs.Shown.{shown}
 use Rattle.smap_text_answers.specs.Loader.{FailsToRead}
+use Rattle.smap_store.specs.Fileless.{asks_no_file}
 use Rattle.smap_text_answers.specs.Nearest.{nearest_of}
 use Rattle.smap_trace.specs.UrlNotes.{NotesSeen, UrlNoteSeen}
 
@@ -53,6 +54,11 @@ unmapped_text (Some (line, column)) = codes ", no mapping at " ++ (decimal line 
 
 abbrev pub found_text : (name file : List ℕ) → (unmapped : Option (ℕ × ℕ)) → List ℕ
 found_text name file unmapped = concat (codes "by " ∷ shown (take 1024 name) ∷ codes " from " ∷ shown file ∷ unmapped_text unmapped ∷ [])
+
+-- ---- no file is asked for it
+
+abbrev pub no_file_asked_text : List ℕ
+no_file_asked_text = codes "no file is asked for such a URL"
 
 -- ---- no argument has the URL
 
@@ -101,7 +107,8 @@ module _ (Reads : MayRead) (paths : Bool) (base : Option Parts) (k number : ℕ)
   module _ (arguments : List (List ℕ × List ℕ)) (locations : LocationsSeen) where
     -- why a URL has no map
     abbrev pub IsWhy : (url text : List ℕ) → Type 0
-    IsWhy url text = MatchOption (path_for locations url) (text ≡ unknown_text (nearest_of url arguments)) (λ path. IsCause url path text)
+    IsWhy url text = MatchBool (asks_no_file locations url) (text ≡ no_file_asked_text)
+        (MatchOption (path_for locations url) (text ≡ unknown_text (nearest_of url arguments)) (λ path. IsCause url path text))
 
     abbrev pub IsEnd : UrlNoteSeen → (text : List ℕ) → Type 0
     IsEnd note text = MatchBool note.found (text ≡ found_text (deciding_name note.url arguments locations) (url_file note.url arguments locations) note.unmapped) (IsWhy note.url text)

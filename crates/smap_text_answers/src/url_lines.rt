@@ -16,12 +16,16 @@ use crate::sources::MapSources;
 use smap_io::ByteSink;
 use smap_locations::{Locations, is_rule};
 use smap_replies::{DONE, FAILED, Failure, FileReader, NO_MEMORY, UnreadCause, print_error};
+use smap_store::asks_no_file;
 use smap_text::{shown, shown_byte};
 use smap_trace::{UrlNote, UrlNotes};
 use std::alloc::{AllocError, Global};
 
 // How many bytes of a URL are printed.
 const MOST_URL_BYTES: usize = 1024;
+
+// The end of the line of a URL for which no file is asked, as of node's own modules.
+const NO_FILE_ASKED: &str = "no file is asked for such a URL";
 
 // No URL was noted: no line is a frame.
 const NO_FRAME: &str =
@@ -190,6 +194,9 @@ fn end_of<F: FileReader, E: ByteSink>(
         let file = url_file(alloc, &note.url, arguments, locations)?;
         let name = deciding_name(alloc, &note.url, arguments, locations)?;
         return found_text(alloc, &name, &file, note.unmapped);
+    }
+    if asks_no_file(locations, &note.url) {
+        return Vec::from_slice(alloc, NO_FILE_ASKED.as_bytes());
     }
     match locations.path_for(alloc, &note.url)? {
         Some(path) => cause_of(alloc, loader, &note.url, &path),
