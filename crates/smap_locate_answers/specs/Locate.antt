@@ -97,5 +97,5 @@ LocatesOver Reads base k request (Ok sources) status before after =
 
 abbrev pub RunsLocate : MayRead → Option Parts → (k : ℕ) → RequestSeen → (status : ℕ) → (before after : Streams) → Type 0
 RunsLocate Reads base k request status before after =
-    (gathered : Result MapSources Report) × GathersSources Reads request.paths base k request.arguments request.list gathered
+    (gathered : Result MapSources Report) × GathersSources Reads request.paths false base k request.arguments request.list gathered
     × LocatesOver Reads base k request gathered status before after

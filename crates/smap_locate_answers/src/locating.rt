@@ -86,6 +86,7 @@ pub fn answer_locate<F: FileReader, R: ByteSource, W: ByteSink, E: ByteSink>(
         alloc,
         request.maps,
         request.paths,
+        false,
         request.arguments,
         request.list,
     ) {

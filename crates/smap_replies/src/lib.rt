@@ -21,7 +21,7 @@ mod text;
 mod why;
 
 pub use files::{FileReader, Loaded, LoadedFiles, UnreadCause};
-pub use lines::{NO_MEMORY, file_failed_line};
+pub use lines::{NO_MEMORY, file_failed_line, list_refused_line};
 pub use lists::{reason_of, refused_list};
 pub use map::{MapReader, file_bytes, map_of, read_map, read_map_at};
 pub use outcome::{DONE, FAILED, Failure, REFUSED, Reply};

@@ -79,7 +79,7 @@ a_folder_is_not_read Reads = refl
 -- ---- a list, whose number is that behind the arguments
 
 a_list_is_refused : (Reads : MayRead) → Reads 1 (codes "all.txt") (Ok (codes "#\nu m.map\n"))
-    → GathersSources Reads false None 128 ((codes "app:///", codes "maps/") ∷ []) (Some (codes "all.txt"))
+    → GathersSources Reads false false None 128 ((codes "app:///", codes "maps/") ∷ []) (Some (codes "all.txt"))
     (Err (misuse (line_from (codes "usage: all.txt line " ∷ decimal 2 ∷ codes ": no TAB" ∷ []))))
 unfolding is_bad_url shown is_utf8 chars encode
 a_list_is_refused Reads reads = (

@@ -1,5 +1,5 @@
 -- What the rules and the list come to over which a text is rewritten.
-use Rattle.std.proofs.Common.{◌≡◌, ℕ, ◌⊎◌, List, ◌∷◌, refl, sym, ap, subst, ◌∙◌, inl, inr}
+use Rattle.std.proofs.Common.{◌≡◌, ℕ, Bool, ◌⊎◌, List, ◌∷◌, refl, sym, ap, subst, ◌∙◌, inl, inr}
 use Rattle.std.specs.Prelude.{true, false, Option, Some, None, Result, Ok, Err, MatchBool, MatchOption}
 use Rattle.std.specs.Option.{IsSomeAnd}
 use Rattle.std.specs.Str.Lines.{lines}
@@ -9,10 +9,11 @@ use Rattle.smap_store.specs.MapList.{AreTaken, IsRefusedAt, PutsRule, rule_fault
 use Rattle.smap_locations.specs.ListLine.{is_rule}
 use Rattle.smap_locations.specs.declared.refusal.ListFault.{ListFault}
 use Rattle.smap_locations.specs.declared.refusal.ListRefusal.{ListRefusal}
+use Rattle.smap_replies.specs.Lines.{list_refused_line}
 use Rattle.smap_replies.specs.Map.{refused_file}
-use Rattle.smap_replies.specs.Outcome.{OrMemory, Report, out_of_memory}
+use Rattle.smap_replies.specs.Outcome.{OrMemory, Report, misuse, out_of_memory}
 use Rattle.smap_text_answers.specs.Private.Sources.{IsRuleRefusal}
-use Rattle.smap_text_answers.specs.Sources.{AddsLines, AddsList, NamesRules, rule_refusal}
+use Rattle.smap_text_answers.specs.Sources.{AddsAllowed, AddsLines, AddsList, NamesRules, excluded_line, excluded_reason, rule_refusal}
 use Rattle.smap_replies.specs.Lists.{list_bytes_refusal, list_refusal}
 use Rattle.smap_text_answers.specs.Trace.{Maps}
 use Rattle.smap_text_answers.specs.declared.sources.MapSources.{MapSources}
@@ -60,29 +61,47 @@ module _ (arguments rest : List (List ℕ × List ℕ)) (url path : List ℕ) (o
 
 -- ---- a list
 
-module _ (list bytes : List ℕ) (words : Maps) (old : LocationsSeen) where
+module _ (anywhere : Bool) (list bytes : List ℕ) (words : Maps) (old : LocationsSeen) where
+  abbrev Adds : Result MapSources Report → Type 0
+  Adds = AddsList anywhere list bytes words old
+
   -- its bytes are refused
   refused_for : (why : Option Code) (report : Report) → IsSomeAnd why (λ code. report ≡ refused_file list code)
-      → MatchOption why (AddsLines list bytes words old (Err report)) (λ code. ◌≡◌ {A = Result MapSources Report} (Err report) (Err (refused_file list code)))
+      → MatchOption why (AddsAllowed anywhere list bytes words old (Err report))
+      (λ code. ◌≡◌ {A = Result MapSources Report} (Err report) (Err (refused_file list code)))
   refused_for None report reported = absurd reported
   refused_for (Some code) report reported = ap Err reported
 
   pub adds_no_text : (report : Report) → OrMemory (λ t. IsSomeAnd (list_bytes_refusal bytes) (λ code. t ≡ refused_file list code)) report
-      → AddsList list bytes words old (Err report)
+      → Adds (Err report)
   adds_no_text report (inl no_memory) = inl (ap Err no_memory)
   adds_no_text report (inr reported) = inr (refused_for (list_bytes_refusal bytes) report reported)
 
-  of_lines : list_bytes_refusal bytes ≡ None → (result : Result MapSources Report) → AddsLines list bytes words old result → AddsList list bytes words old result
-  of_lines is_text result adds =
-      inr (subst (λ r. MatchOption r (AddsLines list bytes words old result) (λ code. result ≡ Err (refused_file list code)))
+  of_text : list_bytes_refusal bytes ≡ None → (result : Result MapSources Report) → AddsAllowed anywhere list bytes words old result → Adds result
+  of_text is_text result adds =
+      inr (subst (λ r. MatchOption r (AddsAllowed anywhere list bytes words old result) (λ code. result ≡ Err (refused_file list code)))
       (sym is_text) adds)
 
-  -- whose lines are taken
-  pub adds_taken : list_bytes_refusal bytes ≡ None → (new : LocationsSeen) → AreTaken words (lines bytes) old new
-      → AddsList list bytes words old (Ok (record { words = words; locations = new }))
-  adds_taken is_text new taken = of_lines is_text _ (Ok tt, (new, taken, refl))
+  -- a line is excluded
+  pub adds_excluded : list_bytes_refusal bytes ≡ None → (number : ℕ) → excluded_line anywhere bytes ≡ Some number
+      → (report : Report) → report ≡ misuse (list_refused_line list number excluded_reason) → Adds (Err report)
+  adds_excluded is_text number excluded report reported =
+      of_text is_text (Err report) (subst (λ r. MatchOption r (AddsLines list bytes words old (Err report))
+      (λ number. ◌≡◌ {A = Result MapSources Report} (Err report) (Err (misuse (list_refused_line list number excluded_reason)))))
+      (sym excluded) (ap Err reported))
+
+  of_lines : list_bytes_refusal bytes ≡ None → excluded_line anywhere bytes ≡ None → (result : Result MapSources Report)
+      → AddsLines list bytes words old result → Adds result
+  of_lines is_text allowed result adds =
+      of_text is_text result (subst (λ r. MatchOption r (AddsLines list bytes words old result)
+      (λ number. result ≡ Err (misuse (list_refused_line list number excluded_reason)))) (sym allowed) adds)
+
+  -- its lines are taken
+  pub adds_taken : list_bytes_refusal bytes ≡ None → excluded_line anywhere bytes ≡ None → (new : LocationsSeen) → AreTaken words (lines bytes) old new
+      → Adds (Ok (record { words = words; locations = new }))
+  adds_taken is_text allowed new taken = of_lines is_text allowed _ (Ok tt, (new, taken, refl))
 
   -- up to one that is refused
-  pub adds_refused : list_bytes_refusal bytes ≡ None → (new : LocationsSeen) (refused : ListRefusal) → IsRefusedAt words (lines bytes) old new refused
-      → (report : Report) → report ≡ list_refusal list refused → AddsList list bytes words old (Err report)
-  adds_refused is_text new refused at report reported = of_lines is_text _ (Err refused, (new, at, ap Err reported))
+  pub adds_refused : list_bytes_refusal bytes ≡ None → excluded_line anywhere bytes ≡ None → (new : LocationsSeen) (refused : ListRefusal)
+      → IsRefusedAt words (lines bytes) old new refused → (report : Report) → report ≡ list_refusal list refused → Adds (Err report)
+  adds_refused is_text allowed new refused at report reported = of_lines is_text allowed _ (Err refused, (new, at, ap Err reported))

@@ -264,5 +264,5 @@ RewritesSources Reads base k request (Ok sources) status before after =
 
 abbrev pub RewritesFrom : MayRead → Option Parts → (k : ℕ) → RequestSeen → (status : ℕ) → (before after : Streams) → Type 0
 RewritesFrom Reads base k request status before after =
-    (gathered : Result MapSources Report) × GathersSources Reads request.paths base k request.arguments request.list gathered
+    (gathered : Result MapSources Report) × GathersSources Reads request.paths request.anywhere base k request.arguments request.list gathered
     × RewritesSources Reads base k request gathered status before after

@@ -76,6 +76,7 @@ pub fn rewrite_from<F: FileReader, R: ByteSource, W: ByteSink, E: ByteSink>(
         alloc,
         request.maps,
         request.paths,
+        request.anywhere,
         request.arguments,
         request.list,
     ) {
