@@ -21,6 +21,7 @@ mod maps;
 mod numbers;
 mod originals;
 mod parsed;
+mod paths;
 mod positions;
 mod row;
 mod runs;
@@ -144,6 +145,9 @@ fn answer_file_row(row: &Row<'_>, answer: &mut Answer) -> Result<(), RowFault> {
         "compose" => composing::two(row, answer),
         "compose_three" => composing::three(row, answer),
         "frame" => traces::parts(row, answer),
+        "table" => traces::added(row, answer),
+        "path" => paths::answer(row, answer),
+        "list" => paths::list(row, answer),
         "rewrite" => traces::frames(row, answer),
         "rewrite_places" => traces::places(row, answer),
         "read_position" => positions::answer(row, answer),

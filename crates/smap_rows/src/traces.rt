@@ -6,8 +6,11 @@ use crate::maps::map_at;
 use crate::row::Row;
 use smap_io::MemorySink;
 use smap_places::rewrite_places;
-use smap_record::Url;
+use smap_record::{MapFile, Url};
 use smap_trace::{RewriteFault, Summary, Table, frame, rewrite};
+
+// A map without mappings.
+const EMPTY_MAP: &[u8] = br#"{"version":3,"sources":[],"mappings":""}"#;
 
 /// A line: the parts of the frame that it is, or `none`.
 pub fn parts(row: &Row<'_>, answer: &mut Answer) -> Result<(), RowFault> {
@@ -22,8 +25,8 @@ pub fn parts(row: &Row<'_>, answer: &mut Answer) -> Result<(), RowFault> {
     answer.put(frame.tail)
 }
 
-// The table of the maps of a row, from this field on: the URL of each, which is its base where it is one, and the map.
-fn table_of(row: &Row<'_>, first: usize, interval: u32) -> Result<Table, RowFault> {
+/// The table of the maps of a row, from this field on: the URL of each, which is its base where it is one, and the map.
+pub fn table_of(row: &Row<'_>, first: usize, interval: u32) -> Result<Table, RowFault> {
     let mut table = Table::new(row.alloc());
     for number in (first..row.count()).step_by(2) {
         let url = row.text(number)?;
@@ -34,6 +37,21 @@ fn table_of(row: &Row<'_>, first: usize, interval: u32) -> Result<Table, RowFaul
         }
     }
     Ok(table)
+}
+
+/// URLs: what comes of adding a map under each to one table, with the URL that comes back; and how many the table has then.
+pub fn added(row: &Row<'_>, answer: &mut Answer) -> Result<(), RowFault> {
+    let mut table = Table::new(row.alloc());
+    for number in 1..row.count() {
+        let map = MapFile::read(row.alloc(), EMPTY_MAP, None, 64).map_err(|_| RowFault::Refused)?;
+        match table.add(row.text(number)?, map) {
+            Ok(()) => answer.put_text("added")?,
+            Err((refusal, url, _map)) => {
+                answer.put_text(&format!(in row.alloc(); "{refusal:?} {url}")?)?;
+            }
+        }
+    }
+    answer.put_number(table.count() as u64)
 }
 
 fn put_outcome(

@@ -1,13 +1,8 @@
-//! The tests of traces and of where maps are found that no row of smap_rows can say. There is nothing here to call.
+//! The tests of places and of maps that are read when they are named that no row of smap_rows can say. There is nothing here to
+//! call.
 #![tactic(auto)]
 
 #[cfg(test)]
-mod locations;
-#[cfg(test)]
 mod places;
 #[cfg(test)]
-mod same;
-#[cfg(test)]
 mod stored;
-#[cfg(test)]
-mod tables;

@@ -1,5 +1,5 @@
-//! Maps that are read when they are named, and lists of them.
-use smap_locations::{ListFault, ListRefusal, Locations};
+//! Maps that are read when they are named.
+use smap_locations::Locations;
 use smap_record::MapFile;
 use smap_store::{LoadedMap, MapCache, MapLoader, NoMap, StoredMaps, add_list};
 use smap_trace::{Maps, Table};
@@ -155,37 +155,6 @@ fn a_pattern_is_read_once_for_a_cut_url(rt: HostRuntime) -> Result<(), Fail> {
         maps.find(url.as_bytes());
         assert!(&rt; maps.map_for(url.as_bytes()).is_some());
         assert_eq!(&rt; loader.asked, asked);
-    }
-    Ok(())
-}
-
-// A list, and the first line that is refused.
-const REFUSED: [(&str, u64, ListFault); 11] = [
-    ("#\nhttps://a.test/a.js a.map\n", 2, ListFault::NoTab),
-    ("https://a.test/js\tmaps/\n", 1, ListFault::NoFolder),
-    ("\tmaps/\n", 1, ListFault::NoFolder),
-    ("\ta.map\n", 1, ListFault::BadUrl),
-    ("a\rb\ta.map\n", 1, ListFault::BadUrl),
-    ("a\tb\tc\na\td", 2, ListFault::Twice),
-    (
-        "app:///\tmaps/\r\n\r\napp:///\tother/\r\nx",
-        3,
-        ListFault::Twice,
-    ),
-    ("https://a.test/word.js\ta.map", 1, ListFault::Twice),
-    ("*\ta.map\n*\tb.map", 2, ListFault::Twice),
-    ("*dist\tmaps/", 1, ListFault::NoFolder),
-    ("*a\rb\ta.map", 1, ListFault::BadUrl),
-];
-
-#[test]
-fn the_first_bad_line_is_reported(rt: HostRuntime) -> Result<(), Fail> {
-    let alloc = rt.alloc();
-    let words = words(alloc)?;
-    for (text, line, fault) in REFUSED {
-        let mut locations = Locations::new(alloc);
-        let refusal = add_list(alloc, &mut locations, &words, text);
-        assert_eq!(&rt; refusal, Err(ListRefusal { line, fault }));
     }
     Ok(())
 }
