@@ -10,7 +10,7 @@ ROWS=$(mktemp)
 export ROWS
 trap 'rm -f -- "$ROWS"' EXIT
 
-for script in lookup sections raw lines show mappings compose rewrite folders positions anywhere check; do
+for script in lookup sections raw lines show mappings compose rewrite folders positions locate anywhere check; do
     printf '\n== %s.sh\n' "$script"
     "$here/$script.sh"
 done
