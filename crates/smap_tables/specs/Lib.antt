@@ -1,0 +1,3 @@
+pub mod UrlTable
+pub mod PatternSeen
+pub mod Laws
