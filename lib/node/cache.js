@@ -4,7 +4,7 @@ const fs = require('fs');
 const path = require('path');
 const addon = require('./addon.js');
 const given = require('./given.js');
-const { TraceMap, Under, open } = require('./map.js');
+const { TraceMap, Under, open, standingUnder } = require('./map.js');
 const { Table, Told, counted, rewritten, rewriting, stripped } = require('./table.js');
 const { besidePlaces, cut, isLocation, isPlain, ofFrames } = require('./urls.js');
 
@@ -16,17 +16,23 @@ const LF = 10;
 
 const sizeOf = (key, map) => Buffer.byteLength(key) + ENTRY_BYTES + (map ? map.nbytes : 0);
 
-// The map of what was given, which stands at its URL where that is one.
-const readAs = (url, data) => (data instanceof TraceMap ? data : new TraceMap(data, new Under(url)));
+// The map of what was given, which stands at its URL where that is one, or has its sources named by it.
+function readAs(url, data, paths) {
+  const under = new Under(url, paths);
+  if (!(data instanceof TraceMap)) return new TraceMap(data, under);
+  standingUnder(under, data);
+  return data;
+}
 
 // Maps by URL. `load` is asked for the map of a URL when it is first wanted, and gives it, or null or undefined where there is none, as
-// for a Table; `loadAsync` gives a promise of it. Maps are kept while they count for at most `maxBytes` bytes of memory, or one by itself:
-// what was longest not asked for goes first. What both throw, and why a map is refused, is told to `refused`, or else kept in `refusals`,
-// of which there are 100 at most; that URL has no map until it is discarded.
+// for a Table, as is `paths`; `loadAsync` gives a promise of it. Maps are kept while they count for at most `maxBytes` bytes of memory, or
+// one by itself: what was longest not asked for goes first. What both throw, and why a map is refused, is told to `refused`, or else kept
+// in `refusals`, of which there are 100 at most; that URL has no map until it is discarded.
 class Maps extends Told {
   #load;
   #loadAsync;
   #atOnce;
+  #paths;
   // What is kept by URL, in the order in which it was asked for: {map, size, isLent}.
   #kept = new Map();
   #size = 0;
@@ -35,12 +41,14 @@ class Maps extends Told {
   #tableSize = 0;
 
   constructor(options) {
-    const { load, loadAsync, maxBytes, refused, atOnce = 8 } = given.options(options, 'load', 'loadAsync', 'maxBytes', 'refused', 'atOnce');
+    const words = ['load', 'loadAsync', 'maxBytes', 'refused', 'atOnce', 'paths'];
+    const { load, loadAsync, maxBytes, refused, atOnce = 8, paths = false } = given.options(options, ...words);
     super(refused);
     [this.#load, this.#loadAsync] = [given.callable(load, 'load'), given.callable(loadAsync, 'loadAsync')];
     if (!load && !loadAsync) throw new TypeError('`load` or `loadAsync` is wanted');
     this.maxBytes = given.count(maxBytes, 'maxBytes', Number.MAX_SAFE_INTEGER);
     this.#atOnce = Math.max(given.count(atOnce, 'atOnce', 1000), 1);
+    this.#paths = given.boolean(paths, 'paths');
     this.counts = null;
   }
 
@@ -54,7 +62,7 @@ class Maps extends Told {
       if (!url.startsWith(prefix) || !isPlain(rest)) return null;
       return readFile(path.join(folder, `${rest}.map`));
     };
-    return new Maps({ ...given.options(options, 'maxBytes', 'refused'), load });
+    return new Maps({ ...given.options(options, 'maxBytes', 'refused', 'paths'), load });
   }
 
   // For how many bytes of memory what is kept counts.
@@ -94,7 +102,7 @@ class Maps extends Told {
 
   // Puts a map under this very URL, in place of what is kept of it.
   add(url, map) {
-    this.#keep(given.text(url, 'url'), readAs(url, map), map instanceof TraceMap);
+    this.#keep(given.text(url, 'url'), readAs(url, map, this.#paths), map instanceof TraceMap);
   }
 
   // Drops what is kept of a URL, so that its map is asked for anew.
@@ -248,7 +256,7 @@ class Maps extends Told {
   #mapOf(key, data) {
     if (data === null || data === undefined) return null;
     try {
-      return readAs(key, data);
+      return readAs(key, data, this.#paths);
     } catch (error) {
       this.tell(key, error);
       return null;

@@ -287,13 +287,15 @@ export interface MapsOptions {
   refused?: (url: string, error: unknown) => void;
   /** So many promises are waited for at once, 8 if not given. */
   atOnce?: number;
+  /** As a table's. */
+  paths?: boolean;
 }
 
 /** Maps by URL within a bound of memory: what was longest not asked for goes first. */
 export class Maps {
   constructor(options: MapsOptions);
   /** Those of URLs with this prefix, which ends in `/`, in a folder: that of PREFIXjs/app.js is js/app.js.map. */
-  static folder(prefix: string, root: string, options: Pick<MapsOptions, 'maxBytes' | 'refused'>): Maps;
+  static folder(prefix: string, root: string, options: Pick<MapsOptions, 'maxBytes' | 'refused' | 'paths'>): Maps;
   maxBytes: number;
   /** For how many bytes what is kept counts, and how many maps are kept. */
   readonly nbytes: number;

@@ -8,6 +8,8 @@ const { numbersTo, outlineOf, renamed } = require('./outline.js');
 const { besideMap, isPath } = require('./paths.js');
 const { BAD_BASE, Refused, refusedGenerated, refusedMap, refusedWriting } = require('./refused.js');
 
+// How an absolute path begins.
+const PATH = /^(\/|[A-Za-z]:[/\\])/;
 // What `using` calls at the end of a block.
 const DISPOSE = Symbol.dispose || Symbol.for('nodejs.dispose');
 
@@ -35,6 +37,18 @@ function standingAt(bytes, url) {
   return readOr(() => read(bytes, '', 64, url), bytes, url, 64, url);
 }
 
+// The map that is given under a URL, as a handle: a TraceMap's own, or that of these bytes, which stands there. With `paths` one whose URL
+// is an absolute path stands at none, and has its sources named by that.
+function standingUnder({ url, paths }, map) {
+  const isRead = map instanceof TraceMap;
+  const isByPath = paths && PATH.test(url);
+  const handle = isRead ? open(map) : standingAt(given.mapBytes(map), isByPath ? null : url);
+  if (!isByPath) return handle;
+  addon.usePaths(handle, Buffer.from(url));
+  if (isRead) forget(map);
+  return handle;
+}
+
 // The map of these bytes at a URL or a path, or at none.
 function readAt(bytes, base, interval) {
   return readOr((refused) => {
@@ -51,10 +65,10 @@ function readAtPath(bytes, path, interval) {
   return read(renamed(bytes, names.map((name) => besideMap(path, name))), '', interval, path);
 }
 
-// That a map stands at this URL, or at none where it is no URL: a path is none here.
+// That a map stands at this URL, or at none where it is no URL: a path is none here; and whether its sources are named by paths.
 class Under {
-  constructor(url) {
-    this.url = url;
+  constructor(url, paths) {
+    [this.url, this.paths] = [url, paths];
   }
 }
 
@@ -156,6 +170,12 @@ function empty(map) {
   map.inner.made.clear();
 }
 
+// Leaves out what was made of the names of a map's sources, which are others now.
+function forget(map) {
+  map.inner.made.clear();
+  map.inner.sourceTexts.length = 0;
+}
+
 // A source map that was read: of a text, a Uint8Array or a parsed map, which stands at the URL or path `mapUrl`, if there is
 // one. What is given is not kept. It is freed by `close`, or when nothing names it any more. A TraceMap is itself.
 class TraceMap {
@@ -168,7 +188,7 @@ class TraceMap {
     }
     const bytes = given.mapBytes(map);
     const isUnder = mapUrl instanceof Under;
-    const handle = isUnder ? standingAt(bytes, mapUrl.url) : readAt(bytes, given.mapUrl(mapUrl), given.interval(interval));
+    const handle = isUnder ? standingUnder(mapUrl, bytes) : readAt(bytes, given.mapUrl(mapUrl), given.interval(interval));
     const outline = outlineOf(bytes);
     // The text of no lines is that of one line without segments.
     if (Array.isArray(map.mappings) && map.mappings.length === 0) outline.least = 0;
@@ -281,4 +301,18 @@ class TraceMap {
   }
 }
 
-module.exports = { DISPOSE, TraceMap, Under, empty, encodedMappings, linesOf, namesOf, once, open, read, standingAt, withMappings };
+module.exports = {
+  DISPOSE,
+  TraceMap,
+  Under,
+  empty,
+  encodedMappings,
+  linesOf,
+  namesOf,
+  once,
+  open,
+  read,
+  standingAt,
+  standingUnder,
+  withMappings,
+};

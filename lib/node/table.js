@@ -3,11 +3,9 @@
 const addon = require('./addon.js');
 const given = require('./given.js');
 const { ask, askFor, cutAndRewritten } = require('./loading.js');
-const { DISPOSE, TraceMap, empty, open: openMap, standingAt } = require('./map.js');
+const { DISPOSE, TraceMap, Under, empty, standingUnder } = require('./map.js');
 const { refusedText, refusedUrl } = require('./refused.js');
 
-// How an absolute path begins.
-const PATH = /^(\/|[A-Za-z]:[/\\])/;
 // So many of the maps that were refused are remembered.
 const MOST_REFUSALS = 100;
 
@@ -51,11 +49,10 @@ class Table extends Told {
 
   // Puts a map into the table.
   put(url, map) {
-    const isRead = map instanceof TraceMap;
-    const handle = isRead ? openMap(map) : standingAt(given.mapBytes(map), this.paths && PATH.test(url) ? null : url);
-    const reported = addon.add(open(this), Buffer.from(url), handle, this.paths ? 1 : 0);
+    const handle = standingUnder(new Under(url, this.paths), map);
+    const reported = addon.add(open(this), Buffer.from(url), handle);
     if (typeof reported === 'number') throw refusedUrl(reported, url);
-    if (isRead) empty(map);
+    if (map instanceof TraceMap) empty(map);
   }
 
   // Where a place in the file of a URL comes from, the line from 1 and the column from 0, by the map under it or else under it without

@@ -128,6 +128,27 @@ function folders(folder) {
   raises('no prefix', Error, () => Maps.folder('https://e.test', folder, { maxBytes: 1 }));
 }
 
+function pathsOfMaps(folder) {
+  const text = '{"version":3,"sources":["../../src/x.ts"],"mappings":"AAAA"}';
+  fs.mkdirSync(path.join(folder, 'dist/util'), { recursive: true });
+  fs.writeFileSync(path.join(folder, 'dist/util/x.js.map'), text);
+  for (const [root, source] of [['/srv/app/dist/', '/srv/app/src/x.ts'], ['https://e.test/dist/', 'https://e.test/src/x.ts']]) {
+    const maps = Maps.folder(root, path.join(folder, 'dist'), { maxBytes: 1 << 20, paths: true });
+    for (let i = 0; i < 2; i += 1) {
+      insist(`a map below ${root}`, maps.lookUp(`${root}util/x.js`, 1, 0).source, source);
+      insist(`a trace below ${root}`, rewrite(maps, `    at f (${root}util/x.js?v=1:1:1)\n`).toString(), `    at f (${source}:1:1)\n`);
+    }
+  }
+  const maps = new Maps({ load: () => new TraceMap(text), maxBytes: 1 << 20, paths: true });
+  insist('a map that was read', rewrite(maps, 'f@/srv/app/dist/util/x.js:1:1').toString(), 'f@/srv/app/src/x.ts:1:1');
+  const read = new TraceMap(text);
+  insist('a source', read.resolvedSources, ['../../src/x.ts']);
+  maps.add('/srv/dist/y.js', read);
+  insist('one that was added', maps.get('/srv/dist/y.js').resolvedSources, ['/src/x.ts']);
+  const others = new Maps({ load: () => text, maxBytes: 1 << 20 });
+  insist('without paths', others.lookUp('/srv/app/dist/util/x.js', 1, 0).source, '../../src/x.ts');
+}
+
 const trace = `Error: x\n    at f (https://e.test/a.js:1:5)\n    at https://e.test/b.js?v=1:1:1\n    at g (https://e.test/none.css:1:1)
     at eval ([native code]:1:1)\n    at h (https://e.test/a.js#x:1:5)\n`;
 const wanted = `Error: x\n    at f (https://e.test/a.ts:2:2)\n    at https://e.test/b.ts:1:1\n    at g (https://e.test/none.css:1:1)
@@ -218,6 +239,7 @@ async function waiting() {
   bounded();
   refusals();
   folders(process.argv[2]);
+  pathsOfMaps(process.argv[2]);
   rewriting();
   await streams();
   await waiting();

@@ -69,6 +69,24 @@ def paths():
             insist(f"paths that are loaded at {url}", rewriter.rewrite(f"    at f ({url}?v=1:1:1)\n").decode(), f"    at f ({wanted}:1:1)\n")
     with Rewriter({"/srv/dist/x.js": text}) as rewriter:
         insist("no paths", rewriter.rewrite("    at f (/srv/dist/x.js:1:1)\n"), b"    at f (../../src/x.ts:1:1)\n")
+def paths_of_maps(folder):
+    (folder / "dist/util").mkdir(parents=True)
+    text = '{"version":3,"sources":["../../src/x.ts"],"mappings":"AAAA"}'
+    (folder / "dist/util/x.js.map").write_text(text)
+    for root, wanted in (("/srv/app/dist/", "/srv/app/src/x.ts"), ("https://e.test/dist/", "https://e.test/src/x.ts")):
+        maps = Maps.folder(root, folder / "dist", max_bytes=1 << 20, paths=True)
+        url = f"{root}util/x.js"
+        for _ in range(2):
+            insist(f"a map below {root}", maps.look_up(url, 0, 0).source, wanted)
+            insist(f"a trace below {root}", maps.rewrite(f"    at f ({url}?v=1:1:1)\n").decode(), f"    at f ({wanted}:1:1)\n")
+    maps = Maps(lambda _: SourceMap(text), max_bytes=1 << 20, paths=True)
+    insist("a map that was read", maps.rewrite("f@/srv/app/dist/util/x.js:1:1"), b"f@/srv/app/src/x.ts:1:1")
+    maps.add("/srv/dist/y.js", text)
+    insist("one that was added", maps.get("/srv/dist/y.js").source_name(0), "/src/x.ts")
+    maps = Maps(lambda _: text, max_bytes=1 << 20)
+    insist("without paths", maps.look_up("/srv/app/dist/util/x.js", 0, 0).source, "../../src/x.ts")
+
+
 def generated(files):
     text = '{"version":3,"sources":["a","b"],"mappings":"AAAA,EAAE,EAAF,EAAI;A,ECAA"}'
     with SourceMap(text) as source_map:
@@ -264,6 +282,7 @@ generated(sorted((Path(__file__).resolve().parents[2] / "examples").glob("*.map"
 bounded()
 refusals()
 folders(Path(sys.argv[1]))
+paths_of_maps(Path(sys.argv[1]))
 rewriting()
 asyncio.run(fetched())
 threads()

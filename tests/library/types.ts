@@ -46,7 +46,7 @@ stream.on('refused', (url: string, error: unknown) => names.push(url, String(err
 const place: Place | null = table.lookUp('https://e.test/a.js?v=3', 1, 0);
 const context: Context | null = sourceContext(map, place ? place.index : 0, 1, 3);
 const kept = new Maps({ load: () => null, loadAsync: async (url) => `{"file":"${url}"}`, maxBytes: map.nbytes, atOnce: 4 });
-const inFolder: Maps = Maps.folder('https://e.test/', '.', { maxBytes: 1 });
+const inFolder: Maps = Maps.folder('https://e.test/', '.', { maxBytes: 1, paths: true });
 const waiting: Promise<Buffer> = rewriteAsync(kept, 'x', { stripAnsi: true });
 names.push(...frameUrls('x', { anywhere: true }), context ? context.before.join(context.line) : '', String(inFolder.get('x')));
 table[Symbol.dispose]();

@@ -101,7 +101,7 @@ call look_up, look_up_many, generated, bytes_by_source, fit;
 /* mappings.c */
 call mappings, encode;
 /* map.c */
-call read_map, counts, size, source_name, source_content, source_lines, is_ignored, name, file, write_map;
+call read_map, counts, size, use_paths, source_name, source_content, source_lines, is_ignored, name, file, write_map;
 /* members.c */
 call members;
 /* refusals.c */

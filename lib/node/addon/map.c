@@ -67,6 +67,17 @@ napi_value size(napi_env env, napi_callback_info info) {
     return number(env, (double)bytes);
 }
 
+/* usePaths(map, url): names the sources by the URL, where that is an absolute path. */
+napi_value use_paths(napi_env env, napi_callback_info info) {
+    napi_value words[WORDS];
+    const uint8_t *url;
+    size_t length;
+    if (!words_of(env, info, 2, words)) return NULL;
+    struct held *held = map_of(env, words[0]);
+    if (!held || !bytes_of(env, words[1], &url, &length)) return NULL;
+    return smap_map_use_paths(&held->map, url, length) == SMAP_DONE ? NULL : refuse(env, "out of memory");
+}
+
 /* The source of a call's second argument. */
 static bool source_of(napi_env env, napi_callback_info info, smap_source_text *source) {
     napi_value words[WORDS];

@@ -13,19 +13,17 @@ napi_value new_table(napi_env env, napi_callback_info info) {
     return object_of(env, held);
 }
 
-/* add(table, url, map, paths): nothing, and the map is closed then; or the number of the refusal. Where `paths` is 1, the sources of the
- * map are named by the URL first. */
+/* add(table, url, map): nothing, and the map is closed then; or the number of the refusal. */
 napi_value add(napi_env env, napi_callback_info info) {
     napi_value words[WORDS];
     const uint8_t *url;
     size_t length;
-    uint32_t why = 0, paths;
-    if (!words_of(env, info, 4, words)) return NULL;
+    uint32_t why = 0;
+    if (!words_of(env, info, 3, words)) return NULL;
     struct held *table = held_of(env, words[0], TABLE);
-    if (!table || !bytes_of(env, words[1], &url, &length) || !number_of(env, words[3], &paths)) return NULL;
+    if (!table || !bytes_of(env, words[1], &url, &length)) return NULL;
     struct held *held = map_of(env, words[2]);
     if (!held) return NULL;
-    if (paths && smap_map_use_paths(&held->map, url, length) != SMAP_DONE) return refuse(env, "out of memory");
     uint32_t status = smap_table_add(&table->table, url, length, &held->map, &why);
     if (status == SMAP_REFUSED) return number(env, why);
     if (status == SMAP_DONE) {

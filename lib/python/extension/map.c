@@ -337,6 +337,14 @@ static PyObject *map_fit(PyObject *self, PyObject *data) {
 
 #define WITH_NAMES(call) ((PyCFunction)(void (*)(void))(call))
 
+/* Names the sources by the URL, where that is an absolute path. */
+static PyObject *map_use_paths(PyObject *self, PyObject *data) {
+    struct held *held = (struct held *)self;
+    struct given url;
+    if (!bytes_of(data, &url) || !ready(&held, 1)) return NULL;
+    return smap_map_use_paths(&held->map, url.bytes, url.length) == SMAP_DONE ? none() : PyErr_NoMemory();
+}
+
 static PyMethodDef map_methods[] = {
     {"close", map_close, METH_NOARGS, "close($self)\n--\n\nFrees the map. It answers nothing any more."},
     {"look_up", WITH_NAMES(map_look_up), METH_VARARGS | METH_KEYWORDS,
@@ -363,6 +371,7 @@ static PyMethodDef map_methods[] = {
     {"_written", map_written, METH_NOARGS, NULL},
     {"_bytes_by_source", map_bytes_by_source, METH_O, NULL},
     {"_fit", map_fit, METH_O, NULL},
+    {"_use_paths", map_use_paths, METH_O, NULL},
     {NULL, NULL, 0, NULL},
 };
 

@@ -35,18 +35,15 @@ static PyObject *table_close(PyObject *self, PyObject *unused) {
     return none();
 }
 
-/* Puts a map into the table under a URL, whose sources are named by it first where that is asked for. Gives None, or the number of
- * the refusal. */
+/* Puts a map into the table under a URL. Gives None, or the number of the refusal. */
 static PyObject *table_put(PyObject *self, PyObject *words) {
     struct held *table = (struct held *)self, *map;
     PyObject *data, *value;
     struct given url;
-    int paths;
-    if (!PyArg_ParseTuple(words, "OO!p", &data, map_type, &value, &paths) || !bytes_of(data, &url)) return NULL;
+    if (!PyArg_ParseTuple(words, "OO!", &data, map_type, &value) || !bytes_of(data, &url)) return NULL;
     map = (struct held *)value;
     if (!ready((struct held *[]){table, map}, 2)) return NULL;
     uint32_t refusal = 0;
-    if (paths && smap_map_use_paths(&map->map, url.bytes, url.length) != SMAP_DONE) return PyErr_NoMemory();
     uint32_t status = smap_table_add(&table->table, url.bytes, url.length, &map->map, &refusal);
     if (status == SMAP_DONE) hand_over(map, table);
     map->full = status == SMAP_REFUSED;

@@ -24,17 +24,19 @@ class _Kept(NamedTuple):
 
 class Maps:
     """Maps by URL. `load` is asked for the map of a URL when it is first wanted, and gives it, or None where there is none, as for
-    a `Rewriter`; threads wait for each other then. Maps are kept while they count for at most `max_bytes` bytes of memory, or one
+    a `Rewriter`, as is `paths`; threads wait for each other then. Maps are kept while they count for at most `max_bytes` bytes of memory, or one
     by itself: what was longest not asked for goes first. What `load` raises, and why a map is refused, is told to `refused`, or
     else kept in `refusals`, of which there are 100 at most; that URL has no map until it is discarded."""
 
-    def __init__(self, load: Load, *, max_bytes: int, refused: Optional[Callable[[str, Exception], object]] = None) -> None:
+    def __init__(self, load: Load, *, max_bytes: int, refused: Optional[Callable[[str, Exception], object]] = None,
+                 paths: bool = False) -> None:
         if not callable(load):
             raise TypeError(f"load is a function, not {type(load).__name__}")
         if _given.whole(max_bytes, "max_bytes") < 0:
             raise ValueError(f"max_bytes is {max_bytes}")
         self.max_bytes = max_bytes
         self._load = load
+        self._paths = bool(paths)
         self._told = Told(refused)
         self._lock = threading.RLock()
         self._kept: "OrderedDict[str, _Kept]" = OrderedDict()
@@ -44,7 +46,7 @@ class Maps:
 
     @classmethod
     def folder(cls, prefix: str, root: Union[str, "os.PathLike[str]"], *, max_bytes: int,
-               refused: Optional[Callable[[str, Exception], object]] = None) -> "Maps":
+               refused: Optional[Callable[[str, Exception], object]] = None, paths: bool = False) -> "Maps":
         """The maps of the URLs that begin with this prefix, which ends in `/`, in a folder, as the program has them of `PREFIX=FOLDER/`:
         that of PREFIXjs/app.js is js/app.js.map. No URL leads out of the folder. A file that is not there is no map."""
         if not _given.text(prefix, "prefix").endswith("/"):
@@ -61,7 +63,7 @@ class Maps:
             except (FileNotFoundError, NotADirectoryError):
                 return None
 
-        return cls(load, max_bytes=max_bytes, refused=refused)
+        return cls(load, max_bytes=max_bytes, refused=refused, paths=paths)
 
     @property
     def nbytes(self) -> int:
@@ -104,7 +106,7 @@ class Maps:
 
     def add(self, url: str, given: Given) -> None:
         """Puts a map under this very URL, in place of what is kept of it. Raises `Refused`."""
-        read = given if isinstance(given, SourceMap) else SourceMap._under(_given.text(url, "a URL"), given)
+        read = SourceMap._under(_given.text(url, "a URL"), given, self._paths)
         with self._lock:
             self._keep(url, read)
 
@@ -185,7 +187,7 @@ class Maps:
     def _read(self, url: str) -> Optional[SourceMap]:
         try:
             given = self._load(url)
-            return given if given is None or isinstance(given, SourceMap) else SourceMap._under(url, given)
+            return None if given is None else SourceMap._under(url, given, self._paths)
         except Exception as error:
             self._told.tell(url, error)
             return None

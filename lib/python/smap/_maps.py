@@ -45,14 +45,20 @@ class SourceMap(_smap.Map):
         return cls(Path(path), base, interval)
 
     @classmethod
-    def _under(cls, url: str, data: _given.FileData, paths: bool = False) -> "SourceMap":
-        # The map of these bytes that stands at the URL, or at none where that is no URL, or where paths are kept for paths.
+    def _under(cls, url: str, given: "Union[_given.FileData, SourceMap]", paths: bool = False) -> "SourceMap":
+        # The map that is given, or that of these bytes, which stands at the URL, or at none where that is no URL. With `paths` one
+        # whose URL is an absolute path stands at none, and has its sources named by that.
+        by_path = paths and _PATH.match(url) is not None
+        source_map = given if isinstance(given, SourceMap) else cls._standing(None if by_path else url, url, given)
+        if by_path:
+            source_map._use_paths(url.encode(errors="surrogatepass"))
+        return source_map
+
+    @classmethod
+    def _standing(cls, base: Optional[str], url: str, data: _given.FileData) -> "SourceMap":
         held, self = _given.file_bytes(data, "a map"), cls.__new__(cls)
-        if paths and _PATH.match(url):
-            self._take(held, None, 64, url, url)
-            return self
         try:
-            self._take(held, url, 64, url, url)
+            self._take(held, base, 64, url, url)
         except Refused as refused:
             if refused.number != BAD_BASE:
                 raise

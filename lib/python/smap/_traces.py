@@ -81,7 +81,7 @@ class Rewriter(_smap.Table):
             bytes_in = url.encode()
         except UnicodeEncodeError:
             raise refused_url(0, url) from None
-        why = self._put(bytes_in, given if isinstance(given, SourceMap) else SourceMap._under(url, given, self._paths), self._paths)
+        why = self._put(bytes_in, SourceMap._under(url, given, self._paths))
         if why is not None:
             raise refused_url(why, url)
         self._known[bytes_in] = True
