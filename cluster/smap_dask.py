@@ -53,12 +53,15 @@ SUMMARY = "ok "
 # So many lines about maps are reported, as by the program.
 MOST_REPORTED = 100
 
+# The options of `smap rewrite` that have no value. What excludes another is refused by the program.
+FLAGS = ["--paths", "--hide-ignored", "--anywhere", "--strip-ansi"]
+
 # A free port that only this machine reaches.
 LOOPBACK = "127.0.0.1:0"
 
-USAGE = """%(prog)s rewrite [--maps LIST] [--base URL] [--interval K] [--hide-ignored | --anywhere]
-                   [--cache BYTES] [--summary] [--block SIZE] [--scheduler ADDRESS] [--program PROGRAM]
-                   --output DIR [URL=FILE | PREFIX=FOLDER/].. -- TRACE.."""
+USAGE = """%(prog)s rewrite [--maps LIST] [--base URL | --paths] [--interval K] [--hide-ignored] [--hide TEXT].. [--anywhere]
+                   [--strip-ansi] [--cache BYTES] [--summary] [--block SIZE] [--scheduler ADDRESS] [--program PROGRAM]
+                   --output DIR [URL=FILE | PREFIX=FOLDER/ | *END=FILE | *MIDDLE=FOLDER/].. -- TRACE.."""
 
 HELP = """
 Rewrites each TRACE as `smap rewrite` does, on many processors, to a file of the same name in DIR.
@@ -67,8 +70,8 @@ A file stands in DIR under that name only when it is whole. A trace whose file s
 over: so a run that ended early is given once more, and does what is missing. To have a trace rewritten anew, remove
 its file.
 
-The maps of words URL=FILE are read for each block. Those of folders and lists are read only for blocks that name them;
-one that can't be had is reported once, and ends nothing.
+The maps of words URL=FILE are read for each block. Those of folders, patterns and lists are read only for blocks that name
+them; one that can't be had is reported once, and ends nothing.
 """
 
 END = """
@@ -338,9 +341,10 @@ def arguments(words: list[str]) -> argparse.Namespace:
     same = "as of `smap rewrite`"
     rewrite.add_argument("--maps", metavar="LIST", help=same)
     rewrite.add_argument("--base", metavar="URL", help=same)
+    for flag in FLAGS:
+        rewrite.add_argument(flag, action="store_true", help=same)
     rewrite.add_argument("--interval", metavar="K", help=same)
-    rewrite.add_argument("--hide-ignored", action="store_true", help=same)
-    rewrite.add_argument("--anywhere", action="store_true", help=same)
+    rewrite.add_argument("--hide", metavar="TEXT", action="append", default=[], help=same)
     rewrite.add_argument("--cache", metavar="BYTES", help=f"{same}, for each block")
     rewrite.add_argument("--summary", action="store_true", help="report the sums of the counts of all blocks at the end")
     rewrite.add_argument(
@@ -365,7 +369,7 @@ def arguments(words: list[str]) -> argparse.Namespace:
         "words",
         metavar="URL=FILE",
         nargs="*",
-        help="the URL of frames, and the path of its map; or a prefix of URLs, and a folder of maps",
+        help="the URL of frames, and the path of its map; or a prefix of URLs, and a folder of maps; or a pattern of URLs",
     )
     given = parser.parse_args(words[:split])
     given.traces = words[split + 1 :]
@@ -391,8 +395,8 @@ def run(given: argparse.Namespace) -> int:
         if not sign:
             raise Stop(2, f"usage: no URL=FILE: {word}")
         words.append(f"{url}={absolute(file)}")
-    options = ["--hide-ignored"] if given.hide_ignored else []
-    options += ["--anywhere"] if given.anywhere else []
+    options = [flag for flag in FLAGS if getattr(given, flag[2:].replace("-", "_"))]
+    options += [f"--hide={text}" for text in given.hide]
     for name, value in (
         ("--maps", given.maps and absolute(given.maps)),
         ("--base", given.base),
