@@ -135,7 +135,7 @@ typedef struct smap_source_text {
 typedef struct smap_compose_options { bool prune, no_content; } smap_compose_options;
 
 /* How a place is looked up in a table. With `after` the first mapping on the line at the position or after it answers. With
- * `cut` a URL under which the table has no map has the one under it without its query and its fragment. */
+ * `cut` a URL under which the table has no map has the one under it without its query and its fragment, before those of patterns. */
 typedef struct smap_table_options { bool after, cut; } smap_table_options;
 
 /* Where a line of a source stands in its content, without its end: the byte at which it begins, and how many it has. Of more
@@ -148,7 +148,7 @@ typedef struct smap_line_range { uint32_t first; size_t count; } smap_line_range
 /* How a text is rewritten: `hide_ignored` drops the lines of frames from ignored sources, `anywhere` takes places in place of
  * frames, and drops no line, and with `strip_ansi` the text is read without its control sequences: ESC, `[`, parameters and one
  * letter or sign, as they colour a terminal; of more than 128 bytes none is one. With `cut` a frame whose URL is not in the table has
- * the map under it without its query and its fragment. */
+ * the map under it without its query and its fragment, before those of patterns. */
 typedef struct smap_rewrite_options { bool hide_ignored, anywhere, strip_ansi, cut; } smap_rewrite_options;
 
 /* What was in a trace: its lines, how many were frames, and how many of these were replaced and hidden. */
@@ -314,16 +314,19 @@ uint32_t smap_version(smap_text *version);
 /* Makes a table without maps. */
 uint32_t smap_table_new(smap_table *table);
 
-/* Puts the map into the table, under the URL that frames name. The table takes the map over: its handle is empty then.
- * Where it returns 1, `refusal` is 1 where no frame can name such a URL, 2 where the table has a map under it, and 0
- * where the URL is not UTF-8, and the map stays in its handle. Where it returns 3, which no such URL gets, the map is
- * freed, and its handle is empty. */
+/* Puts the map into the table, under the URL that frames name. One that begins with `*` is a pattern: the map is for each URL that
+ * ends, as it stands or before its first `?` or `#`, with the text behind the `*`, where that is empty, begins with `/` or `\`, stands
+ * behind one of both, or is the whole. It is the map of those under which there is none, save modules of node's own (`node:fs`) and what
+ * was evaluated (`URL line 1 > eval`). Of several the longest text decides, of two as long the first that was added.
+ * The table takes the map over: its handle is empty then. Where it returns 1, `refusal` is 1 where no frame can name such a URL, 2
+ * where the table has a map under it, and 0 where the URL is not UTF-8, and the map stays in its handle. Where it returns 3, which no
+ * such URL gets, the map is freed, and its handle is empty. */
 uint32_t smap_table_add(smap_table *table, const uint8_t *url, size_t url_length, smap_map *map, uint32_t *refusal);
 
 /* Lends what the program prints on this refusal of smap_table_add, "A1 BadUrl" or "A2 Twice". Returns 1 for another number. */
 uint32_t smap_table_refusal_text(uint32_t refusal, smap_text *text);
 
-/* Looks a generated position up in the map under this URL, as smap_look_up does, and lends the source that answers and the name
+/* Looks a generated position up in the map of this URL, as smap_look_up does, and lends the source that answers and the name
  * of the mapping; what there is not has length 0. Returns 1 where the table has no such map. */
 uint32_t smap_table_look_up(const smap_table *table, const uint8_t *url, size_t url_length, uint32_t line, uint32_t column,
                             const smap_table_options *options, smap_found *found, smap_source_text *source, smap_text *name);
@@ -334,14 +337,15 @@ uint32_t smap_cut_url(const uint8_t *url, size_t length, smap_text *cut);
 /* Frees the table with its maps, and leaves its handle empty. */
 void smap_table_free(smap_table *table);
 
-/* Rewrites a trace: each frame whose URL is in the table and whose place has an original gets it in its place, and every
+/* Rewrites a trace: each frame whose URL has a map in the table and whose place has an original gets it in its place, and every
  * other byte stays. With `hide_ignored` lines of frames from ignored sources are dropped. Returns 1 where the trace has
  * more than 1,073,741,824 bytes. `counts` is set where it returns 0. The bytes are freed by smap_bytes_free. */
 uint32_t smap_rewrite(smap_table *table, const uint8_t *trace, size_t length, bool hide_ignored,
                       smap_bytes *bytes, smap_trace_count *counts);
 
-/* Rewrites a text: each place URL:line:column, wherever it stands in a line, whose URL is in the table and which has an
- * original gets it in its stead, and every other byte stays. Returns 1 where the text has more than 1,073,741,824 bytes.
+/* Rewrites a text: each place URL:line:column, wherever it stands in a line, whose URL has a map in the table and which has an
+ * original gets it in its stead, and every other byte stays. Returns 1 where the text has more than 1,073,741,824 bytes, and where the
+ * table has a map under `*` alone.
  * `counts` is set where it returns 0: `frames` are the places, and none is hidden. The bytes are freed by
  * smap_bytes_free. */
 uint32_t smap_rewrite_anywhere(smap_table *table, const uint8_t *text, size_t length, smap_bytes *bytes,
@@ -352,7 +356,8 @@ uint32_t smap_rewrite_anywhere(smap_table *table, const uint8_t *text, size_t le
 uint32_t smap_rewrite_with(smap_table *table, const uint8_t *text, size_t length, const smap_rewrite_options *options,
                            smap_bytes *bytes, smap_trace_count *counts);
 
-/* Lends what the program prints on this refusal of the three, which is 3: "X3 TooMuch". Returns 1 for another number. */
+/* Lends what the program prints where a text has too many bytes for the three, which is refusal 3: "X3 TooMuch". Returns 1 for
+ * another number. */
 uint32_t smap_rewrite_refusal_text(uint32_t refusal, smap_text *text);
 
 /* Finds the URL of the next frame of a trace, from byte `from` on, at which a line begins: 0, or `next` of the frame

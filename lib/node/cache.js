@@ -24,6 +24,12 @@ function readAs(url, data, paths) {
   return data;
 }
 
+// A URL or a prefix, which is no pattern.
+function whole(url, name) {
+  if (given.text(url, name).startsWith('*')) throw new Error(`\`${name}\` is a pattern`);
+  return url;
+}
+
 // Maps by URL. `load` is asked for the map of a URL when it is first wanted, and gives it, or null or undefined where there is none, as
 // for a Table, as is `paths`; `loadAsync` gives a promise of it. Maps are kept while they count for at most `maxBytes` bytes of memory, or
 // one by itself: what was longest not asked for goes first. What both throw, and why a map is refused, is told to `refused`, or else kept
@@ -55,7 +61,7 @@ class Maps extends Told {
   // The maps of the URLs that begin with this prefix, which ends in `/`, in a folder, as the program has them of `PREFIX=FOLDER/`: that of
   // PREFIXjs/app.js is js/app.js.map. No URL leads out of the folder. A file that is not there is no map.
   static folder(prefix, root, options) {
-    if (!given.text(prefix, 'prefix').endsWith('/')) throw new Error('a prefix ends in /');
+    if (!whole(prefix, 'prefix').endsWith('/')) throw new Error('a prefix ends in /');
     const folder = given.text(root, 'root');
     const load = (url) => {
       const rest = url.slice(prefix.length);
@@ -100,9 +106,9 @@ class Maps extends Told {
     return kept && kept.map ? sourceContext(kept.map, index, line, before, after) : null;
   }
 
-  // Puts a map under this very URL, in place of what is kept of it.
+  // Puts a map under this very URL, in place of what is kept of it. A pattern is no URL here.
   add(url, map) {
-    this.#keep(given.text(url, 'url'), readAs(url, map, this.#paths), map instanceof TraceMap);
+    this.#keep(whole(url, 'url'), readAs(url, map, this.#paths), map instanceof TraceMap);
   }
 
   // Drops what is kept of a URL, so that its map is asked for anew.

@@ -265,14 +265,16 @@ export interface TableOptions {
   paths?: boolean;
 }
 
-/** The maps of a trace, each under the URL that frames name. A TraceMap that is given is closed. */
+/** The maps of a trace, each under the URL that frames name, or under `*` and the text with which URLs end. A TraceMap that is given is
+ * closed. */
 export class Table {
   constructor(maps: Named<string>, options?: TableOptions);
   /** What was told to no one: the first 100. */
   readonly refusals: Refusal[];
   /** Those of the last text that `rewrite` rewrote over this table. */
   readonly counts: TraceCounts | null;
-  /** Where a place in the file of a URL comes from, by the map under it or else under it without query and fragment. */
+  /** Where a place in the file of a URL comes from, by the map under it, or else under it without query and fragment, or else of a
+   * pattern. */
   lookUp(url: string, line: number, column: number): Place | null;
   close(): void;
   [Symbol.dispose](): void;

@@ -8,7 +8,8 @@ const { BEFORE, BEHIND, MOST_BYTES, besidePlaces, cut, isLocation, ofFrames } = 
 const MOST_PARTS = 1 << 16;
 const POSITION = /^:\d+:\d+/;
 
-// Asks a table's loader for the map of each URL that the text names, without query and fragment, and that was not asked for.
+// Asks a table's loader for the map of each URL that the text names, without query and fragment, and that was not asked for and has not
+// that of a pattern.
 // Gives the parts without which URLs have a map: where each begins and ends, and the place without it.
 function ask(table, bytes, places, tell) {
   const parts = [];
@@ -16,7 +17,7 @@ function ask(table, bytes, places, tell) {
     const url = bytes.toString('latin1', start, end);
     if (table.known.get(url)) continue;
     const short = cut(url);
-    if (!askFor(table, short, tell)) continue;
+    if (!askFor(table, url, tell)) continue;
     // The library itself leaves the query of a frame's URL out.
     if (!places || short === url || !table.known.get(short)) continue;
     const position = POSITION.exec(bytes.toString('latin1', end, end + BEHIND));
@@ -25,11 +26,12 @@ function ask(table, bytes, places, tell) {
   return parts;
 }
 
-// Asks for the map of a URL without query and fragment, where it was not asked for. Whether that was done, now or before.
+// Asks for the map of a URL without query and fragment, where it was not asked for and has not that of a pattern. Whether it was asked for,
+// now or before.
 function askFor(table, url, tell = (named, error) => table.tell(named, error)) {
   const short = cut(url);
   if (table.known.has(short)) return true;
-  if (!isLocation(short) || !table.load) return false;
+  if (!isLocation(short) || !table.load || table.isOfPattern(url)) return false;
   // It may rewrite over this table itself.
   table.known.set(short, false);
   table.known.set(short, isLoaded(table, short, tell));

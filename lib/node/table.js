@@ -26,7 +26,9 @@ class Told {
 // TraceMap that is given is closed: the table has it then. `load` is asked for the map of each URL or path that is not among
 // them, without query and fragment, once, when a frame or a place first names it, and gives null or undefined where there is
 // none. What it throws, and why its map is refused, is told to `refused`, or else kept in `refusals`, of which there are 100
-// at most; the frames stay. With `paths` relative sources go on from the folder of a URL that is an absolute path, as node prints them.
+// at most; the frames stay. A URL that begins with `*` is a pattern: its map is that of each URL that ends with the text behind it, where
+// a piece of the URL begins, with or without query and fragment, if no map is under the URL; of several the longest text decides. With
+// `paths` relative sources go on from the folder of a URL that is an absolute path, as node prints them.
 // It is freed as a TraceMap is.
 class Table extends Told {
   constructor(maps, options) {
@@ -37,6 +39,7 @@ class Table extends Told {
     this.load = given.callable(load, 'load');
     // Whether URLs that were named have a map here, by a character for each of their bytes.
     this.known = new Map();
+    this.hasPatterns = false;
     this.counts = null;
     this.handle = addon.newTable();
     for (const [key, map] of maps[Symbol.iterator] ? maps : Object.entries(maps)) {
@@ -53,10 +56,16 @@ class Table extends Told {
     const reported = addon.add(open(this), Buffer.from(url), handle);
     if (typeof reported === 'number') throw refusedUrl(reported, url);
     if (map instanceof TraceMap) empty(map);
+    this.hasPatterns = this.hasPatterns || url.startsWith('*');
   }
 
-  // Where a place in the file of a URL comes from, the line from 1 and the column from 0, by the map under it or else under it without
-  // query and fragment: {source, line, column, name, ignored, index}, or null. The loader is asked as for a frame.
+  // Whether a URL, which has a character for each byte, and under which there is no map, has that of a pattern.
+  isOfPattern(url) {
+    return this.hasPatterns && addon.tableHas(open(this), Buffer.from(url, 'latin1'));
+  }
+
+  // Where a place in the file of a URL comes from, the line from 1 and the column from 0, by the map under it, or else under it without
+  // query and fragment, or else of a pattern: {source, line, column, name, ignored, index}, or null. The loader is asked as for a frame.
   lookUp(url, line, column) {
     const bytes = given.utf8(given.text(url, 'url'), '`url`');
     const named = bytes.toString('latin1');
@@ -114,9 +123,10 @@ function rewritten(table, bytes, how, tell = (url, error) => table.tell(url, err
   const read = how.strip ? stripped(bytes) : bytes;
   if (areMaps(table)) return table.rewritten(read, how);
   open(table);
-  const cut = Boolean(table.load || table.isCut);
-  const parts = cut ? ask(table, read, how.places, tell) : [];
-  return cutAndRewritten(open(table), read, parts, { ...how, cut });
+  if (how.places && table.known.has('*')) throw new Error('`*` with `anywhere`');
+  const asks = Boolean(table.load || table.isCut);
+  const parts = asks ? ask(table, read, how.places, tell) : [];
+  return cutAndRewritten(open(table), read, parts, { ...how, cut: asks || table.hasPatterns });
 }
 
 function counted([lines, frames, mapped, hidden], { places }) {

@@ -16,8 +16,9 @@ const [ESCAPE, BRACKET] = [27, 91];
 // A URL without its query and its fragment.
 const cut = (url) => url.split(/[?#]/, 1)[0];
 
-// Whether this is a URL or a path, and no other text of a log: an absolute path, or that of a script below.
+// Whether this is a URL or a path, and no pattern or other text of a log: an absolute path, or that of a script below.
 function isLocation(text) {
+  if (text.startsWith('*')) return false;
   if (text.includes('://') || /^(?:\/|[a-z]:[\\/])/i.test(text)) return true;
   return /\.(?:[cm]?js|bundle)$/.test(text) && !text.split(/[\\/]/).some((piece) => piece === '' || piece === '..');
 }

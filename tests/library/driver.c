@@ -479,11 +479,15 @@ static void mistakes(const char *path) {
     if (smap_table_add(&table, (const uint8_t *)"\xff", 1, &map, &why) != SMAP_REFUSED || why != 0) fail("a URL that is no text");
     if (smap_table_add(&table, (const uint8_t *)"a.js", 4, &map, &why) != SMAP_DONE) fail("not added");
     if (smap_table_add(&table, (const uint8_t *)"a.js", 4, &other, &why) != SMAP_REFUSED || why != 2) fail("A2");
+    if (smap_table_add(&table, (const uint8_t *)"*a\r", 3, &other, &why) != SMAP_REFUSED || why != 1) fail("A1 of a pattern");
     smap_found found = {0};
     if (smap_look_up(&other, 0, 0, &found) != SMAP_DONE) fail("a map that came back");
-    smap_map_free(&other);
+    if (smap_table_add(&table, (const uint8_t *)"*", 1, &other, &why) != SMAP_DONE) fail("a map of all URLs");
+    smap_bytes placed = {0};
+    smap_trace_count places = {0};
+    if (smap_rewrite_anywhere(&table, (const uint8_t *)"12:30:45", 8, &placed, &places) != SMAP_REFUSED || placed.at) fail("a time of day");
     smap_table_free(&table);
-    puts("mistakes 17");
+    puts("mistakes 20");
 }
 
 int main(int count, char **words) {

@@ -147,6 +147,45 @@ function pathsOfMaps(folder) {
   insist('one that was added', maps.get('/srv/dist/y.js').resolvedSources, ['/src/x.ts']);
   const others = new Maps({ load: () => text, maxBytes: 1 << 20 });
   insist('without paths', others.lookUp('/srv/app/dist/util/x.js', 1, 0).source, '../../src/x.ts');
+  raises('a pattern that is added', Error, () => others.add('*x.js', text));
+  raises('a pattern as a prefix', Error, () => Maps.folder('*dist/', folder, { maxBytes: 1 }));
+}
+
+function patterns() {
+  const given = {
+    '*app.js': textOf('any.ts'), '*js/app.js': textOf('js.ts'), '*app.js?v=2': textOf('query.ts'), '*.mjs': textOf('none.ts'),
+    'https://e.test/x/app.js': textOf('own.ts'),
+  };
+  const named = {
+    'https://one.test/app.js': 'any.ts', 'app.js': 'any.ts', 'https://one.test/app.js?v=3#x': 'any.ts', 'C:\\dist\\app.js': 'any.ts',
+    'https://one.test/js/app.js': 'js.ts', 'https://one.test/js/app.js#a?b': 'js.ts', 'https://one.test/xjs/app.js': 'any.ts',
+    'https://one.test/app.js?v=2': 'query.ts', 'https://e.test/x/app.js': 'https://e.test/x/own.ts',
+    'https://e.test/x/app.js?v=2': 'https://e.test/x/own.ts', 'https://one.test/xapp.js': null, 'https://one.test/app.js/b.js': null,
+    'https://one.test/x.mjs': null, 'node:internal/app.js': null, 'https://one.test/': null,
+  };
+  const asked = [];
+  const load = (url) => void asked.push(url);
+  for (const options of [{}, { load }]) {
+    const table = new Table(given, options);
+    for (const [url, source] of Object.entries(named)) {
+      const [frame, made] = [`    at f (${url}:1:5)\n`, `    at f (${source}:2:2)\n`];
+      insist(`a frame of ${url}`, rewrite(table, frame).toString(), source ? made : frame);
+      const place = table.lookUp(url, 1, 4);
+      insist(`a place in ${url}`, place && place.source, source);
+      if (!/^(https|app)/.test(url)) continue;
+      const [text, replaced] = [`{"at":"${url}:1:5"} 12:30:45`, `{"at":"${source}:2:2"} 12:30:45`];
+      insist(`${url} anywhere`, rewrite(table, text, { anywhere: true }).toString(), source ? replaced : text);
+    }
+  }
+  insist('what is asked for', asked, Object.keys(named).filter((url) => named[url] === null));
+  const ofAll = new Table({ '*': textOf('all.ts') }, { load });
+  insist('each URL', rewrite(ofAll, 'f@x:1:5\ng@https://e.test/y?z:1:5\n').toString(), 'f@all.ts:2:2\ng@all.ts:2:2\n');
+  raises('each place', Error, () => rewrite(ofAll, 'x:1:5', { anywhere: true }));
+  asked.length = 0;
+  insist('what reads as a pattern', rewrite(new Table({}, { load }), 'f@*/x.js:1:5').toString(), 'f@*/x.js:1:5');
+  insist('of none it is asked', asked, []);
+  raises('twice', Refused, () => new Table([['*a.js', textOf('a.ts')], ['*a.js', textOf('a.ts')]]));
+  raises('a line end', Refused, () => new Table({ '*a\nb': textOf('a.ts') }));
 }
 
 const trace = `Error: x\n    at f (https://e.test/a.js:1:5)\n    at https://e.test/b.js?v=1:1:1\n    at g (https://e.test/none.css:1:1)
@@ -240,6 +279,7 @@ async function waiting() {
   refusals();
   folders(process.argv[2]);
   pathsOfMaps(process.argv[2]);
+  patterns();
   rewriting();
   await streams();
   await waiting();

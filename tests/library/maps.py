@@ -85,6 +85,42 @@ def paths_of_maps(folder):
     insist("one that was added", maps.get("/srv/dist/y.js").source_name(0), "/src/x.ts")
     maps = Maps(lambda _: text, max_bytes=1 << 20)
     insist("without paths", maps.look_up("/srv/app/dist/util/x.js", 0, 0).source, "../../src/x.ts")
+    raises("a pattern that is added", ValueError, maps.add, "*x.js", text)
+    raises("a pattern as a prefix", ValueError, Maps.folder, "*dist/", folder, max_bytes=1)
+
+
+def patterns():
+    given = {"*app.js": text_of("any.ts"), "*js/app.js": text_of("js.ts"), "*app.js?v=2": text_of("query.ts"), "*.mjs": text_of("none.ts"),
+             "https://e.test/x/app.js": text_of("own.ts")}
+    named = {
+        "https://one.test/app.js": "any.ts", "app.js": "any.ts", "https://one.test/app.js?v=3#x": "any.ts", "C:\\dist\\app.js": "any.ts",
+        "https://one.test/js/app.js": "js.ts", "https://one.test/js/app.js#a?b": "js.ts", "https://one.test/xjs/app.js": "any.ts",
+        "https://one.test/app.js?v=2": "query.ts", "https://e.test/x/app.js": "https://e.test/x/own.ts",
+        "https://e.test/x/app.js?v=2": "https://e.test/x/own.ts", "https://one.test/xapp.js": None, "https://one.test/app.js/b.js": None,
+        "https://one.test/x.mjs": None, "node:internal/app.js": None, "https://one.test/": None,
+    }
+    asked = []
+    for load in (None, asked.append):
+        with Rewriter(given, load=load) as rewriter:
+            for url, source in named.items():
+                trace, wanted = f"    at f ({url}:1:5)\n", f"    at f ({source}:2:2)\n"
+                insist(f"a frame of {url}", rewriter.rewrite(trace).decode(), wanted if source else trace)
+                place = rewriter.look_up(url, 0, 4)
+                insist(f"a place in {url}", place and place.source, source)
+                if url.startswith(("https", "app")):
+                    text, wanted = f'{{"at":"{url}:1:5"}} 12:30:45', f'{{"at":"{source}:2:2"}} 12:30:45'
+                    insist(f"{url} anywhere", rewriter.rewrite(text, anywhere=True).decode(), wanted if source else text)
+    insist("what is asked for", asked, [url for url, source in named.items() if source is None])
+    asked.clear()
+    with Rewriter({"*": text_of("all.ts")}, load=asked.append) as rewriter:
+        insist("each URL", rewriter.rewrite("f@x:1:5\ng@https://e.test/y?z:1:5\n"), b"f@all.ts:2:2\ng@all.ts:2:2\n")
+        insist("of none it is asked", asked, [])
+        raises("each place", ValueError, rewriter.rewrite, "x:1:5", anywhere=True)
+        insist("what is no URL", rewriter.rewrite("f@*/x.js:1:5"), b"f@all.ts:2:2")
+    with Rewriter({}, load=asked.append) as rewriter:
+        insist("what reads as a pattern", (rewriter.rewrite("f@*/x.js:1:5"), asked), (b"f@*/x.js:1:5", []))
+    for url in ("*a\nb", "*\r"):
+        raises(f"{url!r}", Refused, Rewriter, {url: text_of("a.ts")})
 
 
 def generated(files):
@@ -283,6 +319,7 @@ bounded()
 refusals()
 folders(Path(sys.argv[1]))
 paths_of_maps(Path(sys.argv[1]))
+patterns()
 rewriting()
 asyncio.run(fetched())
 threads()

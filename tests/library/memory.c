@@ -127,6 +127,7 @@ static uint32_t all_call(void) {
 }
 static uint32_t new_call(void) { return smap_table_new(&made_table); }
 static uint32_t add_call(void) { return smap_table_add(&table, url, sizeof url - 1, &made, &why); }
+static uint32_t pattern_call(void) { return smap_table_add(&table, (const uint8_t *)"*a.min.js", 9, &made, &why); }
 static uint32_t twice_call(void) { return smap_table_add(&table, base, sizeof base - 1, &made, &why); }
 static uint32_t rewrite_call(void) { return smap_rewrite(&table, trace, sizeof trace - 1, false, &bytes, &count); }
 static uint32_t anywhere_call(void) { return smap_rewrite_anywhere(&table, trace, sizeof trace - 1, &bytes, &count); }
@@ -159,6 +160,7 @@ static const struct call {
     {"smap_compose_all", all_call, SMAP_DONE, FILLS_BYTES},
     {"smap_table_new", new_call, SMAP_DONE, FILLS_TABLE},
     {"smap_table_add", add_call, SMAP_DONE, TAKES_MAP},
+    {"smap_table_add of a pattern", pattern_call, SMAP_DONE, TAKES_MAP},
     {"smap_table_add of what is refused", twice_call, SMAP_REFUSED, TAKES_MAP},
     {"smap_rewrite", rewrite_call, SMAP_DONE, FILLS_BYTES},
     {"smap_rewrite_anywhere", anywhere_call, SMAP_DONE, FILLS_BYTES},
@@ -224,6 +226,7 @@ static bool made_without(const struct call *call, long number) {
     if (read_map(&outer, &outer_file) || read_map(&inner, &inner_file) || smap_table_new(&table)) fail(call->name, "is not prepared");
     smap_map mapped = {0};
     if (read_map(&mapped, &inner_file) || smap_table_add(&table, base, sizeof base - 1, &mapped, &why)) fail(call->name, "has no table");
+    bool adds = call->make == add_call || call->make == pattern_call;
     bool rewrites = call->make == rewrite_call || call->make == anywhere_call;
     if (rewrites && (read_map(&mapped, &outer_file) || smap_table_add(&table, url, sizeof url - 1, &mapped, &why)))
         fail(call->name, "has no map");
@@ -266,7 +269,7 @@ static bool made_without(const struct call *call, long number) {
         struct text *into = number < 0 ? &ample : &now;
         report_answer(call, into);
         if (number >= 0 && !alike(&ample, &now)) fail(call->name, "has another answer");
-        if (alike(&before, &after) != (call->make != add_call)) fail(call->name, "has another table");
+        if (alike(&before, &after) == adds) fail(call->name, "has another table");
         if (call->make == refuse_call && refusal.number != 4) fail(call->name, "has another refusal");
         if (call->make == explain_call && (reason.most != -1 || reason.generated_column != 2)) fail(call->name, "has other numbers");
         uint64_t frames = call->make == rewrite_call ? 2 : 1; /* of a URL in the table, where places are counted */

@@ -2,7 +2,7 @@
 use Rattle.std.proofs.Common.{refl}
 use Rattle.smap_record.specs.contracts.map_file.MapFile as map_file
 use Rattle.smap_originals.specs.contracts.originals.Originals as originals_index
-use Rattle.smap_trace.specs.contracts.table.Table as trace_table
+use Rattle.smap_tables.specs.contracts.url_table.UrlTable as url_table
 use Rattle.smap_c.specs.contracts.bytes.Bytes as handed
 use Rattle.smap_c.specs.contracts.inners.Inners as inner_maps
 use Rattle.smap_c.specs.declared.handles.MapHandle.{MapHandle}
@@ -33,7 +33,7 @@ map = record {
 
 abbrev pub table : Kind
 table = record {
-  R = trace_table.the_row;
+  R = url_table.the_row;
   name = table_handle.the_type.name;
   D = TableHandle;
   at = λ h. h.at;

@@ -1,4 +1,3 @@
-pub mod CutLaws
 pub mod FirstLines
 pub mod FrameUrls
 pub mod Held
@@ -7,5 +6,6 @@ pub mod LineLaws
 pub mod Refusals
 pub mod SizeLaws
 pub mod StepLaws
+pub mod TableLaws
 pub mod Values
 pub mod Walks

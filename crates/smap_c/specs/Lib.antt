@@ -4,7 +4,6 @@ pub mod Encoding
 pub mod Fit
 pub mod Frames
 pub mod Inners
-pub mod Laws
 pub mod Lines
 pub mod Look
 pub mod Many

@@ -1,27 +1,14 @@
 -- What a table answers for a URL and a position.
-use Rattle.std.specs.Prelude.{◌≡◌, ℕ, Bool, List, [], Option, Some, None, MatchOption, if◌then◌else◌, option_and_then, slice_get}
-use Rattle.smap_by_text.specs.ByText.{value_under}
+use Rattle.std.specs.Prelude.{◌≡◌, ℕ, Bool, List, [], Option, None, MatchOption, if◌then◌else◌, option_and_then, slice_get}
 use Rattle.smap_index.specs.declared.answer.Answer.{Answer}
 use Rattle.smap_index.specs.declared.answer.Answer.TheVariants.{Nothing, Unmapped, Found}
-use Rattle.smap_locations.specs.Paths.{without_query}
 use Rattle.smap_record.specs.Record.{MapRecord, answer_of_map, answer_of_map_from}
 use Rattle.smap_record.specs.Sources.{StatedSource}
 use Rattle.smap_c.specs.Look.{answer_numbers}
-use Rattle.smap_c.specs.Tables.{Maps}
 use Rattle.smap_c.specs.Texts.{IsReported, text_or_none}
 use Rattle.smap_c.specs.declared.look_up.Found.{Found as FoundNumbers}
 use Rattle.smap_c.specs.declared.texts.Source.{Source}
 use Rattle.smap_c.specs.declared.texts.Text.{Text}
-
--- ---- the map
-
-abbrev pub or_map : Option MapRecord → (other : Option MapRecord) → Option MapRecord
-or_map None other = other
-or_map (Some stated) other = Some stated
-
--- that under a URL or, where it may be cut, else that under it without its query and its fragment
-abbrev pub map_under : (cut : Bool) → Maps → (url : List ℕ) → Option MapRecord
-map_under cut maps url = or_map (value_under url maps) (if cut then value_under (without_query url) maps else None)
 
 -- ---- the answer
 

@@ -1,32 +1,65 @@
--- What becomes of a text that is rewritten, and what is said of it.
-use Rattle.std.specs.Prelude.{ℕ, List, true, if◌then◌else◌}
-use Rattle.smap_places.specs.PlacesRewritten.{place_counts, placed_text}
+-- What becomes of a text that is rewritten over a table, and what is said of it.
+use Rattle.std.specs.Prelude.{ℕ, ◌&&◌, Bool, List, [], true, filter, if◌then◌else◌, is_some, length}
+use Rattle.smap_by_text.specs.ByText.{value_under}
+use Rattle.smap_lines.specs.Lines.{lines_with_ends}
+use Rattle.smap_places.specs.PlaceAt.{MapsSeen, place_at}
+use Rattle.smap_places.specs.Places.{parts_of}
+use Rattle.smap_places.specs.PlacesRewritten.{is_place, is_replaced, parts_text}
 use Rattle.smap_sequences.specs.Sequences.{without_sequences}
+use Rattle.smap_tables.specs.UrlTable.{UrlTableSeen, locations_of, map_under}
 use Rattle.smap_trace.specs.Hiding.{only_ignored}
 use Rattle.smap_trace.specs.MapsOf.{counts_by, rewritten_by}
-use Rattle.smap_trace.specs.Rewritten.{Counts, counts_of, rewritten}
-use Rattle.smap_c.specs.TableLook.{map_under}
-use Rattle.smap_c.specs.Tables.{Maps}
+use Rattle.smap_trace.specs.Rewritten.{Counts}
 use Rattle.smap_c.specs.declared.trace.RewriteOptions.{RewriteOptions}
 use Rattle.smap_c.specs.declared.trace.TraceCounts.{TraceCounts}
 
 abbrev pub counts_seen : TraceCounts → Counts
 counts_seen counts = record { lines = counts.lines; frames = counts.frames; mapped = counts.mapped; hidden = counts.hidden }
 
+-- ---- by its places anywhere
+
+-- the maps under URLs, and the patterns, among which the URLs of places are sought
+abbrev pub places_of : UrlTableSeen → MapsSeen
+places_of table = record { table = table.words; locations = locations_of table.patterns }
+
+-- a text whose places have the maps of their URLs, with or without a query and a fragment
+unfoldable pub placed_by : UrlTableSeen → (text : List ℕ) → List ℕ
+placed_by table text = parts_text (map_under true table) (parts_of (place_at (places_of table)) text)
+
+unfoldable pub place_counts_by : UrlTableSeen → (text : List ℕ) → Counts
+place_counts_by table text = record {
+  lines = length (lines_with_ends text);
+  frames = length (filter is_place (parts_of (place_at (places_of table)) text));
+  mapped = length (filter (is_replaced (map_under true table)) (parts_of (place_at (places_of table)) text));
+  hidden = 0;
+}
+
+-- the table has a map for each URL, and `12:30:45` would be a place
+abbrev pub has_map_of_all : UrlTableSeen → Bool
+has_map_of_all table = is_some (value_under [] table.patterns)
+
+-- ---- with these options
+
 -- the text that is read: without its control sequences, where these are left out
 abbrev pub text_read : RewriteOptions → (text : List ℕ) → List ℕ
 text_read options text = if options.strip_ansi then without_sequences text else text
 
--- what it becomes: by its places anywhere, or by its frames, whose URLs may be cut or not
-abbrev pub text_with : RewriteOptions → (text : List ℕ) → Maps → List ℕ
-text_with options text maps =
-    let read = text_read options text in
-    if options.anywhere then placed_text read maps
-    else (if options.cut then rewritten_by (map_under true maps) (only_ignored options.hide_ignored) read else rewritten read maps options.hide_ignored)
+-- what becomes of what is read: by its places anywhere, or by its frames, whose URLs may be cut or not
+abbrev pub text_of : RewriteOptions → UrlTableSeen → (read : List ℕ) → List ℕ
+text_of options table read =
+    if options.anywhere then placed_by table read else rewritten_by (map_under options.cut table) (only_ignored options.hide_ignored) read
+
+abbrev pub text_with : RewriteOptions → UrlTableSeen → (text : List ℕ) → List ℕ
+text_with options table text = text_of options table (text_read options text)
 
 -- and what is counted
-abbrev pub counts_with : RewriteOptions → (text : List ℕ) → Maps → Counts
-counts_with options text maps =
-    let read = text_read options text in
-    if options.anywhere then place_counts read maps
-    else (if options.cut then counts_by (map_under true maps) (only_ignored options.hide_ignored) read else counts_of read maps options.hide_ignored)
+abbrev pub counts_of : RewriteOptions → UrlTableSeen → (read : List ℕ) → Counts
+counts_of options table read =
+    if options.anywhere then place_counts_by table read else counts_by (map_under options.cut table) (only_ignored options.hide_ignored) read
+
+abbrev pub counts_with : RewriteOptions → UrlTableSeen → (text : List ℕ) → Counts
+counts_with options table text = counts_of options table (text_read options text)
+
+-- it is refused, however long it is
+abbrev pub is_for_all : RewriteOptions → UrlTableSeen → Bool
+is_for_all options table = options.anywhere && has_map_of_all table

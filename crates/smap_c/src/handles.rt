@@ -2,11 +2,11 @@
 ghost use Rattle.std.specs.Prelude.{◌≡◌, List, ℕ, Option, Some, IfErr, IfOk};
 ghost use Rattle.std.specs.Coded.{coded_option};
 ghost use Rattle.smap_record.specs.MapFile.{Map};
-ghost use Rattle.smap_record.specs.Record.{MapRecord};
 ghost use Rattle.smap_originals.specs.contracts.originals.Originals as originals_index;
 ghost use Rattle.smap_originals.specs.declared.place.GeneratedPlace.{GeneratedPlace};
 ghost use Rattle.smap_record.specs.contracts.map_file.MapFile as map_file;
-ghost use Rattle.smap_trace.specs.contracts.table.Table as trace_table;
+ghost use Rattle.smap_tables.specs.UrlTable.{UrlTableSeen};
+ghost use Rattle.smap_tables.specs.contracts.url_table.UrlTable as url_table;
 ghost use Rattle.smap_c.specs.contracts.bytes.Bytes as handed;
 ghost use Rattle.smap_c.specs.contracts.inners.Inners as inner_maps;
 ghost use Rattle.smap_c.specs.Inners.{Places};
@@ -20,7 +20,7 @@ use crate::inners::Inners;
 use crate::loose::Loose;
 use smap_originals::Originals;
 use smap_record::MapFile;
-use smap_trace::Table;
+use smap_tables::UrlTable;
 use std::alloc::Global;
 use std::marker::Model;
 
@@ -46,21 +46,21 @@ impl MapHandle {
     }
 }
 
-/// A handle of the maps of a trace, or an empty one.
+/// A handle of a table of maps, or an empty one.
 #[repr(C)]
 #[derive(Drop)]
 pub struct TableHandle {
     at: *mut u8,
-    pub ghost held: { Option (List (List ℕ × MapRecord)) } by { coded_option trace_table.the_row.coded },
+    pub ghost held: { Option UrlTableSeen } by { coded_option url_table.the_row.coded },
 }
 
 impl Model for TableHandle {
-    ghost also_owns = { λ handle. owns_held trace_table.the_row handle.at handle.held };
+    ghost also_owns = { λ handle. owns_held url_table.the_row handle.at handle.held };
 }
 
 impl TableHandle {
     // The handle of this table.
-    fn of(loose: Loose<Table, Global>) -> TableHandle
+    fn of(loose: Loose<UrlTable, Global>) -> TableHandle
         ensures { result.held ≡ Some loose.value }
     {
         let Loose { at, alloc: _ } = loose;

@@ -17,7 +17,6 @@
 mod bytes;
 mod composing;
 mod counts;
-mod cut_maps;
 mod encoding;
 mod fit;
 mod frames;

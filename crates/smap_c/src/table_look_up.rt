@@ -1,15 +1,14 @@
 //! Look-ups over the maps of a table, by URL.
 ghost use Rattle.std.specs.Prelude.{◌≡◌, IfSome, IsSome, MatchOption, option_map};
-ghost use Rattle.smap_c.specs.TableLook.{IsLookedUp, IsSourceOf, answer_in, map_under, name_found};
+ghost use Rattle.smap_c.specs.TableLook.{IsLookedUp, IsSourceOf, answer_in, name_found};
 ghost use Rattle.smap_c.specs.Texts.{text_or_none};
+ghost use Rattle.smap_tables.specs.UrlTable.{map_under};
 
 use crate::handles::TableHandle;
 use crate::look_up::{Found, answer_numbers};
 use crate::status::{DONE, REFUSED};
 use crate::texts::{Source, Text, no_source, reported};
-use smap_locations::without_query;
 use smap_record::{Answer, MapFile, Meter};
-use smap_trace::Table;
 use std::alloc::Global;
 
 /// How a place is looked up in a table.
@@ -18,11 +17,12 @@ use std::alloc::Global;
 pub struct TableOptions {
     /// Whether the first mapping on the line that is not before the place answers, and not the last that is not after it.
     pub after: bool,
-    /// Whether a URL under which the table has no map has the one under it without its query and its fragment.
+    /// Whether a URL under which the table has no map has the one under it without its query and its fragment, before those of
+    /// patterns.
     pub cut: bool,
 }
 
-/// Looks a generated position up in the map that a table has under a URL, and lends the source that answers and the name of
+/// Looks a generated position up in the map that a table has for a URL, and lends the source that answers and the name of
 /// the mapping. What the answer does not have is lent without a byte. Where the table has no such map, nothing is written.
 #[unsafe(no_mangle)]
 pub extern "C" fn smap_table_look_up<'a>(
@@ -42,7 +42,7 @@ pub extern "C" fn smap_table_look_up<'a>(
         (λ stated. (result ≡ 0) × IsLookedUp stated
         (answer_in options.now.after stated line column) found.new source.new name.new)) }
 {
-    let Some(map) = map_under(table.lend(), url, options.cut) else {
+    let Some(map) = table.lend().map_under(url, options.cut) else {
         return REFUSED;
     };
     let answer = answer_in(alloc, map, line, column, options.after);
@@ -50,20 +50,6 @@ pub extern "C" fn smap_table_look_up<'a>(
     *source = source_of(map, answer);
     name.text = name_of(map, answer);
     DONE
-}
-
-// The map that a table has under a URL or, with `cut`, else under that without its query and its fragment.
-pub(crate) fn map_under<'t>(table: &'t Table, url: &[u8], cut: bool) -> Option<&'t MapFile>
-    ensures { option_map (λ map. map.now.stated) result ≡ map_under cut table.now url.now }
-{
-    if let Some(map) = table.map_for(url) {
-        return Some(map);
-    }
-    if cut {
-        table.map_for(without_query(url))
-    } else {
-        None
-    }
 }
 
 fn answer_in(alloc: Global, map: &MapFile, line: u32, column: u32, after: bool) -> Answer

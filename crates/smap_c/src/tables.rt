@@ -1,21 +1,20 @@
-//! The maps of a trace.
+//! Tables of maps.
 ghost use Rattle.std.specs.Prelude.{◌≡◌, ◌≢◌, ◌⊎◌, [], None, Some, IsSome, IfSome, IfOk, IfErr, IsUtf8, string_bytes};
 ghost use Rattle.smap_c.specs.Tables.{IsAdded, IsFree, IsNotAdded};
-ghost use Rattle.smap_trace.specs.Table.{url_refusal};
 
 use crate::handles::{MapHandle, TableHandle};
 use crate::status::{DONE, NO_MEMORY, REFUSED};
-use smap_trace::{Table, TableRefusal, is_bad_url};
+use smap_tables::UrlTable;
 use std::alloc::Global;
 
 /// Makes a table without maps.
 #[unsafe(no_mangle)]
 pub extern "C" fn smap_table_new(alloc: Global, table: &mut TableHandle) -> u32
-    ensures made { result ≡ 0 → table.new.held ≡ Some [] }
+    ensures made { result ≡ 0 → table.new.held ≡ Some (record { words = []; patterns = [] }) }
     ensures stays { result ≢ 0 → table.new.held ≡ table.old.held }
     ensures status { (result ≡ 0) ⊎ (result ≡ 3) }
 {
-    match TableHandle::new(alloc, Table::new(alloc)) {
+    match TableHandle::new(alloc, UrlTable::new(alloc)) {
         Ok(handle) => {
             *table = handle;
             DONE
@@ -24,10 +23,10 @@ pub extern "C" fn smap_table_new(alloc: Global, table: &mut TableHandle) -> u32
     }
 }
 
-/// Puts a map into a table, under its URL, which frames name as it stands here, in UTF-8. The table takes the map over,
-/// and its handle is empty then. Where the map is refused, both stay, and `refusal` is 1 or 2, that of A1 or A2, or 0
-/// where the URL is not UTF-8. Where there is not enough memory for one that is not refused, the table stays, and the map is
-/// freed.
+/// Puts a map into a table, under its URL, which frames name as it stands here, in UTF-8; or, where that begins with `*`,
+/// under the text behind it, for the URLs that the pattern has. The table takes the map over, and its handle is empty then.
+/// Where the map is refused, both stay, and `refusal` is 1 or 2, that of A1 or A2, or 0 where the URL is not UTF-8. Where
+/// there is not enough memory for one that is not refused, the table stays, and the map is freed.
 #[unsafe(no_mangle)]
 pub extern "C" fn smap_table_add(
     alloc: Global,
@@ -51,31 +50,15 @@ pub extern "C" fn smap_table_add(
         *refusal = 0;
         return REFUSED;
     };
-    if let Some(refused) = refusal_of(table.lend(), url) {
+    if let Some(refused) = table.lend().refusal_of(url) {
         *refusal = refused.code().number();
         return REFUSED;
     }
     let file = map.empty(alloc);
-    let Ok(owned) = String::from_str(alloc, text) else {
-        return NO_MEMORY;
-    };
-    match table.lend().add(owned, file) {
+    match table.lend().add(alloc, text, file) {
         Ok(()) => DONE,
         Err(_no_memory) => NO_MEMORY,
     }
-}
-
-// Why a table takes no map under a URL, which is asked before the map leaves its handle.
-fn refusal_of(table: &Table, url: &[u8]) -> Option<TableRefusal>
-    ensures { result ≡ url_refusal table.now url.now }
-{
-    if is_bad_url(url) {
-        return Some(TableRefusal::BadUrl);
-    }
-    if table.map_for(url).is_some() {
-        return Some(TableRefusal::Twice);
-    }
-    None
 }
 
 /// Frees a table with its maps, and leaves its handle empty.

@@ -29,7 +29,7 @@ use crate::texts::{Source, Text, smap_file, smap_name, smap_source};
 use crate::trace::{TraceCounts, smap_rewrite, smap_rewrite_anywhere};
 use crate::written::{smap_bytes_free, smap_bytes_text, smap_compose, smap_map_write};
 use smap_record::MapFile;
-use smap_trace::Table;
+use smap_tables::UrlTable;
 use std::alloc::Global;
 use std::fs;
 use std::process::Abort;
@@ -66,7 +66,7 @@ fn no_bytes(alloc: Global) -> Result<BytesHandle, Fail> {
 
 // A handle of a table that was freed.
 fn no_table(alloc: Global) -> Result<TableHandle, Fail> {
-    match TableHandle::new(alloc, Table::new(alloc)) {
+    match TableHandle::new(alloc, UrlTable::new(alloc)) {
         Ok(mut handle) => {
             smap_table_free(alloc, &mut handle);
             Ok(handle)

@@ -1,23 +1,22 @@
 //! A trace in memory, and its rewriting.
 ghost use Rattle.std.specs.Prelude.{◌≡◌, ◌≢◌, ◌<◌, ◌≤◌, ◌⊎◌, [], Some, true, false, IfErr, IfOk, IfSome, IsSome, length};
 ghost use Rattle.smap_lines.specs.Limits.{most_text_bytes};
-ghost use Rattle.smap_places.specs.PlacesRewritten.{place_counts, placed_text};
+ghost use Rattle.smap_tables.specs.UrlTable.{map_under};
+ghost use Rattle.smap_trace.specs.Hiding.{only_ignored};
+ghost use Rattle.smap_trace.specs.MapsOf.{counts_by, rewritten_by};
 ghost use Rattle.smap_trace.specs.Rewriting.{counts_seen as summary_seen};
-ghost use Rattle.smap_trace.specs.Rewritten.{counts_of, rewritten};
-ghost use Rattle.smap_c.specs.Trace.{counts_seen, counts_with, text_read, text_with};
+ghost use Rattle.smap_c.specs.Trace.{counts_seen, counts_with, has_map_of_all, is_for_all, place_counts_by, placed_by, text_read, text_with};
 ghost use Rattle.smap_c.specs.Private.Rewriting.{IsRewritten, IsTooMuch, fault_status};
 
-use crate::cut_maps::CutMaps;
 use crate::handles::{BytesHandle, TableHandle};
 use crate::status::{DONE, NO_MEMORY, REFUSED};
 use crate::written::hand_out;
 use smap_io::{ByteSink, ByteSource, DeviceFault};
 use smap_lines::MOST_TEXT_BYTES;
-use smap_places::rewrite_places;
+use smap_places::{PlaceFinder, rewrite_places_over};
 use smap_sequences::WithoutSequences;
-use smap_trace::{
-    Hiding, RewriteFault, RewriteOptions as FrameOptions, Summary, Table, rewrite, rewrite_over,
-};
+use smap_tables::{UrlMaps, UrlTable};
+use smap_trace::{Hiding, RewriteFault, RewriteOptions as FrameOptions, Summary, rewrite_over};
 use std::alloc::Global;
 
 /// What was in a trace that was rewritten, or in a text whose places were.
@@ -112,11 +111,12 @@ pub struct RewriteOptions {
     pub anywhere: bool,
     /// Whether the text is read without the control sequences by which a terminal is told of colours and the like (ECMA-48).
     pub strip_ansi: bool,
-    /// Whether a frame whose URL is not in the table has the map under it without its query and its fragment.
+    /// Whether a frame whose URL is not in the table has the map under it without its query and its fragment, before those of
+    /// patterns.
     pub cut: bool,
 }
 
-/// Rewrites a trace: a frame whose URL is in the table and whose place has an original gets it in its place, and every
+/// Rewrites a trace: a frame whose URL has a map in the table and whose place has an original gets it in its place, and every
 /// other byte stays. With `hide_ignored` the lines of frames whose original is in an ignored source are dropped. A
 /// trace of more than 1,073,741,824 bytes is refused. `bytes` and `counts` are written where the trace was rewritten.
 #[unsafe(no_mangle)]
@@ -130,9 +130,11 @@ pub extern "C" fn smap_rewrite(
 ) -> u32
     requires { IsSome table.old.held }
     ensures text { IfSome table.old.held (λ maps.
-        result ≡ 0 → bytes.new.held ≡ Some (rewritten trace.now maps hide_ignored)) }
+        result ≡ 0 → bytes.new.held
+        ≡ Some (rewritten_by (map_under false maps) (only_ignored hide_ignored) trace.now)) }
     ensures counts { IfSome table.old.held (λ maps.
-        result ≡ 0 → counts_seen counts.new ≡ counts_of trace.now maps hide_ignored) }
+        result ≡ 0 → counts_seen counts.new
+        ≡ counts_by (map_under false maps) (only_ignored hide_ignored) trace.now) }
     ensures refused { result ≡ 1 → most_text_bytes < length trace.now }
     ensures fits { result ≡ 0 → length trace.now ≤ most_text_bytes }
     ensures stays { (table.new.held ≡ table.old.held)
@@ -148,9 +150,10 @@ pub extern "C" fn smap_rewrite(
     smap_rewrite_with(alloc, table, trace, &options, bytes, counts)
 }
 
-/// Rewrites a text: a place `URL:line:column`, wherever it stands in a line, whose URL is in the table and which has an
-/// original gets it in its stead, and every other byte stays. A text of more than 1,073,741,824 bytes is refused. `bytes`
-/// and `counts`, which has places in place of frames, are written where the text was rewritten.
+/// Rewrites a text: a place `URL:line:column`, wherever it stands in a line, whose URL has a map in the table and which has an
+/// original gets it in its stead, and every other byte stays. A text of more than 1,073,741,824 bytes is refused, and any
+/// where the table has a map under `*` alone. `bytes` and `counts`, which has places in place of frames, are written where the
+/// text was rewritten.
 #[unsafe(no_mangle)]
 pub extern "C" fn smap_rewrite_anywhere(
     alloc: Global,
@@ -161,10 +164,12 @@ pub extern "C" fn smap_rewrite_anywhere(
 ) -> u32
     requires { IsSome table.old.held }
     ensures text { IfSome table.old.held (λ maps.
-        result ≡ 0 → bytes.new.held ≡ Some (placed_text text.now maps)) }
+        result ≡ 0 → bytes.new.held ≡ Some (placed_by maps text.now)) }
     ensures counts { IfSome table.old.held (λ maps.
-        result ≡ 0 → counts_seen counts.new ≡ place_counts text.now maps) }
-    ensures refused { result ≡ 1 → most_text_bytes < length text.now }
+        result ≡ 0 → counts_seen counts.new ≡ place_counts_by maps text.now) }
+    ensures refused { IfSome table.old.held (λ maps. result ≡ 1 →
+        (most_text_bytes < length text.now) ⊎ (has_map_of_all maps ≡ true)) }
+    ensures sound { IfSome table.old.held (λ maps. has_map_of_all maps ≡ true → result ≡ 1) }
     ensures fits { result ≡ 0 → length text.now ≤ most_text_bytes }
     ensures stays { (table.new.held ≡ table.old.held)
         × (result ≢ 0 → (bytes.new.held ≡ bytes.old.held) × (counts.new ≡ counts.old)) }
@@ -193,82 +198,126 @@ pub extern "C" fn smap_rewrite_with(
 ) -> u32
     requires { IsSome table.old.held }
     ensures text { IfSome table.old.held (λ maps.
-        result ≡ 0 → bytes.new.held ≡ Some (text_with options.now text.now maps)) }
+        result ≡ 0 → bytes.new.held ≡ Some (text_with options.now maps text.now)) }
     ensures counts { IfSome table.old.held (λ maps.
-        result ≡ 0 → counts_seen counts.new ≡ counts_with options.now text.now maps) }
-    ensures refused { result ≡ 1 → most_text_bytes < length (text_read options.now text.now) }
+        result ≡ 0 → counts_seen counts.new ≡ counts_with options.now maps text.now) }
+    ensures refused { IfSome table.old.held (λ maps. result ≡ 1 →
+        (most_text_bytes < length (text_read options.now text.now)) ⊎ (is_for_all options.now maps ≡ true)) }
+    ensures sound { IfSome table.old.held (λ maps.
+        is_for_all options.now maps ≡ true → result ≡ 1) }
     ensures fits { result ≡ 0 → length (text_read options.now text.now) ≤ most_text_bytes }
     ensures stays { (table.new.held ≡ table.old.held)
         × (result ≢ 0 → (bytes.new.held ≡ bytes.old.held) × (counts.new ≡ counts.old)) }
     ensures status { (result ≡ 0) ⊎ (result ≡ 1) ⊎ (result ≡ 3) }
 {
-    let input = Input { left: text };
+    if is_for_all(options, table.lend()) {
+        return REFUSED;
+    }
     let mut output = Output::new(alloc);
-    let outcome = if options.strip_ansi {
-        rewrite_stripped(alloc, table.lend(), input, options, &mut output)
-    } else {
-        rewrite_input(alloc, table.lend(), input, options, &mut output)
-    };
+    let outcome = rewrite_text(alloc, table.lend(), text, options, &mut output);
     reported(alloc, outcome, output.bytes, bytes, counts)
 }
 
-// Rewrites a text as it is, into an output that has nothing yet.
-fn rewrite_input(
+// Whether places are asked for anywhere over a map of all URLs.
+fn is_for_all(options: &RewriteOptions, table: &UrlTable) -> bool
+    ensures { result ≡ is_for_all options.now table.now }
+{
+    options.anywhere && table.has_map_of_all()
+}
+
+// Rewrites a text, or what is left of it without its control sequences, into an output that has nothing yet.
+fn rewrite_text(
     alloc: Global,
-    table: &Table,
-    mut input: Input<'_>,
+    table: &UrlTable,
+    text: &[u8],
     options: &RewriteOptions,
     output: &mut Output,
 ) -> Result<Summary, RewriteFault>
-    requires strips { options.now.strip_ansi ≡ false }
     requires empty { (output.old.bytes.items ≡ []) × (output.old.failed ≡ false) }
-    ensures rewritten { IfOk result
-        (IsRewritten options.now input.entry.left.now table.now output.new.bytes.items) }
-    ensures refused { IfErr result (IsTooMuch options.now input.entry.left.now) }
+    ensures rewritten { IfOk result (IsRewritten options.now table.now
+        (text_read options.now text.now) output.new.bytes.items) }
+    ensures refused { IfErr result (IsTooMuch (text_read options.now text.now)) }
 {
-    if options.anywhere {
-        rewrite_places(alloc, &mut input, output, table, MOST_TEXT_BYTES)
-    } else if options.cut {
-        let mut maps = CutMaps(table);
-        let by_frames = FrameOptions {
-            hiding: Hiding::only_ignored(options.hide_ignored),
-            most: MOST_TEXT_BYTES,
-        };
-        let counts = rewrite_over(alloc, &mut input, output, &mut maps, by_frames)?;
-        Ok(counts.summary)
+    let mut input = Input { left: text };
+    if options.strip_ansi {
+        let mut stripped = WithoutSequences::new(input);
+        rewrite_read(alloc, table, &mut stripped, options, output)
     } else {
-        rewrite(alloc, &mut input, output, table, options.hide_ignored)
+        rewrite_read(alloc, table, &mut input, options, output)
     }
 }
 
-// Rewrites a text without its control sequences, into an output that has nothing yet.
-fn rewrite_stripped(
+// Rewrites what an input has left, into an output that has nothing yet.
+fn rewrite_read<R: ByteSource>(
     alloc: Global,
-    table: &Table,
-    input: Input<'_>,
+    table: &UrlTable,
+    input: &mut R,
     options: &RewriteOptions,
     output: &mut Output,
 ) -> Result<Summary, RewriteFault>
-    requires strips { options.now.strip_ansi ≡ true }
+    requires works { (R.seen input.old).failed ≡ false }
     requires empty { (output.old.bytes.items ≡ []) × (output.old.failed ≡ false) }
-    ensures rewritten { IfOk result
-        (IsRewritten options.now input.entry.left.now table.now output.new.bytes.items) }
-    ensures refused { IfErr result (IsTooMuch options.now input.entry.left.now) }
+    ensures rewritten { IfOk result (λ summary. IfSome (R.seen input.old).left (λ read.
+        IsRewritten options.now table.now read output.new.bytes.items summary)) }
+    ensures refused { IfErr result (λ fault. IfSome (R.seen input.old).left (λ read.
+        IsTooMuch read fault)) }
 {
-    let mut text = WithoutSequences::new(input);
     if options.anywhere {
-        rewrite_places(alloc, &mut text, output, table, MOST_TEXT_BYTES)
-    } else if options.cut {
-        let mut maps = CutMaps(table);
-        let by_frames = FrameOptions {
-            hiding: Hiding::only_ignored(options.hide_ignored),
-            most: MOST_TEXT_BYTES,
-        };
-        let counts = rewrite_over(alloc, &mut text, output, &mut maps, by_frames)?;
-        Ok(counts.summary)
+        rewrite_places(alloc, table, input, options, output)
     } else {
-        rewrite(alloc, &mut text, output, table, options.hide_ignored)
+        rewrite_frames(alloc, table, input, options, output)
     }
+}
+
+// The same by its places anywhere.
+fn rewrite_places<R: ByteSource>(
+    alloc: Global,
+    table: &UrlTable,
+    input: &mut R,
+    options: &RewriteOptions,
+    output: &mut Output,
+) -> Result<Summary, RewriteFault>
+    requires anywhere { options.now.anywhere ≡ true }
+    requires works { (R.seen input.old).failed ≡ false }
+    requires empty { (output.old.bytes.items ≡ []) × (output.old.failed ≡ false) }
+    ensures rewritten { IfOk result (λ summary. IfSome (R.seen input.old).left (λ read.
+        IsRewritten options.now table.now read output.new.bytes.items summary)) }
+    ensures refused { IfErr result (λ fault. IfSome (R.seen input.old).left (λ read.
+        IsTooMuch read fault)) }
+{
+    let Ok(finder) = PlaceFinder::new(alloc, table.words(), table.locations()) else {
+        return Err(RewriteFault::Memory);
+    };
+    let mut maps = UrlMaps { table, cut: true };
+    rewrite_places_over(alloc, input, output, &finder, &mut maps, MOST_TEXT_BYTES)
+}
+
+// The same by its frames.
+fn rewrite_frames<R: ByteSource>(
+    alloc: Global,
+    table: &UrlTable,
+    input: &mut R,
+    options: &RewriteOptions,
+    output: &mut Output,
+) -> Result<Summary, RewriteFault>
+    requires frames { options.now.anywhere ≡ false }
+    requires works { (R.seen input.old).failed ≡ false }
+    requires empty { (output.old.bytes.items ≡ []) × (output.old.failed ≡ false) }
+    ensures rewritten { IfOk result (λ summary. IfSome (R.seen input.old).left (λ read.
+        IsRewritten options.now table.now read output.new.bytes.items summary)) }
+    ensures refused { IfErr result (λ fault. IfSome (R.seen input.old).left (λ read.
+        IsTooMuch read fault)) }
+{
+    let mut maps = UrlMaps {
+        table,
+        cut: options.cut,
+    };
+    let by_frames = FrameOptions {
+        hiding: Hiding::only_ignored(options.hide_ignored),
+        most: MOST_TEXT_BYTES,
+    };
+    let counts = rewrite_over(alloc, input, output, &mut maps, by_frames)?;
+    Ok(counts.summary)
 }
 
 // Hands out what was written and says what was counted, where a text was rewritten; and its status.

@@ -110,6 +110,6 @@ call rewrite_refusal_text, write_refusal_text, encode_refusal_text;
 /* compose.c */
 call compose, new_inners, put_inner, next_inner, inner_name, compose_all;
 /* table.c */
-call new_table, add, table_look_up, rewrite, stripped, next_frame_url;
+call new_table, add, table_has, table_look_up, rewrite, stripped, next_frame_url;
 
 #endif

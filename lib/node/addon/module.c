@@ -13,7 +13,7 @@ NAPI_MODULE_INIT() {
         {"sourceLines", source_lines}, {"isIgnored", is_ignored},
         {"name", name}, {"file", file}, {"write", write_map}, {"compose", compose}, {"newInners", new_inners},
         {"putInner", put_inner}, {"nextInner", next_inner}, {"innerName", inner_name}, {"composeAll", compose_all}, {"newTable", new_table},
-        {"add", add}, {"tableLookUp", table_look_up}, {"rewrite", rewrite}, {"stripped", stripped},
+        {"add", add}, {"tableHas", table_has}, {"tableLookUp", table_look_up}, {"rewrite", rewrite}, {"stripped", stripped},
         {"nextFrameUrl", next_frame_url}, {"composeRefusalText", compose_refusal_text},
         {"tableRefusalText", table_refusal_text}, {"generatedRefusalText", generated_refusal_text},
         {"rewriteRefusalText", rewrite_refusal_text}, {"writeRefusalText", write_refusal_text},

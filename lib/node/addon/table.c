@@ -79,8 +79,26 @@ napi_value stripped(napi_env env, napi_callback_info info) {
     return status == SMAP_REFUSED ? null(env) : refuse(env, "out of memory");
 }
 
-/* tableLookUp(table, url, line, column): what the map under the URL, or under it without query and fragment, answers, as a list of the
- * source's name, line, column, the name, whether it is ignored, and the source's number; or null. */
+/* URLs are looked up with or without query and fragment. */
+static const smap_table_options cut = {.after = false, .cut = true};
+
+/* tableHas(table, url): whether a URL has a map, by itself or by a pattern. */
+napi_value table_has(napi_env env, napi_callback_info info) {
+    napi_value words[WORDS], has;
+    const uint8_t *url;
+    size_t length;
+    if (!words_of(env, info, 2, words)) return NULL;
+    struct held *table = held_of(env, words[0], TABLE);
+    if (!table || !bytes_of(env, words[1], &url, &length)) return NULL;
+    smap_found found = {0};
+    smap_source_text source = SMAP_SOURCE;
+    smap_text name = SMAP_TEXT;
+    bool done = smap_table_look_up(&table->table, url, length, 0, 0, &cut, &found, &source, &name) == SMAP_DONE;
+    return napi_get_boolean(env, done, &has) == napi_ok ? has : NULL;
+}
+
+/* tableLookUp(table, url, line, column): what the map of a URL answers, as a list of the source's name, line, column, the name, whether
+ * it is ignored, and the source's number; or null. */
 napi_value table_look_up(napi_env env, napi_callback_info info) {
     napi_value words[WORDS], list, ignored;
     const uint8_t *url;
@@ -90,11 +108,10 @@ napi_value table_look_up(napi_env env, napi_callback_info info) {
     struct held *table = held_of(env, words[0], TABLE);
     if (!table || !bytes_of(env, words[1], &url, &length)) return NULL;
     if (!number_of(env, words[2], &line) || !number_of(env, words[3], &column)) return NULL;
-    const smap_table_options options = {.after = false, .cut = true};
     smap_found found = {0};
     smap_source_text source = SMAP_SOURCE;
     smap_text name = SMAP_TEXT;
-    uint32_t status = smap_table_look_up(&table->table, url, length, line, column, &options, &found, &source, &name);
+    uint32_t status = smap_table_look_up(&table->table, url, length, line, column, &cut, &found, &source, &name);
     if (status != SMAP_DONE || found.kind != 2) return null(env);
     napi_get_boolean(env, source.ignored != 0, &ignored);
     const napi_value parts[] = {

@@ -35,7 +35,7 @@ static PyObject *table_close(PyObject *self, PyObject *unused) {
     return none();
 }
 
-/* Puts a map into the table under a URL. Gives None, or the number of the refusal. */
+/* Puts a map into the table under a URL or a pattern. Gives None, or the number of the refusal. */
 static PyObject *table_put(PyObject *self, PyObject *words) {
     struct held *table = (struct held *)self, *map;
     PyObject *data, *value;
@@ -77,7 +77,21 @@ static PyObject *table_rewrite(PyObject *self, PyObject *words) {
     return rewritten(status, &bytes, &count);
 }
 
-/* What the map under a URL, or under it without query and fragment, answers: where the place comes from, or None. */
+/* URLs are looked up with or without query and fragment. */
+static const smap_table_options cut = {false, true};
+
+/* Whether a URL has a map, by itself or by a pattern. */
+static PyObject *table_has(PyObject *self, PyObject *data) {
+    struct held *held = (struct held *)self;
+    struct given url;
+    if (!bytes_of(data, &url) || !ready(&held, 1)) return NULL;
+    smap_found found = {0};
+    smap_source_text source = SMAP_SOURCE;
+    smap_text name = SMAP_TEXT;
+    return PyBool_FromLong(smap_table_look_up(&held->table, url.bytes, url.length, 0, 0, &cut, &found, &source, &name) == SMAP_DONE);
+}
+
+/* What the map of a URL answers: where the place comes from, or None. */
 static PyObject *table_look_up(PyObject *self, PyObject *words) {
     struct held *held = (struct held *)self;
     PyObject *data, *given_line, *given_column;
@@ -85,11 +99,10 @@ static PyObject *table_look_up(PyObject *self, PyObject *words) {
     uint32_t line, column;
     if (!PyArg_ParseTuple(words, "OOO", &data, &given_line, &given_column) || !bytes_of(data, &url)) return NULL;
     if (!place_of(given_line, "line", &line) || !place_of(given_column, "column", &column) || !ready(&held, 1)) return NULL;
-    const smap_table_options options = {false, true};
     smap_found found = {0};
     smap_source_text source = SMAP_SOURCE;
     smap_text name = SMAP_TEXT;
-    uint32_t status = smap_table_look_up(&held->table, url.bytes, url.length, line, column, &options, &found, &source, &name);
+    uint32_t status = smap_table_look_up(&held->table, url.bytes, url.length, line, column, &cut, &found, &source, &name);
     if (status != SMAP_DONE || found.kind != 2) return none();
     PyObject *items[] = {
         text_if(source.named, source.name), PyLong_FromUnsignedLong(found.line), PyLong_FromUnsignedLong(found.column),
@@ -133,6 +146,7 @@ PyObject *frame_urls(PyObject *module, PyObject *data) {
 static PyMethodDef table_methods[] = {
     {"close", table_close, METH_NOARGS, "close($self)\n--\n\nFrees the maps."},
     {"_put", table_put, METH_VARARGS, NULL},
+    {"_has", table_has, METH_O, NULL},
     {"_rewrite", table_rewrite, METH_VARARGS, NULL},
     {"_look_up", table_look_up, METH_VARARGS, NULL},
     {NULL, NULL, 0, NULL},

@@ -49,7 +49,7 @@ class Maps:
                refused: Optional[Callable[[str, Exception], object]] = None, paths: bool = False) -> "Maps":
         """The maps of the URLs that begin with this prefix, which ends in `/`, in a folder, as the program has them of `PREFIX=FOLDER/`:
         that of PREFIXjs/app.js is js/app.js.map. No URL leads out of the folder. A file that is not there is no map."""
-        if not _given.text(prefix, "prefix").endswith("/"):
+        if not _whole(prefix, "prefix").endswith("/"):
             raise ValueError("a prefix ends in /")
         folder = os.fspath(root)
 
@@ -105,8 +105,8 @@ class Maps:
         return None if source_map is None else source_map.place(line, column)
 
     def add(self, url: str, given: Given) -> None:
-        """Puts a map under this very URL, in place of what is kept of it. Raises `Refused`."""
-        read = SourceMap._under(_given.text(url, "a URL"), given, self._paths)
+        """Puts a map under this very URL, in place of what is kept of it. Raises `Refused`. A pattern is no URL here."""
+        read = SourceMap._under(_whole(url, "a URL"), given, self._paths)
         with self._lock:
             self._keep(url, read)
 
@@ -231,6 +231,13 @@ def _named(text: bytes, begin: int, anywhere: bool) -> Iterator[Tuple[int, bytes
     else:
         for url in _smap.frame_urls(text[begin:]):
             yield text.find(url, begin), url
+
+
+# A URL or a prefix, which is no pattern.
+def _whole(url: str, what: str) -> str:
+    if _given.text(url, what).startswith("*"):
+        raise ValueError(f"{what} that is a pattern")
+    return url
 
 
 def _size_of(key: str, source_map: Optional[SourceMap]) -> int:

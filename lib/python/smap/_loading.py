@@ -26,16 +26,17 @@ _BEFORE, _BEHIND = 48, 24
 _POSITION = re.compile(rb":[0-9]+:[0-9]+")
 
 
-def ask(known: Dict[bytes, bool], held: Held, anywhere: bool, is_loaded: Callable[[bytes], bool]) -> List[Part]:
-    """Asks for the map of each URL that the text names, without query and fragment, and that is not known. Gives the
-    parts without which URLs have a map."""
+def ask(known: Dict[bytes, bool], held: Held, anywhere: bool, is_of_pattern: Callable[[bytes], bool],
+        is_loaded: Callable[[bytes], bool]) -> List[Part]:
+    """Asks for the map of each URL that the text names, without query and fragment, and that is not known and has not that of
+    a pattern. Gives the parts without which URLs have a map."""
     parts: List[Part] = []
     for url, starts in _named(held, anywhere):
         if known.get(url):
             continue
         short = cut(url)
         if short not in known:
-            if not is_location(short):
+            if not is_location(short) or is_of_pattern(url):
                 continue
             # It may rewrite over the same maps itself.
             known[short] = False

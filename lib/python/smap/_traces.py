@@ -57,6 +57,9 @@ class Rewriter(_smap.Table):
         refused, is told to `refused` with the URL, or else kept in `refusals`, of which there are 100 at most; the frames
         stay.
 
+        A URL that begins with `*` is a pattern: its map is that of each URL that ends with the text behind it, where a piece of
+        the URL begins, with or without query and fragment, if no map is under the URL; of several the longest text decides.
+
         With `paths` relative sources go on from the folder of a URL that is an absolute path, as node prints them."""
         self._paths = bool(paths)
         self._asking = threading.RLock()
@@ -64,6 +67,7 @@ class Rewriter(_smap.Table):
         self._told = Told(refused)
         # Whether URLs that were named have a map here.
         self._known: Dict[bytes, bool] = {}
+        self._has_patterns = False
         self.counts: Dict[str, int] = {}
         if not isinstance(maps, AnyMapping):
             raise TypeError(f"maps are a dict of URLs and maps, not {type(maps).__name__}")
@@ -85,6 +89,11 @@ class Rewriter(_smap.Table):
         if why is not None:
             raise refused_url(why, url)
         self._known[bytes_in] = True
+        self._has_patterns = self._has_patterns or url.startswith("*")
+
+    # Whether a URL under which there is no map has that of a pattern.
+    def _is_of_pattern(self, url: bytes) -> bool:
+        return self._has_patterns and self._has(url)
 
     # Whether the loader gives a map of this URL, which the table takes. A URL that is not UTF-8 has none.
     def _is_loaded(self, bytes_in: bytes) -> bool:
@@ -117,13 +126,13 @@ class Rewriter(_smap.Table):
         self.close()
 
     def look_up(self, url: str, line: int, column: int) -> Optional[Place]:
-        """Where a place in the file of a URL comes from, by the map under it or else under it without query and fragment; or None where
-        there is no such map, or that has no original. The loader is asked as for a frame."""
+        """Where a place in the file of a URL comes from, by the map under it, or else under it without query and fragment, or else of a
+        pattern; or None where there is no such map, or that has no original. The loader is asked as for a frame."""
         bytes_in = _given.text(url, "a URL").encode(errors="surrogatepass")
         if self._load is not None and not self._known.get(bytes_in):
             with self._asking:
                 short = cut(bytes_in)
-                if short not in self._known and is_location(short):
+                if short not in self._known and is_location(short) and not self._is_of_pattern(bytes_in):
                     self._known[short] = False
                     self._known[short] = self._is_loaded(short)
         return self._look_up(bytes_in, line, column)
@@ -135,10 +144,13 @@ class Rewriter(_smap.Table):
         terminal."""
         if hide_ignored and anywhere:
             raise ValueError("hide_ignored with anywhere")
+        if anywhere and b"*" in self._known:
+            raise ValueError("* with anywhere")
         held = stripped(trace) if strip_ansi else _given.trace_bytes(trace)
         parts = self._ask(held, bool(anywhere))
+        is_cut = self._load is not None or self._has_patterns
         text, (lines, places, mapped, hidden) = cut_and_rewritten(
-            lambda some: self._rewrite(some, bool(hide_ignored), bool(anywhere), False, self._load is not None), held, parts)
+            lambda some: self._rewrite(some, bool(hide_ignored), bool(anywhere), False, is_cut), held, parts)
         self.counts = {"lines": lines, "places": places, "mapped": mapped} if anywhere else {
             "lines": lines, "frames": places, "mapped": mapped, "hidden": hidden}
         return text
@@ -147,4 +159,4 @@ class Rewriter(_smap.Table):
         if self._load is None:
             return []
         with self._asking:
-            return ask(self._known, held, anywhere, self._is_loaded)
+            return ask(self._known, held, anywhere, self._is_of_pattern, self._is_loaded)

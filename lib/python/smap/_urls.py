@@ -26,7 +26,9 @@ def cut(url: bytes) -> bytes:
 
 
 def is_location(text: bytes) -> bool:
-    """Whether this is a URL or a path, and no other text of a log: an absolute path, or that of a script below."""
+    """Whether this is a URL or a path, and no pattern or other text of a log: an absolute path, or that of a script below."""
+    if text.startswith(b"*"):
+        return False
     if b"://" in text or _ABSOLUTE.match(text):
         return True
     return bool(_SCRIPT.search(text)) and not {b"", b".."} & set(re.split(rb"[\\/]", text))

@@ -279,6 +279,11 @@ impl Refused {
         Refused::new(library::rewrite_refusal_text(TOO_MUCH))
     }
 
+    /// Why places are not rewritten over a map of all URLs.
+    pub(crate) fn places_of_all() -> Refused {
+        Refused::new(Some(String::from("* is not for places anywhere")))
+    }
+
     /// Of calls that refuse nothing.
     pub(crate) fn nothing() -> Refused {
         Refused::new(None)

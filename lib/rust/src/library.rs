@@ -41,6 +41,16 @@ fn no_text() -> sys::smap_text {
     }
 }
 
+fn no_source() -> sys::smap_source_text {
+    sys::smap_source_text {
+        name: no_text(),
+        content: no_text(),
+        named: 0,
+        held: 0,
+        ignored: 0,
+    }
+}
+
 /// The bytes of a text.
 ///
 /// # Safety

@@ -1,7 +1,7 @@
 //! Tables of maps, and the traces that are rewritten over them.
 
 use crate::compose::standing_at;
-use crate::error::Error;
+use crate::error::{Error, Refused};
 use crate::library;
 use crate::map::SourceMap;
 use crate::rewriting::{Rewriting, What};
@@ -29,6 +29,8 @@ pub struct Table {
     load: Option<Loader>,
     /// The URLs of frames that have a map or were asked for.
     known: HashSet<Vec<u8>>,
+    has_patterns: bool,
+    has_map_of_all: bool,
     refusals: Vec<(String, Error)>,
 }
 
@@ -49,6 +51,8 @@ impl Table {
             table: library::Table::new()?,
             load: None,
             known: HashSet::new(),
+            has_patterns: false,
+            has_map_of_all: false,
             refusals: Vec::new(),
         })
     }
@@ -87,19 +91,30 @@ impl Table {
         })
     }
 
-    /// Puts a map under a URL. One that no frame can name is refused, and one that has a map.
+    /// Puts a map under a URL. One that no frame can name is refused, and one that has a map. A URL
+    /// that begins with `*` is a pattern: its map is that of each URL that ends with the text behind
+    /// it, where a piece of the URL begins, with or without query and fragment, if no map is under
+    /// the URL with or without them; of several the longest text decides.
     ///
     /// ```
     /// # use smap::{SourceMap, Table};
     /// # let map = SourceMap::from_slice(br#"{"version":3,"sources":["a.ts"],"mappings":"AAEA"}"#)?;
     /// let mut table = Table::new()?;
     /// assert_eq!(table.insert("", map).unwrap_err().to_string(), "A1 BadUrl");
+    ///
+    /// # let map = SourceMap::from_slice(br#"{"version":3,"sources":["a.ts"],"mappings":"AAEA"}"#)?;
+    /// table.insert("*js/a.js", map)?;
+    /// let mut rewritten = Vec::new();
+    /// table.rewrite("f@https://ex.test/js/a.js?v=2:1:7\n".as_bytes(), &mut rewritten)?;
+    /// assert_eq!(rewritten, b"f@a.ts:3:1\n");
     /// # Ok::<(), smap::Error>(())
     /// ```
     pub fn insert(&mut self, url: impl AsRef<str>, map: SourceMap) -> Result<(), Error> {
         let url = url.as_ref();
         self.table.add(url, map.into_library_map())?;
         self.known.insert(url.as_bytes().to_vec());
+        self.has_patterns |= url.starts_with('*');
+        self.has_map_of_all |= url == "*";
         Ok(())
     }
 
@@ -165,7 +180,8 @@ impl Table {
     }
 
     /// Rewrites each place URL:line:column, wherever it stands in a line. A loader is asked for the
-    /// URLs of frames alone. A line of more than 1,073,741,824 bytes is refused.
+    /// URLs of frames alone. A line of more than 1,073,741,824 bytes is refused, and any text where
+    /// a map is under `*` alone.
     ///
     /// ```
     /// # use smap::{SourceMap, Table};
@@ -182,6 +198,9 @@ impl Table {
         reader: R,
         writer: W,
     ) -> Result<TraceCounts, Error> {
+        if self.has_map_of_all {
+            return Err(Refused::places_of_all().into());
+        }
         Rewriting::new(self, What::Places, writer).run(reader)
     }
 }
@@ -194,23 +213,28 @@ impl Table {
         what: What,
     ) -> Result<(library::Bytes, TraceCounts), Error> {
         self.ask(text)?;
-        let (text, counts) = match what {
-            What::Frames => self.table.rewritten(text, false),
-            What::VisibleFrames => self.table.rewritten(text, true),
-            What::Places => self.table.rewritten_anywhere(text),
-        }?;
+        let options = sys::smap_rewrite_options {
+            hide_ignored: what == What::VisibleFrames,
+            anywhere: what == What::Places,
+            strip_ansi: false,
+            cut: self.has_patterns,
+        };
+        let (text, counts) = self.table.rewritten(text, &options)?;
         Ok((text, TraceCounts::of(&counts)))
     }
 
-    /// Asks for the maps of frames whose URLs are new. A URL that is not UTF-8, or that no table
-    /// takes, has none.
+    /// Asks for the maps of frames whose URLs are new, and which no pattern has. A URL that is not
+    /// UTF-8, or that no table takes, has none, and what reads as a pattern is no URL.
     fn ask(&mut self, trace: &[u8]) -> Result<(), Error> {
         let load = match &mut self.load {
             Some(load) => load,
             None => return Ok(()),
         };
         for bytes in library::frame_urls(trace) {
-            if self.known.contains(bytes) {
+            if self.known.contains(bytes) || bytes.starts_with(b"*") {
+                continue;
+            }
+            if self.has_patterns && self.table.has(bytes) {
                 continue;
             }
             if let Ok(url) = std::str::from_utf8(bytes) {

@@ -208,6 +208,41 @@ fn a_table_takes_a_url_once() {
 }
 
 #[test]
+fn patterns_have_many_urls() {
+    let mut table = Table::with_loader(|url| {
+        assert_eq!(url, "https://ex.test/b.js", "a URL that a pattern has");
+        Ok(None::<&str>)
+    })
+    .expect("a table");
+    let map = |name: &str| {
+        let text = format!(
+            r#"{{"version":3,"sources":["{}"],"mappings":"AAEA"}}"#,
+            name
+        );
+        SourceMap::from_slice(text.as_bytes()).expect("a map")
+    };
+    for (url, name) in [("*a.js", "any.ts"), ("*js/a.js", "js.ts"), ("x.js", "x.ts")] {
+        table.insert(url, map(name)).expect(url);
+    }
+    let why = table.insert("*a.js", map("a.ts")).expect_err("twice");
+    assert_eq!(why.to_string(), "A2 Twice");
+    let mut to = Vec::new();
+    let trace = "f@https://ex.test/a.js?v=2:1:1\nf@https://ex.test/js/a.js:1:1\nf@https://ex.test/b.js:1:1\nf@x.js#y:1:1\n";
+    let counts = table.rewrite(trace.as_bytes(), &mut to).expect("a trace");
+    let made = "f@any.ts:3:1\nf@js.ts:3:1\nf@https://ex.test/b.js:1:1\nf@x.ts:3:1\n";
+    assert_eq!(String::from_utf8_lossy(&to), made);
+    assert_eq!((counts.frames, counts.mapped), (4, 3));
+    to.clear();
+    let text = "12:30:45 {\"at\":\"https://ex.test/a.js?v=2:1:1\"}\n";
+    table
+        .rewrite_anywhere(text.as_bytes(), &mut to)
+        .expect("a text");
+    assert_eq!(to, b"12:30:45 {\"at\":\"any.ts:3:1\"}\n");
+    table.insert("*", map("all.ts")).expect("a map of all");
+    assert!(table.rewrite_anywhere(text.as_bytes(), &mut to).is_err());
+}
+
+#[test]
 fn a_loader_is_asked_when_a_frame_names_the_url() {
     let asked = Arc::new(Mutex::new(Vec::new()));
     let seen = asked.clone();

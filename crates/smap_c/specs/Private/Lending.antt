@@ -2,9 +2,9 @@
 use Rattle.std.specs.Prelude.{List, ℕ, Some}
 use Rattle.std.specs.Borrow.{Lends, MutBor, Fml}
 use Rattle.smap_record.specs.MapFile.{Map}
-use Rattle.smap_record.specs.Record.{MapRecord}
 use Rattle.smap_record.specs.contracts.map_file.MapFile as map_file
-use Rattle.smap_trace.specs.contracts.table.Table as trace_table
+use Rattle.smap_tables.specs.UrlTable.{UrlTableSeen}
+use Rattle.smap_tables.specs.contracts.url_table.UrlTable as url_table
 use Rattle.smap_originals.specs.contracts.originals.Originals as originals_index
 use Rattle.smap_originals.specs.declared.place.GeneratedPlace.{GeneratedPlace}
 use Rattle.smap_c.specs.Inners.{Places}
@@ -27,11 +27,11 @@ with_map handle held = record handle { held = Some held }
 abbrev pub LendsMap : MutBor MapHandle → MutBor Map → Fml
 LendsMap handle lent = Lends map_handle.the_row map_file.the_row handle lent (with_map handle.now)
 
-abbrev pub with_table : TableHandle → List (List ℕ × MapRecord) → TableHandle
+abbrev pub with_table : TableHandle → UrlTableSeen → TableHandle
 with_table handle held = record handle { held = Some held }
 
-abbrev pub LendsTable : MutBor TableHandle → MutBor (List (List ℕ × MapRecord)) → Fml
-LendsTable handle lent = Lends table_handle.the_row trace_table.the_row handle lent (with_table handle.now)
+abbrev pub LendsTable : MutBor TableHandle → MutBor UrlTableSeen → Fml
+LendsTable handle lent = Lends table_handle.the_row url_table.the_row handle lent (with_table handle.now)
 
 abbrev pub with_inners : InnersHandle → Places → InnersHandle
 with_inners handle held = record handle { held = Some held }

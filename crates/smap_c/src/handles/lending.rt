@@ -9,7 +9,7 @@ use crate::inners::Inners;
 use crate::loose::Loose;
 use smap_originals::Originals;
 use smap_record::MapFile;
-use smap_trace::Table;
+use smap_tables::UrlTable;
 use std::alloc::Global;
 
 impl MapHandle {
@@ -37,22 +37,22 @@ impl MapHandle {
 
 impl TableHandle {
     /// What the handle holds, which is not empty.
-    pub(crate) fn lend(&mut self) -> &mut Table
+    pub(crate) fn lend(&mut self) -> &mut UrlTable
         requires { IsSome self.old.held }
         ensures* writes_back { sem 𝓛 (LendsTable self.entry result) }
         ensures value { Some result.now ≡ self.old.held }
     {
-        unsafe { &mut *(self.at as *mut Table) }
+        unsafe { &mut *(self.at as *mut UrlTable) }
     }
 
     // Takes out what the handle holds, and leaves it empty.
-    pub(super) fn take(&mut self, alloc: Global) -> Loose<Table, Global>
+    pub(super) fn take(&mut self, alloc: Global) -> Loose<UrlTable, Global>
         requires { IsSome self.old.held }
         ensures taken { Some result.value ≡ self.old.held }
         ensures emptied { self.new.held ≡ None }
     {
         Loose {
-            at: self.at as *mut Table,
+            at: self.at as *mut UrlTable,
             alloc,
         }
     }

@@ -7,7 +7,7 @@ use crate::inners::Inners;
 use crate::loose::Loose;
 use smap_originals::Originals;
 use smap_record::MapFile;
-use smap_trace::Table;
+use smap_tables::UrlTable;
 use std::alloc::{AllocFailed, Global};
 
 impl MapHandle {
@@ -45,7 +45,7 @@ impl MapHandle {
 }
 
 impl TableHandle {
-    pub(crate) fn new(alloc: Global, table: Table) -> Result<TableHandle, AllocFailed<Table>>
+    pub(crate) fn new(alloc: Global, table: UrlTable) -> Result<TableHandle, AllocFailed<UrlTable>>
         ensures made { IfOk result (λ handle. handle.held ≡ Some table) }
         ensures back { IfErr result (λ failed. failed.value ≡ table) }
     {
@@ -53,7 +53,7 @@ impl TableHandle {
     }
 
     /// Takes out what the handle holds, and frees its room.
-    pub(crate) fn empty(&mut self, alloc: Global) -> Table
+    pub(crate) fn empty(&mut self, alloc: Global) -> UrlTable
         requires { IsSome self.old.held }
         ensures taken { Some result ≡ self.old.held }
         ensures emptied { self.new.held ≡ None }

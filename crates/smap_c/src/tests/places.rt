@@ -11,7 +11,9 @@ use crate::status::REFUSED;
 use crate::table_look_up::{TableOptions, smap_table_look_up};
 use crate::tables::{smap_table_add, smap_table_new};
 use crate::texts::{Source, Text};
-use crate::trace::{RewriteOptions, TraceCounts, smap_rewrite_with};
+use crate::trace::{
+    RewriteOptions, TraceCounts, smap_rewrite, smap_rewrite_anywhere, smap_rewrite_with,
+};
 use std::alloc::Global;
 use std::process::Abort;
 use std::test::Fail;
@@ -180,5 +182,37 @@ fn a_coloured_trace_is_rewritten(rt: HostRuntime) -> Result<(), Fail> {
     assert_done(&rt, status);
     assert!(&rt; counts.lines == 1 && counts.frames == 1 && counts.mapped == 1);
     assert_bytes(&rt, &mut bytes, "    at g (a.js:2:2)\n");
+    Ok(())
+}
+
+#[test]
+fn patterns_have_many_urls(rt: HostRuntime) -> Result<(), Fail> {
+    let alloc = rt.alloc();
+    let mut table = table_of(&rt, alloc, "*js/out.js")?;
+    let mut map = read_map(&rt, alloc, LINES, "")?;
+    let mut refusal = 9;
+    let twice = b"*js/out.js";
+    let status = smap_table_add(alloc, &mut table, twice, &mut map, &mut refusal);
+    assert_refused(&rt, status);
+    assert_eq!(&rt; refusal, 2);
+    let mut counts = TraceCounts {
+        lines: 9,
+        frames: 9,
+        mapped: 9,
+        hidden: 9,
+    };
+    let trace = b"    at g (https://h.test/js/out.js?v=3:1:2)\n    at out.js:1:2\n";
+    let mut bytes = no_bytes(alloc)?;
+    let status = smap_rewrite(alloc, &mut table, trace, false, &mut bytes, &mut counts);
+    assert_done(&rt, status);
+    assert!(&rt; counts.frames == 2 && counts.mapped == 1);
+    assert_bytes(&rt, &mut bytes, "    at g (a.js:2:2)\n    at out.js:1:2\n");
+    let status = smap_rewrite_anywhere(alloc, &mut table, trace, &mut bytes, &mut counts);
+    assert_done(&rt, status);
+    assert_bytes(&rt, &mut bytes, "    at g (a.js:2:2)\n    at out.js:1:2\n");
+    let status = smap_table_add(alloc, &mut table, b"*", &mut map, &mut refusal);
+    assert_done(&rt, status);
+    let status = smap_rewrite_anywhere(alloc, &mut table, trace, &mut bytes, &mut counts);
+    assert_refused(&rt, status);
     Ok(())
 }

@@ -1,6 +1,6 @@
 //! Maps.
 
-use super::{copied, done, no_text, Bytes, NOTHING, NO_SOURCE, TOO_LARGE};
+use super::{copied, done, no_source, no_text, Bytes, NOTHING, NO_SOURCE, TOO_LARGE};
 use crate::error::{Error, Refused};
 use crate::sys;
 use std::cell::{Cell, UnsafeCell};
@@ -111,13 +111,7 @@ impl Map {
 
     /// A source, whose texts stay until the next call.
     fn lent_source(&self, index: u32) -> Option<sys::smap_source_text> {
-        let mut source = sys::smap_source_text {
-            name: no_text(),
-            content: no_text(),
-            named: 0,
-            held: 0,
-            ignored: 0,
-        };
+        let mut source = no_source();
         let status = unsafe { sys::smap_source(self.handle(), index, &mut source) };
         (status == sys::SMAP_DONE).then_some(source)
     }

@@ -1,6 +1,6 @@
 //! Tables of maps, and what they make of texts.
 
-use super::{done, Bytes, Map};
+use super::{done, no_source, no_text, Bytes, Map};
 use crate::error::{Error, Refused};
 use crate::sys;
 use std::ptr;
@@ -37,28 +37,34 @@ impl Table {
         done(status, || Refused::table(refusal))
     }
 
-    pub(crate) fn rewritten(
-        &mut self,
-        trace: &[u8],
-        hide_ignored: bool,
-    ) -> Result<(Bytes, sys::smap_trace_count), Error> {
-        let (table, bytes, length) = (&mut self.handle, trace.as_ptr(), trace.len());
-        let mut counts = sys::smap_trace_count::default();
-        let call = |text| unsafe {
-            sys::smap_rewrite(table, bytes, length, hide_ignored, text, &mut counts)
+    /// Whether a URL has a map, by itself, without its query and fragment, or by a pattern.
+    pub(crate) fn has(&self, url: &[u8]) -> bool {
+        let options = sys::smap_table_options {
+            after: false,
+            cut: true,
         };
-        let text = Bytes::of(call, Refused::text)?;
-        Ok((text, counts))
+        let (mut found, mut source) = (sys::smap_found::default(), no_source());
+        let mut name = no_text();
+        let status = unsafe {
+            let (table, bytes, length) = (&self.handle, url.as_ptr(), url.len());
+            let source = &mut source;
+            sys::smap_table_look_up(
+                table, bytes, length, 0, 0, &options, &mut found, source, &mut name,
+            )
+        };
+        status == sys::SMAP_DONE
     }
 
-    pub(crate) fn rewritten_anywhere(
+    pub(crate) fn rewritten(
         &mut self,
         text: &[u8],
+        options: &sys::smap_rewrite_options,
     ) -> Result<(Bytes, sys::smap_trace_count), Error> {
         let (table, bytes, length) = (&mut self.handle, text.as_ptr(), text.len());
         let mut counts = sys::smap_trace_count::default();
-        let call =
-            |text| unsafe { sys::smap_rewrite_anywhere(table, bytes, length, text, &mut counts) };
+        let call = |text| unsafe {
+            sys::smap_rewrite_with(table, bytes, length, options, text, &mut counts)
+        };
         let text = Bytes::of(call, Refused::text)?;
         Ok((text, counts))
     }

@@ -1,0 +1,180 @@
+-- Rewriting over the maps of a table, for devices in memory.
+use Rattle.std.proofs.Common.{◌≡◌, ◌⊎◌, inl, inr, true≢false, IsSome, ◌∙◌, ◌++◌, ◌<◌, ◌≤◌, ℕ, [], List, Bool, Option, Some, None, MatchOption, true, false, ap, append-nil, arith, length, length-append, refl, subst, sym}
+use Rattle.std.specs.Io.KnownBytes.{IsAtEnd}
+use Rattle.std.specs.Option.{IfSome, option_or}
+use Rattle.std.specs.Prelude.{⊤}
+use Rattle.std.proofs.lemmas.Bool.{cond-false, cond-true}
+use Rattle.smap_by_text.specs.ByText.{value_under}
+use Rattle.smap_io.specs.Device.{Gives, Takes}
+use Rattle.smap_lines.specs.Editing.{DevicesSeen}
+use Rattle.smap_lines.specs.Limits.{most_text_bytes}
+use Rattle.smap_lines.specs.declared.fault.LineFault.{LineFault}
+use Rattle.smap_lines.specs.declared.fault.LineFault.TheVariants.{Memory, TooMuch}
+use Rattle.smap_record.specs.Record.{MapRecord}
+use Rattle.smap_places.specs.Laws.PlacesBy.{places_by}
+use Rattle.smap_places.specs.PlaceAt.{place_at}
+use Rattle.smap_places.specs.PlacesBeside.{FindsBeside, found_beside}
+use Rattle.smap_places.specs.PlacesBy.{RewritesPlacesBy}
+use Rattle.smap_places.specs.PlacesOver.{RewritesPlacesOver}
+use Rattle.smap_tables.specs.UrlTable.{UrlTableSeen, map_by_pattern, map_of_cut, map_under}
+use Rattle.smap_tables.specs.declared.url_maps.UrlMaps.{UrlMaps}
+use Rattle.smap_trace.specs.Hiding.{only_ignored}
+use Rattle.smap_trace.specs.MapsOf.{RewritesBy, counts_by, rewritten_by}
+use Rattle.smap_trace.specs.Rewriting.{RewritesOver}
+use Rattle.smap_trace.specs.Laws.MapsOf.{rewrites_by}
+use Rattle.smap_trace.specs.declared.outcome.RewriteCounts.{RewriteCounts}
+use Rattle.smap_trace.specs.declared.outcome.Summary.{Summary}
+use Rattle.smap_c.specs.Private.Rewriting.{IsRewritten, IsTooMuch}
+use Rattle.smap_c.specs.Trace.{place_counts_by, placed_by, places_of}
+use Rattle.smap_c.specs.declared.trace.RewriteOptions.{RewriteOptions}
+
+module _ (table : UrlTableSeen) (cut : Bool) where
+  abbrev UrlFinds : UrlMaps → (url : List ℕ) → UrlMaps → Type 0
+  UrlFinds maps url after = after ≡ maps
+
+  abbrev url_found : UrlMaps → (url : List ℕ) → Option MapRecord
+  url_found maps url = map_under maps.cut maps.table.now url
+
+  -- those stay
+  abbrev IsOver : UrlMaps → Type 0
+  IsOver maps = (maps.table.now ≡ table) × (maps.cut ≡ cut)
+
+  over_found : (maps : UrlMaps) (url : List ℕ) → IsOver maps → url_found maps url ≡ map_under cut table url
+  over_found maps url is = λ i. map_under (is.1 i) (is.0 i) url
+
+  over_next : (old new : UrlMaps) → new ≡ old → IsOver old → IsOver new
+  over_next old new same is = (ap (λ m. m.table.now) same ∙ is.0, ap (λ m. m.cut) same ∙ is.1)
+
+  -- so a trace becomes what those make of it
+  pub rewrites_table : (hide : Bool) (before after : DevicesSeen) (old new : UrlMaps) (counts : RewriteCounts) → IsOver old
+      → RewritesOver UrlFinds url_found (only_ignored hide) most_text_bytes before after old new counts
+      → RewritesBy (map_under cut table) (only_ignored hide) most_text_bytes before after counts
+  rewrites_table hide before after old new counts is all =
+      rewrites_by UrlFinds url_found (map_under cut table) (λ maps. ⊤) IsOver (λ old new url finds good. tt)
+      (λ old new url finds good is. let stays = over_next old new finds is in (over_found new url stays, stays)) (only_ignored hide) most_text_bytes
+      before after old new counts all tt is
+
+-- ---- places
+
+module _ (table : UrlTableSeen) where
+  abbrev words : List (List ℕ × MapRecord)
+  words = table.words
+
+  -- a map that comes with its place is the one under the place's URL
+  beside_under : (own rest : Option MapRecord) → option_or own (option_or own rest) ≡ option_or own rest
+  beside_under None rest = refl
+  beside_under (Some own) rest = refl
+
+  found_under : (maps : UrlMaps) (url : List ℕ) → IsOver table true maps
+      → found_beside words (url_found table true) maps url ≡ map_under true table url
+  found_under maps url is =
+      ap (option_or (value_under url words)) (over_found table true maps url is)
+      ∙ beside_under (value_under url words) (option_or (map_of_cut true table url) (map_by_pattern table url))
+
+  finds_same : (old new : UrlMaps) (url : List ℕ) → FindsBeside words (UrlFinds table true) old url new → new ≡ old
+  finds_same old new url finds = go (value_under url words) finds
+    where
+      go : (own : Option MapRecord) → MatchOption own (new ≡ old) (λ _. new ≡ old) → new ≡ old
+      go None same = same
+      go (Some own) same = same
+
+  pub places_table : (before after : DevicesSeen) (old new : UrlMaps) (summary : Summary) → IsOver table true old
+      → RewritesPlacesOver (FindsBeside words (UrlFinds table true)) (found_beside words (url_found table true)) (place_at (places_of table)) most_text_bytes
+      before after old new summary
+      → RewritesPlacesBy (map_under true table) (place_at (places_of table)) most_text_bytes before after summary
+  places_table before after old new summary is all =
+      places_by (FindsBeside words (UrlFinds table true)) (found_beside words (url_found table true)) (map_under true table) (λ maps. ⊤) (IsOver table true)
+      (λ old new url finds good. tt)
+      (λ old new url finds good is.
+      let stays = over_next table true old new (finds_same old new url finds) is in
+      (found_under new url stays, stays))
+      (place_at (places_of table)) most_text_bytes before after old new summary all tt is
+
+-- ---- devices in memory
+
+-- what holds of the bytes that an input shows
+pub if_read : (left : Option (List ℕ)) (P : List ℕ → Type 0) → ((read : List ℕ) → left ≡ Some read → P read) → IfSome left P
+if_read None P each = tt
+if_read (Some read) P each = each read refl
+
+-- all that was there was read
+all_given : (text bytes : List ℕ) (left : Option (List ℕ)) → Gives (Some text) left bytes → IsAtEnd left → bytes ≡ text
+all_given text bytes None gives ended = cc
+all_given text bytes (Some left) gives ended =
+    let none : left ≡ [] = ended in
+    let whole : text ≡ bytes ++ left = cc in
+    sym (append-nil bytes) ∙ ap (λ l. bytes ++ l) (sym none) ∙ sym whole
+
+-- what was read is no longer
+given_within : (most : ℕ) (text bytes : List ℕ) (left : Option (List ℕ)) → Gives (Some text) left bytes → most < length bytes → most < length text
+given_within most text bytes None gives less = cc
+given_within most text bytes (Some left) gives less =
+    let whole : text ≡ bytes ++ left = cc in
+    omega (arith, ap length whole, length-append bytes left, less)
+
+too_much : (read : List ℕ) (left after : Option (List ℕ)) → left ≡ Some read → (most : ℕ) (bytes : List ℕ) → Gives left after bytes
+    → most < length bytes → most < length read
+too_much read left after is most bytes gives less = given_within most read bytes after (subst (λ o. Gives o after bytes) is gives) less
+
+-- where it is too much, all that was there is
+pub refused_read : (left after : Option (List ℕ)) (bytes : List ℕ) (fault : LineFault) → Gives left after bytes
+    → (fault ≡ TooMuch → most_text_bytes < length bytes) → IfSome left (λ read. IsTooMuch read fault)
+refused_read left after bytes fault gives many =
+    if_read left (λ read. IsTooMuch read fault) (λ read is too. too_much read left after is most_text_bytes bytes gives (many too))
+
+pub memory_read : (left : Option (List ℕ)) → IfSome left (λ read. IsTooMuch read Memory)
+memory_read left = if_read left (λ read. IsTooMuch read Memory) (λ read is too. absurd (cc))
+
+-- and what was made of it was written
+all_taken : (written made : List ℕ) → Takes (Some []) (Some written) made → written ≡ made
+all_taken written made takes = cc
+
+module _ (options : RewriteOptions) (table : UrlTableSeen) (read written : List ℕ) (before after : DevicesSeen)
+    (at_first : before.input.left ≡ Some read) (empty : before.output.taken ≡ Some []) (full : after.output.taken ≡ Some written) where
+  all_read : (bytes : List ℕ) → Gives before.input.left after.input.left bytes → IsAtEnd after.input.left → bytes ≡ read
+  all_read bytes gives ended = all_given read bytes after.input.left (subst (λ o. Gives o after.input.left bytes) at_first gives) ended
+
+  all_written : (made : List ℕ) → Takes before.output.taken after.output.taken made → written ≡ made
+  all_written made takes =
+      all_taken written made (subst (λ o. Takes o (Some written) made) empty (subst (λ o. Takes before.output.taken o made) full takes))
+
+  pub frames_are : (counts : RewriteCounts) → options.anywhere ≡ false
+      → RewritesBy (map_under options.cut table) (only_ignored options.hide_ignored) most_text_bytes before after counts
+      → IsRewritten options table read written counts.summary
+  frames_are counts by_frames is =
+      let maps = map_under options.cut table in
+      let hide = only_ignored options.hide_ignored in
+      let all : is.bytes ≡ read = all_read is.bytes is.edits.read is.edits.ended in
+      record {
+        text_is = all_written (rewritten_by maps hide is.bytes) is.edits.written ∙ ap (rewritten_by maps hide) all
+            ∙ sym (cond-false options.anywhere (placed_by table read) (rewritten_by maps hide read) by_frames);
+        counted = is.counted ∙ ap (counts_by maps hide) all
+            ∙ sym (cond-false options.anywhere (place_counts_by table read) (counts_by maps hide read) by_frames);
+        fits = subst (λ l. length l ≤ most_text_bytes) all is.edits.fits;
+      }
+
+  pub places_are : (summary : Summary) → options.anywhere ≡ true
+      → RewritesPlacesBy (map_under true table) (place_at (places_of table)) most_text_bytes before after summary
+      → IsRewritten options table read written summary
+  unfolding placed_by place_counts_by
+  places_are summary anywhere is =
+      let hide = only_ignored options.hide_ignored in
+      let all : is.bytes ≡ read = all_read is.bytes is.read is.ended in
+      record {
+        text_is = all_written (placed_by table is.bytes) is.written ∙ ap (placed_by table) all
+            ∙ sym (cond-true options.anywhere (placed_by table read) (rewritten_by (map_under options.cut table) hide read) anywhere);
+        counted = is.counted ∙ ap (place_counts_by table) all
+            ∙ sym (cond-true options.anywhere (place_counts_by table read) (counts_by (map_under options.cut table) hide read) anywhere);
+        fits = subst (λ l. length l ≤ most_text_bytes) all is.fits;
+      }
+
+-- ---- a table
+
+-- where frames are asked for, only a text that is too long is refused
+pub long_only : (held : Option UrlTableSeen) → IsSome held → (refused long : Type 0) → IfSome held (λ maps. refused → long ⊎ (false ≡ true)) → refused → long
+long_only None some refused long each is = absurd (true≢false (sym some))
+long_only (Some maps) some refused long each is = go (each is)
+  where
+    go : long ⊎ (false ≡ true) → long
+    go (inl fact) = fact
+    go (inr other) = absurd (true≢false (sym other))

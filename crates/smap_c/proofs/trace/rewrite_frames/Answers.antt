@@ -1,0 +1,20 @@
+use Rattle.std.proofs.Common.{Some, ap, refl, rules}
+use Rattle.smap_c.specs.Private.Rewriting.{IsRewritten}
+use Rattle.smap_c.proofs.TableLaws.{frames_are, if_read, refused_read, rewrites_table}
+use Rattle.smap_c.proofs.trace.rewrite_frames.Goals as goal
+
+pub returns-clause-rewritten : goal.returns-clause-rewritten
+returns-clause-rewritten g c =
+    let options = c.args.options.now in
+    let written = c.rewrite_over.new.output.bytes.items in
+    let counts = c.in_ok-counts.counts in
+    let over = rw c.only_ignored.ensures at c.in_ok-counts.ensures.rewrites in
+    if_read _ (λ read. IsRewritten options c.args.table.now read written counts.summary) (λ read at_first.
+    frames_are options c.args.table.now read written _ _ at_first (ap Some c.requires.empty.0) refl counts c.requires.frames
+    (rewrites_table c.args.table.now options.cut options.hide_ignored _ _ _ _ counts (refl, refl) over))
+
+pub returns-in_err-counts-clause-refused : goal.returns-in_err-counts-clause-refused
+returns-in_err-counts-clause-refused g c =
+    let front = c.in_err-counts.ensures.front in
+    let refused = refused_read _ _ _ _ front.read front.many.0 in
+    search (rules, refused)
