@@ -1,6 +1,6 @@
 -- What `locate` does over files and folders of maps that are read when a line names them: it gathers what it is over, answers the
 -- lines over a store of maps, and says what that came to. The status is the greatest of all that was reported.
-use Rattle.std.specs.Prelude.{◌≡◌, ℕ, ◌+◌, Bool, List, [], Option, Result, Ok, Err, length, map, max, option_copied}
+use Rattle.std.specs.Prelude.{◌≡◌, ℕ, ◌+◌, Bool, false, List, [], Option, Result, Ok, Err, length, map, max, option_copied}
 use Rattle.url.specs.Parts.{Parts}
 use Rattle.smap_lines.specs.Editing.{DevicesSeen, EditsFrontInto, EditsInto, devices_seen, is_read_fault}
 use Rattle.smap_lines.specs.Limits.{most_text_bytes}
