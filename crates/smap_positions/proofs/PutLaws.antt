@@ -1,12 +1,14 @@
 -- What is put piece by piece, over a short text that waits too.
-use Rattle.std.proofs.Common.{◌≡◌, ℕ, true, false, List, [], ◌++◌, Result, Ok, Err, sym, ap, ◌∙◌, subst, append_assoc, append-nil}
+use Rattle.std.proofs.Common.{◌≡◌, ℕ, true, false, List, [], ◌++◌, Result, Ok, Err, refl, sym, ap, ◌∙◌, subst, append_assoc, append-nil}
 use Rattle.std.specs.Prelude.{OnOk, is_ok}
+use Rattle.std.specs.Result.{is_err}
 use Rattle.smap_io.specs.Device.{SinkSeen}
 use Rattle.smap_io.specs.declared.device.DeviceFault.{DeviceFault}
 use Rattle.smap_lines.specs.LineOutput.{IsPut}
 use Rattle.smap_lines.specs.Laws.Put.{fails_first, put_then}
 use Rattle.smap_lines.specs.declared.line_output.LineOutput.{LineOutput}
-use Rattle.smap_positions.specs.Private.GatheredLine.{IsPutBut}
+use Rattle.smap_positions.specs.Private.GatheredLine.{Gathers, IsPutBut, IsPutSince}
+use Rattle.smap_positions.specs.declared.gathered_line.GatheredLine.{GatheredLine}
 
 module _ {W : Type 0} (seen : W → SinkSeen) (start old : LineOutput W) where
   -- a piece that is put behind the short text, unless an earlier one failed
@@ -44,3 +46,16 @@ module _ {W : Type 0} (seen : W → SinkSeen) (start old : LineOutput W) where
         IsPutBut seen start new short bytes result → IsPut seen start output bytes result
     put_whole output short bytes (Ok done) same empty (front, puts, is) = rw (same, is, empty, append-nil front) puts
     put_whole output short bytes (Err fault) same empty fails = rw same fails
+
+not_ok : (done : Result Unit DeviceFault) → is_err done ≡ true → is_ok done ≡ false
+not_ok (Ok done) failed = cc
+not_ok (Err fault) failed = refl
+
+-- where a write failed, more stays out
+pub gathers_more : {W : Type 0} (seen : W → SinkSeen) (old new : GatheredLine W) (bytes more : List ℕ) → is_err new.done ≡ true →
+    Gathers seen old new bytes → Gathers seen old new (bytes ++ more)
+gathers_more seen old new bytes more failed put = record {
+  same = put.same;
+  puts = λ start front before. subst (λ l. IsPutSince seen start new l) (append_assoc front bytes more)
+      (put_none seen start new.output.now new.text (front ++ bytes) more new.done (not_ok new.done failed) (put.puts start front before));
+}

@@ -8,8 +8,8 @@ use itoa::Buffer;
 use smap_io::{ByteSink, DeviceFault};
 use smap_lines::LineOutput;
 
-/// A line that is put after the bytes that wait, or what of it could be put until a write failed. It takes no memory. Its
-/// pieces are joined in a short text first, since each call of the output asks for room.
+/// A line that is put after the bytes that wait, or several, or what of them could be put until a write failed. It takes no
+/// memory. The pieces are joined in a short text first, since each call of the output asks for room.
 #[derive(Drop)]
 pub struct GatheredLine<'l, 'o, W: ByteSink> {
     pub output: &'l mut LineOutput<'o, W>,

@@ -5,6 +5,7 @@ ghost use Rattle.smap_lines.specs.Editing.{is_write_fault};
 ghost use Rattle.smap_lines.specs.LineOutput.{IsPut};
 ghost use Rattle.smap_lines.specs.declared.fault.LineFault.TheVariants.{Memory, Write};
 ghost use Rattle.smap_positions.specs.Mappings.{is_on_line, line_with, mappings_text, printed_mapping};
+ghost use Rattle.smap_positions.specs.Private.GatheredLine.{Gathers};
 ghost use Rattle.smap_positions.specs.Private.Past.{is_past_line};
 
 use crate::answer::from_one;
@@ -78,8 +79,7 @@ fn write_mappings<W: ByteSink>(
     lent.write()
 }
 
-// Puts the lines after the bytes that wait. The mappings stand in order, so none is sought past the line that is asked for.
-#[tactic(auto, unfolding(crate::specs::Mappings::mappings_text))]
+// Puts the lines after the bytes that wait. They are joined in one short text, so that the output is seldom asked for room.
 fn put_mappings<W: ByteSink>(
     alloc: Global,
     map: &MapFile,
@@ -88,13 +88,36 @@ fn put_mappings<W: ByteSink>(
 ) -> Result<(), DeviceFault>
     ensures { IsPut W.seen output.old output.new (mappings_text options map.now.stated) result }
 {
+    let mut lines = GatheredLine {
+        output,
+        text: ShortText::new(),
+        done: Ok(()),
+    };
+    gather_mappings(alloc, map, options, &mut lines);
+    lines.hand_on();
+    lines.done
+}
+
+// Puts the lines behind one another, until a write fails. The mappings stand in order, so none is sought past the line that
+// is asked for.
+#[tactic(auto, unfolding(crate::specs::Mappings::mappings_text))]
+fn gather_mappings<W: ByteSink>(
+    alloc: Global,
+    map: &MapFile,
+    options: MappingsOptions,
+    lines: &mut GatheredLine<'_, '_, W>,
+)
+    ensures { Gathers W.seen lines.old lines.new (mappings_text options map.now.stated) }
+{
     for mapping in map.mappings(alloc) {
         if is_past_line(options.line, &mapping) {
-            return Ok(());
+            return;
         }
-        put_asked(map, options, &mapping, output)?;
+        if lines.done.is_err() {
+            return;
+        }
+        put_asked(map, options, &mapping, lines);
     }
-    Ok(())
 }
 
 // Whether a mapping stands past this line, where one is given.
@@ -104,22 +127,19 @@ fn is_past_line(line: Option<u32>, mapping: &Mapping) -> bool
     line.is_some_and(|line| line < mapping.line)
 }
 
-// Puts the line for a mapping after the bytes that wait, if it is asked for.
-fn put_asked<W: ByteSink>(
+// Puts the line for a mapping, if it is asked for.
+fn put_asked<O: Output>(
     map: &MapFile,
     options: MappingsOptions,
     mapping: &Mapping,
-    output: &mut LineOutput<'_, W>,
-) -> Result<(), DeviceFault>
-    ensures { IsPut W.seen output.old output.new
+    output: &mut O,
+)
+    ensures { O.Puts output.old output.new
         (if is_on_line options.line mapping.now
-        then printed_mapping options.form map.now.stated mapping.now else [])
-        result }
+        then printed_mapping options.form map.now.stated mapping.now else []) }
 {
     if is_on_line(options.line, mapping) {
-        put_gathered(map, mapping, options.form, output)
-    } else {
-        Ok(())
+        put_mapping(map, mapping, options.form, output);
     }
 }
 
@@ -128,26 +148,6 @@ fn is_on_line(line: Option<u32>, mapping: &Mapping) -> bool
     ensures { result ≡ is_on_line line mapping.now }
 {
     line.is_none_or(|line| mapping.line == line)
-}
-
-// Puts the line for a mapping after the bytes that wait.
-fn put_gathered<W: ByteSink>(
-    map: &MapFile,
-    mapping: &Mapping,
-    form: Form,
-    output: &mut LineOutput<'_, W>,
-) -> Result<(), DeviceFault>
-    ensures { IsPut W.seen output.old output.new
-        (printed_mapping form map.now.stated mapping.now) result }
-{
-    let mut line = GatheredLine {
-        output,
-        text: ShortText::new(),
-        done: Ok(()),
-    };
-    put_mapping(map, mapping, form, &mut line);
-    line.hand_on();
-    line.done
 }
 
 // Puts the line for a mapping.

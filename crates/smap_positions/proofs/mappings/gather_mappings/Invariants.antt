@@ -1,9 +1,9 @@
 use Rattle.std.proofs.Common.{◌≡◌, ℕ, List, ◌++◌}
-use Rattle.smap_lines.specs.LineOutput.{Puts}
 use Rattle.smap_mappings.specs.Order.{IsInOrder}
 use Rattle.smap_index.specs.Parts.{joined}
 use Rattle.smap_positions.specs.Mappings.{printed_mappings}
-use Rattle.smap_positions.proofs.mappings.put_mappings.Given as goal
+use Rattle.smap_positions.specs.Private.GatheredLine.{Gathers}
+use Rattle.smap_positions.proofs.mappings.gather_mappings.Given as goal
 
 -- the lines for the mappings before those that are left were put, and these are in order
 abbrev pub invariant-loop-mapping : goal.invariant-loop-mapping
@@ -13,6 +13,6 @@ invariant-loop-mapping g l =
       can : (goal.iterator-loop-mapping g).can_next l.mapping-iterator;
       finite : (goal.iterator-loop-mapping g).is_finite l.mapping-iterator;
       ordered : IsInOrder l.mapping-iterator;
-      put : (front : List ℕ) × Puts g.W.ByteSink.seen l.initial.output l.output front
+      put : (front : List ℕ) × Gathers g.W.ByteSink.seen l.initial.lines l.lines front
           × (lines (joined l.fn.map.stated.parts) ≡ front ++ lines l.mapping-iterator);
     }
