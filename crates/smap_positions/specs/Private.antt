@@ -6,3 +6,4 @@ pub mod GatheredLine
 pub mod Escapes
 pub mod Members
 pub mod Past
+pub mod Plain

@@ -1,5 +1,5 @@
 //! The texts of a map, put as text and as JSON.
-ghost use Rattle.std.specs.Prelude.{◌≡◌, ◌<◌, option_map};
+ghost use Rattle.std.specs.Prelude.{◌≡◌, ◌<◌, option_map, true};
 ghost use Rattle.std.specs.List.{list_any};
 ghost use Rattle.std.specs.Char.{digit_char};
 ghost use Rattle.json.specs.Print.{escape, escape_byte, quoted};
@@ -7,22 +7,34 @@ ghost use Rattle.serde_json.specs.Written.{compact_text};
 ghost use Rattle.smap_record.specs.Written.{value_of_text};
 ghost use Rattle.smap_text.specs.Shown.{shown};
 ghost use Rattle.smap_positions.specs.Private.Escapes.{is_escaped, short_escape};
+ghost use Rattle.smap_positions.specs.Private.Plain.{IsPlain};
 
 use crate::output::Output;
 use smap_lines::has_control;
 use smap_text::shown_byte;
 
-/// Puts a text of the user's as it prints: a `?` stands for each ASCII control character.
-pub fn put_shown<O: Output>(text: &str, output: &mut O)
+/// Puts a text of the user's as it prints: a `?` stands for each ASCII control character. Where it is known to have none, it
+/// is not asked for one.
+pub fn put_shown<O: Output>(text: &str, is_plain: bool, output: &mut O)
+    requires { is_plain ≡ true → IsPlain text.now }
     ensures { O.Puts output.old output.new (shown text.now) }
 {
     let bytes = text.as_bytes();
-    if !has_control(bytes) {
+    if is_plain_text(bytes, is_plain) {
         return output.put(bytes);
     }
     for byte in bytes {
         output.put(&[shown_byte(*byte)]);
     }
+}
+
+// Whether a text has no ASCII control character, which may be known.
+#[inline(always)]
+fn is_plain_text(bytes: &[u8], is_known: bool) -> bool
+    requires { is_known ≡ true → IsPlain bytes.now }
+    ensures { result ≡ true → IsPlain bytes.now }
+{
+    is_known || !has_control(bytes)
 }
 
 /// Puts a text as JSON, and `null` for none.

@@ -94,7 +94,7 @@ fn put_row_line<O: Output>(entry: Option<&SourceEntry>, row: &SourceRow, output:
     put_number(b" ", row.segments, output);
     put_bytes(row.bytes, output);
     output.put(b" ");
-    put_source(source_name(entry), row.source, output);
+    put_source(source_name(entry), row.source, false, output);
     output.put(ignored_text(is_ignored(entry)));
     output.put(no_content_text(has_content(entry)));
     output.put(b"\n");

@@ -1,7 +1,8 @@
 //! Answers as lines of text, each with its LF.
-ghost use Rattle.std.specs.Prelude.{◌++◌, codes, option_map};
+ghost use Rattle.std.specs.Prelude.{◌≡◌, ◌++◌, codes, option_map, IfSome, Some, true};
 ghost use Rattle.smap_positions.specs.Lines.{ignored_text, name_suffix};
 ghost use Rattle.smap_positions.specs.Lookup.{answer_line, origin_line, source_text};
+ghost use Rattle.smap_positions.specs.Private.Plain.{IsPlain, IsPlainSource};
 
 use crate::answer::{from_one, name_at};
 use crate::map_text::put_shown;
@@ -23,29 +24,48 @@ pub fn put_answer_line<O: Output>(map: &MapFile, answer: &Answer, output: &mut O
     match answer {
         Answer::Nothing => output.put(NONE.as_bytes()),
         Answer::Unmapped { .. } => output.put(UNMAPPED.as_bytes()),
-        Answer::Found { origin, .. } => put_origin_line(map, origin, output),
+        Answer::Found { origin, .. } => put_origin_line(map, origin, None, output),
     }
 }
 
-/// Puts the line for a place in a source.
-pub fn put_origin_line<O: Output>(map: &MapFile, origin: &Origin, output: &mut O)
+/// Puts the line for a place in a source. The name of one source may be known to print as it is.
+pub fn put_origin_line<O: Output>(
+    map: &MapFile,
+    origin: &Origin,
+    plain: Option<u32>,
+    output: &mut O,
+)
+    requires { IfSome plain (IsPlainSource map.now.stated) }
     ensures { O.Puts output.old output.new (origin_line map.now.stated origin.now) }
 {
     let entry = map.source(origin.source);
-    put_source(source_name(entry), origin.source, output);
+    let is_plain = is_source(plain, origin.source);
+    put_source(source_name(entry), origin.source, is_plain, output);
     put_number(b":", from_one(origin.line), output);
     put_number(b":", from_one(origin.column), output);
     put_name(name_at(map, origin.name), output);
     put_line_end(is_ignored(entry), output);
 }
 
-/// Puts how a source of this name and index prints.
-pub fn put_source<O: Output>(name: Option<&str>, index: u32, output: &mut O)
+/// Whether a source that may be known is that of this index.
+#[inline(always)]
+pub fn is_source(known: Option<u32>, index: u32) -> bool
+    ensures { result ≡ true → known ≡ Some index }
+{
+    match known {
+        Some(source) => source == index,
+        None => false,
+    }
+}
+
+/// Puts how a source of this name and index prints, which is as it is where the name is known to be plain.
+pub fn put_source<O: Output>(name: Option<&str>, index: u32, is_plain: bool, output: &mut O)
+    requires { is_plain ≡ true → IfSome (option_map (λ name. name.now) name) IsPlain }
     ensures { O.Puts output.old output.new
         (source_text (option_map (λ name. name.now) name.entry) index) }
 {
     match name {
-        Some(name) => put_shown(name, output),
+        Some(name) => put_shown(name, is_plain, output),
         None => {
             put_number(b"[", u64::from(index), output);
             output.put(b"]");
@@ -59,7 +79,7 @@ fn put_name<O: Output>(name: Option<&str>, output: &mut O)
 {
     if let Some(name) = name {
         output.put(b" name ");
-        put_shown(name, output);
+        put_shown(name, false, output);
     }
 }
 

@@ -1,14 +1,16 @@
-use Rattle.std.proofs.Common.{sym, ap, ◌∙◌, subst}
+use Rattle.std.proofs.Common.{flat_map, ap, ◌∙◌, subst}
 use Rattle.smap_text.specs.Shown.{shown}
 use Rattle.std.proofs.lemmas.List.{take_all}
-use Rattle.std.proofs.Common.{flat_map}
 use Rattle.smap_positions.specs.Private.Escapes.{shown_piece}
 use Rattle.smap_positions.proofs.EscapeLaws.{plain_text, shown_is}
 use Rattle.smap_positions.proofs.map_text.put_shown.Goals as goal
 
-pub returns-then-not-has_control : goal.returns-then-not-has_control
-returns-then-not-has_control g c =
-    let plain = plain_text c.as_bytes-bytes.result.now (sym c.has_control.ensures ∙ c.if-not-has_control.true) ∙ ap shown c.as_bytes-bytes.ensures.value in
+pub is_plain_text-requires : goal.is_plain_text-requires
+is_plain_text-requires g c = λ is. rw c.as_bytes-bytes.ensures.value (c.requires is)
+
+pub returns-then-is_plain_text : goal.returns-then-is_plain_text
+returns-then-is_plain_text g c =
+    let plain = plain_text c.as_bytes-bytes.result.now (c.is_plain_text.ensures c.if-is_plain_text.true) ∙ ap shown c.as_bytes-bytes.ensures.value in
     subst (λ l. g.O.Output.Puts c.args.output.now c.put.new.self l) plain c.put.ensures
 
 pub returns : goal.returns

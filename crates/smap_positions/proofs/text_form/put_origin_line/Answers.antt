@@ -1,4 +1,11 @@
+use Rattle.std.proofs.Common.{subst}
+use Rattle.std.specs.Prelude.{IfSome}
+use Rattle.smap_positions.specs.Private.Plain.{IsPlainSource}
 use Rattle.smap_positions.proofs.text_form.put_origin_line.Goals as goal
+
+pub put_source-requires : goal.put_source-requires
+put_source-requires g c = λ is. rw (c.source_name.ensures, c.source-entry.ensures)
+    (subst (λ known. IfSome known (IsPlainSource c.args.map.now.stated)) (c.is_source-is_plain.ensures is) c.requires)
 
 pub returns : goal.returns
 returns g c =
