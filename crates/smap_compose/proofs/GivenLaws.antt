@@ -1,7 +1,8 @@
 -- What a call gives of a map that may be too long to write, and of what is left of it.
-use Rattle.std.proofs.Common.{◌≡◌, ℕ, Bool, true, false, cond, List, length, map, Some, None, Result, Ok, Err, IfOk, refl, sym, ap, subst, ◌∙◌}
+use Rattle.std.proofs.Common.{◌≡◌, ℕ, Bool, true, false, cond, List, length, map, Some, None, Result, Ok, Err, IfOk, ◌&&◌, not, refl, sym, ap, subst, ◌∙◌, ⊎_elim}
 use Rattle.std.specs.Prelude.{Option, is_some}
 use Rattle.std.specs.List.{All}
+use Rattle.std.proofs.lemmas.Bool.{cases_Bool}
 use Rattle.std.proofs.lemmas.List.{length-map, map-id}
 use Rattle.smap_mappings.specs.Encode.{is_text_too_long}
 use Rattle.smap_mappings.specs.Exact.{GivesOr}
@@ -38,6 +39,16 @@ same_compositions mappings_are sources_are names_are file_is = rw (mappings_are,
 
 -- ---- a map whose text is too long or not
 
+no_such : false ≡ true → ⊥
+no_such same = cc
+
+not_both : (a b : Bool) → (a && b) ≡ false → b ≡ true → a ≡ false
+not_both true b neither is = absurd (no_such (sym neither ∙ is))
+not_both false b neither is = refl
+
+pub too_long : (whole : Composition) → is_text_too_long whole.mappings ≡ true → unless_too_long whole ≡ Err TooLarge
+too_long whole long = ap (λ long. unless (cond long (Some TooLarge) None) whole) long
+
 pub short_enough : (whole : Composition) → is_text_too_long whole.mappings ≡ false → unless_too_long whole ≡ Ok whole
 short_enough whole short = ap (λ long. unless (cond long (Some TooLarge) None) whole) short
 
@@ -60,28 +71,37 @@ made_where left_out whole sources names file short sources_are names_are file_is
     ∙ short_enough (record whole { sources = map (content_where left_out) whole.sources }) short
     ∙ ap Ok (same_compositions refl (sym sources_are) (sym names_are) (sym file_is))
 
-pub given_where : (left_out : LeftOut) (whole left : Composition) → is_text_too_long whole.mappings ≡ false
+short_where : (left_out : LeftOut) (whole left : Composition) → is_text_too_long whole.mappings ≡ false
     → left ≡ pruned_where left_out.unused whole
     → unless_too_long (contents_where left_out.contents left) ≡ left_of left_out (unless_too_long whole)
-given_where left_out whole left short is =
+short_where left_out whole left short is =
     ap (λ (w : Composition). unless_too_long (contents_where left_out.contents w)) is ∙ sym (ap (left_of left_out) (short_enough whole short))
+
+long_where : (left_out : LeftOut) (whole left : Composition) → is_text_too_long whole.mappings ≡ true → left ≡ whole
+    → unless_too_long (contents_where left_out.contents left) ≡ left_of left_out (unless_too_long whole)
+long_where left_out whole left long is =
+    too_long (contents_where left_out.contents left)
+    (ap is_text_too_long (same_mappings left_out.contents left ∙ ap (λ (w : Composition). w.mappings) is) ∙ long)
+    ∙ sym (ap (left_of left_out) (too_long whole long))
+
+-- where all is left, that its text is too long may be asked of what is left
+pub given_where : (left_out : LeftOut) (whole left : Composition) → (left_out.unused && is_text_too_long whole.mappings) ≡ false
+    → left ≡ pruned_where left_out.unused whole
+    → unless_too_long (contents_where left_out.contents left) ≡ left_of left_out (unless_too_long whole)
+given_where left_out whole left not_refused is =
+    ⊎_elim
+    (λ long. long_where left_out whole left long (is ∙ ap (λ unused. pruned_where unused whole)
+    (not_both left_out.unused (is_text_too_long whole.mappings) not_refused long)))
+    (λ short. short_where left_out whole left short is)
+    (cases_Bool (is_text_too_long whole.mappings))
 
 -- ---- a length that is given
 
-pub some_short : (long : Bool) (bytes found : ℕ) → Some found ≡ cond long None (Some bytes) → long ≡ false
-some_short true bytes found is = absurd (cc)
-some_short false bytes found is = refl
-
-pub some_bytes : (long : Bool) (bytes found : ℕ) → Some found ≡ cond long None (Some bytes) → found ≡ bytes
-some_bytes true bytes found is = absurd (cc)
-some_bytes false bytes found is = cc
-
-no_such : false ≡ true → ⊥
-no_such same = cc
-
-pub given_short : (long : Bool) (bytes : ℕ) (given : Option ℕ) → given ≡ cond long None (Some bytes) → is_some given ≡ true → long ≡ false
-given_short true bytes given is some = absurd (no_such (sym (ap is_some is) ∙ some))
-given_short false bytes given is some = refl
+pub none_where : (long : Bool) (bytes : ℕ) (given : Option ℕ) (none : Bool) → given ≡ cond long None (Some bytes) → is_some given ≡ not none → none ≡ long
+none_where true bytes given true is some = refl
+none_where true bytes given false is some = absurd (no_such (ap is_some (sym is) ∙ some))
+none_where false bytes given true is some = absurd (no_such (sym (ap is_some (sym is) ∙ some)))
+none_where false bytes given false is some = refl
 
 -- ---- what is left answers alike
 

@@ -15,4 +15,5 @@ pub mod KeyLaws
 pub mod MovedLaws
 pub mod PartsLaws
 pub mod GivenLaws
+pub mod LengthLaws
 pub mod PrunedLaws

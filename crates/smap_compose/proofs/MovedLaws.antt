@@ -10,28 +10,6 @@ use Rattle.smap_mappings.specs.Within.{IsIndexWithin, IsOriginWithin, IsWithin}
 use Rattle.smap_mappings.specs.declared.mapping.Mapping.{Mapping}
 use Rattle.smap_mappings.specs.declared.mapping.Origin.{Origin}
 
--- ---- what is within some numbers of sources and names is not past the limit
-
-neither : {a b : Bool} → a ≡ false → b ≡ false → (a || b) ≡ false
-neither {a} {b} first second = ap (λ a. a || b) first ∙ second
-
-small : (n : ℕ) → n ≤ limit → is_number_past_limit n ≡ false
-small n few = le-ltb limit n few
-
-small_name : (names : ℕ) (name : Option ℕ) → IfSome name (IsIndexWithin names) → is_name_past_limit name ≡ false
-small_name names None within = refl
-small_name names (Some name) within = small name within.small
-
-small_origin : (sources names : ℕ) (origin : Option Origin) → IfSome origin (IsOriginWithin sources names) → is_origin_past_limit origin ≡ false
-small_origin sources names None within = refl
-small_origin sources names (Some origin) within =
-    neither (neither (neither (small origin.source within.source.small) (small origin.line within.line)) (small origin.column within.column))
-    (small_name names origin.name within.name)
-
-pub within_limit : (sources names : ℕ) (mapping : Mapping) → IsWithin sources names mapping → is_mapping_past_limit mapping ≡ false
-within_limit sources names mapping within =
-    neither (neither (small mapping.line within.line) (small mapping.column within.column)) (small_origin sources names mapping.origin within.origin)
-
 -- ---- a list whose elements are written one after another
 
 module _ {X : Type 0} (f : X → X) (xs ys : List X) (i : ℕ) (d : X) (inside : i < length xs) (so_far : ys ≡ map f (take i xs) ++ drop i xs) where
@@ -50,9 +28,6 @@ module _ {X : Type 0} (f : X → X) (xs ys : List X) (i : ℕ) (d : X) (inside :
   pub moved_next : (y : X) → y ≡ f (get_or xs i d) → set ys i y ≡ map f (take (i + 1) xs) ++ drop (i + 1) xs
   moved_next y is =
       ap (set ys i) (is ∙ ap f (sym at_next)) ∙ map_over_more f xs ys i (get_or ys i d) inside so_far (get_or_default ys i d (get_or ys i d) within)
-
-  pub front_next : (y : X) → y ≡ f (get_or xs i d) → map f (take (i + 1) xs) ≡ map f (take i xs) ++ y ∷ []
-  front_next y is = map_more f xs i d inside ∙ ap (λ y. map f (take i xs) ++ y ∷ []) (sym is)
 
 -- a list that is written over another of its length
 pub written_over : {X : Type 0} (items written : List X) (n : ℕ) → length written ≡ length items → length items ≡ n

@@ -1,11 +1,9 @@
 -- The parts of a map that are left are those of the pruned map.
-use Rattle.std.proofs.Common.{◌≡◌, ◌≤◌, ℕ, Bool, false, List, length, map, Option, Some, refl, sym, ap, subst, ◌∙◌, arith}
+use Rattle.std.proofs.Common.{◌≡◌, ◌≤◌, ℕ, Bool, List, length, map, Option, Some, refl, sym, ap, subst, ◌∙◌, arith}
 use Rattle.std.specs.Prelude.{bytes_eq, option_copied}
 use Rattle.std.specs.List.{All}
 use Rattle.std.proofs.lemmas.List.{length-map}
-use Rattle.std.proofs.lemmas.List.Elements.{All-weaker}
 use Rattle.smap_mappings.specs.Order.{IsInOrder}
-use Rattle.smap_mappings.specs.Range.{is_mapping_past_limit}
 use Rattle.smap_mappings.specs.Within.{IsWithin}
 use Rattle.smap_mappings.specs.declared.mapping.Mapping.{Mapping}
 use Rattle.smap_record.specs.Limits.{most_listed}
@@ -20,7 +18,6 @@ use Rattle.smap_compose.specs.declared.left.Places.{Places}
 use Rattle.smap_compose.proofs.FollowLaws.{alike_in_order}
 use Rattle.smap_compose.proofs.FoundLaws.{few_left}
 use Rattle.smap_compose.proofs.GivenLaws.{same_compositions}
-use Rattle.smap_compose.proofs.MovedLaws.{within_limit}
 use Rattle.smap_compose.proofs.PrunedLaws.{moved_are_pruned, pruned_within}
 use Rattle.smap_compose.proofs.SeenLaws.{marked_alike, marked_are_left}
 
@@ -82,14 +79,6 @@ module _ (mappings : List Mapping) (listing : Listing) (sources names : Places)
 
   moved_are : map (mapping_moved_to sources.places.items names.places.items) mappings ≡ (pruned whole).mappings
   moved_are = moved_are_pruned whole sources.places.items names.places.items sources.stays.items names.stays.items sources_are names_are whole_within
-
-  -- the mappings that move are not past the limit then
-  pub moved_in_range : All (λ mapping. is_mapping_past_limit mapping ≡ false) (map (mapping_moved_to sources.places.items names.places.items) mappings)
-  moved_in_range =
-      let InRange : Mapping → Type 0 = λ mapping. is_mapping_past_limit mapping ≡ false in
-      subst (All InRange) (sym moved_are)
-      (All-weaker (IsWithin (length (sources_left whole)) (length (names_left whole))) InRange
-      (λ mapping within. within_limit (length (sources_left whole)) (length (names_left whole)) mapping within) (pruned whole).mappings left_within)
 
   module _ (left : List Mapping) (others : Listing)
       (left_are : left ≡ map (mapping_moved_to sources.places.items names.places.items) mappings)

@@ -1,7 +1,6 @@
 -- How the fields of a composed map are seen, and what they keep to. Only the model of `Composed` cites it.
 use Rattle.std.specs.Prelude.{◌≡◌, ◌≤◌, None, false, length, map, option_map, string_bytes}
 use Rattle.std.specs.List.{All}
-use Rattle.smap_mappings.specs.Canonical.{canonical_text}
 use Rattle.smap_mappings.specs.Encode.{is_text_too_long, list_fault}
 use Rattle.smap_mappings.specs.Within.{IsWithin}
 use Rattle.smap_record.specs.Limits.{most_listed}
@@ -9,7 +8,7 @@ use Rattle.smap_record.specs.Sources.{source_of}
 use Rattle.smap_compose.specs.Composition.{Composition}
 use Rattle.smap_compose.specs.declared.composed.Composed.TheInside.{Inside}
 
--- what its fields stand for; the length is no part of it, since the mappings determine it
+-- what its fields stand for
 abbrev pub composed_seen : Inside → Composition
 composed_seen inside = record {
   mappings = inside.mappings.items;
@@ -18,10 +17,8 @@ composed_seen inside = record {
   file = option_map string_bytes inside.file;
 }
 
--- the length is that of the canonical text of the mappings, which are in order; a map may have that text and list as many
--- sources and names
+-- the mappings are in order; a map may have their canonical text, and list as many sources and names
 pub record IsComposed (inside : Inside) : Type 0 where
-  pub measured : inside.text_bytes ≡ length (canonical_text inside.mappings.items)
   pub short : is_text_too_long inside.mappings.items ≡ false
   pub no_fault : list_fault inside.mappings.items ≡ None
   pub within : All (IsWithin (length inside.sources.items) (length inside.names.items)) inside.mappings.items

@@ -5,3 +5,4 @@ pub mod Parts
 pub mod Left
 pub mod Used
 pub mod Keys
+pub mod Length

@@ -14,20 +14,20 @@ ghost use Rattle.smap_compose.specs.LeftOut.{contents_where};
 ghost use Rattle.smap_compose.specs.Private.Parts.{AreFit, parts_seen};
 ghost use Rattle.smap_compose.specs.declared.refusal.ComposeRefusal.TheVariants.{Memory};
 
+use crate::length::is_text_too_long;
 use crate::listing::{owned_names, owned_sources};
 use crate::parts::Parts;
 use crate::refusal::ComposeRefusal;
-use smap_mappings::TextWriter;
 use smap_mappings::laws::lists_in_order_have_no_fault;
+use smap_mappings::{MOST_BYTES, TextWriter};
 use smap_record::{Mapping, SourceEntry, copied_text, write_owned, write_record};
 use std::alloc::{AllocError, Global};
 use std::marker::Model;
 
-/// Holds the mappings, the length of their canonical text, and the sources and names of all maps.
+/// Holds the mappings, and the sources and names of all maps.
 #[derive(Drop)]
 pub struct Composed {
     mappings: Vec<Mapping>,
-    text_bytes: usize,
     sources: Vec<SourceEntry>,
     names: Vec<String>,
     file: Option<String>,
@@ -54,21 +54,23 @@ pub fn composed_map(
     ensures { GivesOr Memory (λ composed. composed) result
         (unless_too_long (contents_where without_contents (parts_seen parts.entry))) }
 {
-    let Some(text_bytes) = parts.length.bytes() else {
+    if is_text_too_long(&parts.mappings) {
         return Err(ComposeRefusal::TooLarge);
-    };
+    }
     let listing = parts.listing;
     Ok(Composed {
         mappings: parts.mappings,
-        text_bytes,
         sources: owned_sources(alloc, listing.sources, without_contents)?,
         names: owned_names(alloc, &listing.names)?,
         file: copied_text(alloc, listing.file)?,
     })
 }
 
-// The canonical text of these mappings, which has so many bytes.
-fn text_of(alloc: Global, mappings: &[Mapping], bytes: usize) -> Result<String, AllocError>
+// For how many bytes of a mapping room is made at first. Most have fewer.
+const ROOM_OF_MAPPING: usize = 8;
+
+// The canonical text of these mappings.
+fn text_of(alloc: Global, mappings: &[Mapping]) -> Result<String, AllocError>
     requires no_fault { list_fault mappings.now ≡ None }
     requires short { is_text_too_long mappings.now ≡ false }
     ensures text { IfOk result (λ text. string_bytes text ≡ canonical_text mappings.now) }
@@ -77,7 +79,8 @@ fn text_of(alloc: Global, mappings: &[Mapping], bytes: usize) -> Result<String, 
         → All (IsWithin sources names) mappings.now → IsRegularMap sources names (string_bytes text)) }
 {
     lists_in_order_have_no_fault();
-    let mut writer = TextWriter::with_capacity(alloc, bytes)?;
+    let room = mappings.len().saturating_mul(ROOM_OF_MAPPING);
+    let mut writer = TextWriter::with_capacity(alloc, room.min(MOST_BYTES))?;
     for mapping in mappings {
         writer.push(mapping)?;
     }
@@ -101,7 +104,7 @@ impl Composed {
             → ReadsBackAs bytes.items self.now.mappings self.now.sources
             self.now.names self.now.file) }
     {
-        let text = text_of(alloc, &self.mappings, self.text_bytes)?;
+        let text = text_of(alloc, &self.mappings)?;
         write_record(alloc, &self.sources, &self.names, self.file(), &text)
     }
 
@@ -114,12 +117,11 @@ impl Composed {
     {
         let Composed {
             mappings,
-            text_bytes,
             sources,
             names,
             file,
         } = self;
-        let text = text_of(alloc, &mappings, text_bytes)?;
+        let text = text_of(alloc, &mappings)?;
         drop(mappings);
         write_owned(alloc, sources, names, file, text)
     }

@@ -1,9 +1,8 @@
 //! Composing a map with the maps of its sources.
-ghost use Rattle.std.specs.Prelude.{◌≡◌, ◌≤◌, ℕ, None, Some, Err, false, length, IfOk};
+ghost use Rattle.std.specs.Prelude.{◌≡◌, ◌≤◌, ◌&&◌, ℕ, None, Some, Err, false, length, IfOk};
 ghost use Rattle.std.specs.List.{All};
-ghost use Rattle.smap_mappings.specs.Encode.{list_fault};
+ghost use Rattle.smap_mappings.specs.Encode.{is_text_too_long, list_fault};
 ghost use Rattle.smap_mappings.specs.Within.{IsWithin};
-ghost use Rattle.smap_mappings.specs.Writing.{IsLengthOf};
 ghost use Rattle.smap_mappings.specs.Exact.{GivesOr};
 ghost use Rattle.smap_index.specs.Answer.{answer_at_or_before};
 ghost use Rattle.smap_record.specs.Limits.{most_listed};
@@ -23,13 +22,13 @@ use crate::laws::{
     answers_keep_their_mappings, composing_all_is_composing_in_turn, pruned_maps_answer_alike,
 };
 use crate::left_out::LeftOut;
+use crate::length::is_text_too_long;
 use crate::listed::{all_names, all_sources, joined_names, joined_sources};
 use crate::listing::Listing;
 use crate::parts::Parts;
 use crate::placed::{all_placed, are_too_many, list_too_many, one_placed};
 use crate::pruned::left_parts;
 use crate::refusal::ComposeRefusal;
-use smap_mappings::TextLength;
 use smap_record::{MapFile, Mapping};
 use std::alloc::{AllocError, Global};
 
@@ -81,36 +80,31 @@ pub fn compose_with(
     {
         return Err(ComposeRefusal::TooLarge);
     }
-    let (mappings, length) = one_followed(alloc, outer, source, inner)?;
+    let mappings = one_followed(alloc, outer, source, inner)?;
     let listing = Listing {
         sources: joined_sources(alloc, outer, inner)?,
         names: joined_names(alloc, outer, inner)?,
         file: outer.file(),
     };
-    let whole = Parts {
-        mappings,
-        length,
-        listing,
-    };
+    let whole = Parts { mappings, listing };
     left_of(alloc, whole, left_out)
 }
 
-// The mappings of the outer map, those of this source followed, and the length of their canonical text.
+// The mappings of the outer map, those of this source followed.
 fn one_followed(
     alloc: Global,
     outer: &MapFile,
     source: u32,
     inner: &MapFile,
-) -> Result<(Vec<Mapping>, TextLength), AllocError>
+) -> Result<Vec<Mapping>, AllocError>
     requires few_sources { sources_together outer.now.stated inner.now.stated ≤ most_listed }
     requires few_names { names_together outer.now.stated inner.now.stated ≤ most_listed }
-    ensures list { IfOk result (λ made. made.0.items
+    ensures list { IfOk result (λ made. made.items
         ≡ followed_mappings outer.now.stated source inner.now.stated) }
-    ensures length { IfOk result (λ made. IsLengthOf made.0.items made.1) }
     ensures within { let outer = outer.now.stated in let inner = inner.now.stated in
         IfOk result (λ made. All
-        (IsWithin (sources_together outer inner) (names_together outer inner)) made.0.items) }
-    ensures no_fault { IfOk result (λ made. list_fault made.0.items ≡ None) }
+        (IsWithin (sources_together outer inner) (names_together outer inner)) made.items) }
+    ensures no_fault { IfOk result (λ made. list_fault made.items ≡ None) }
 {
     let inners = one_placed(alloc, outer, source, inner)?;
     followed_mappings(alloc, outer, &inners)
@@ -147,17 +141,13 @@ pub fn compose_all(
         return Err(ComposeRefusal::TooLarge);
     }
     let placed = all_placed(alloc, outer, inners)?;
-    let (mappings, length) = followed_mappings(alloc, outer, &placed)?;
+    let mappings = followed_mappings(alloc, outer, &placed)?;
     let listing = Listing {
         sources: all_sources(alloc, outer, inners)?,
         names: all_names(alloc, outer, inners)?,
         file: outer.file(),
     };
-    let whole = Parts {
-        mappings,
-        length,
-        listing,
-    };
+    let whole = Parts { mappings, listing };
     answers_keep_their_mappings();
     composing_all_is_composing_in_turn();
     left_of(alloc, whole, left_out)
@@ -172,10 +162,18 @@ fn left_of(alloc: Global, whole: Parts<'_>, left_out: LeftOut) -> Result<Compose
         composed.mappings ≡ whole.entry.mappings.items) }
     ensures named { left_out.contents ≡ false → IfOk result (AnswersAlike (parts_seen whole.entry)) }
 {
-    if whole.length.bytes().is_none() {
+    if is_refused_whole(&whole.mappings, left_out.unused) {
         return Err(ComposeRefusal::TooLarge);
     }
     pruned_maps_answer_alike();
     let left = left_parts(alloc, whole, left_out.unused)?;
     composed_map(alloc, left, left_out.contents)
+}
+
+// Whether what is left of a map is refused since the whole one is too long. Where all is left, that is asked of what is left.
+fn is_refused_whole(mappings: &[Mapping], unused: bool) -> bool
+    requires { list_fault mappings.now ≡ None }
+    ensures { result ≡ (unused && is_text_too_long mappings.now) }
+{
+    unused && is_text_too_long(mappings)
 }

@@ -5,7 +5,6 @@ ghost use Rattle.std.specs.Option.{option_flatten};
 ghost use Rattle.smap_index.specs.Parts.{joined};
 ghost use Rattle.smap_mappings.specs.Encode.{list_fault};
 ghost use Rattle.smap_mappings.specs.Within.{IsOriginWithin, IsWithin};
-ghost use Rattle.smap_mappings.specs.Writing.{IsLengthOf};
 ghost use Rattle.smap_record.specs.Limits.{most_listed};
 ghost use Rattle.smap_record.specs.Record.{answer_of_map};
 ghost use Rattle.smap_compose.specs.Follow.{moved_origin, origin_of_answer, with_origin};
@@ -13,35 +12,31 @@ ghost use Rattle.smap_compose.specs.FollowAll.{origin_through, origin_through_al
 ghost use Rattle.smap_compose.specs.Private.Placed.{AreFew, ArePlaced, FitsIn, inners_seen, placed_seen};
 
 use crate::placed::{InnerMaps, PlacedMap};
-use smap_mappings::TextLength;
 use smap_mappings::laws::lists_in_order_have_no_fault;
 use smap_record::{Answer, MapFile, Mapping, Meter, Origin};
 use std::alloc::{AllocError, Global};
 
-/// The mappings of the outer map, followed through the inner maps, and the length of their canonical text. Each costs at
-/// most one look-up in the inner map of its source; the inner maps' mappings are not listed.
+/// The mappings of the outer map, followed through the inner maps. Each costs at most one look-up in the inner map of its
+/// source; the inner maps' mappings are not listed.
 pub fn followed_mappings(
     alloc: Global,
     outer: &MapFile,
     inners: &InnerMaps<'_>,
-) -> Result<(Vec<Mapping>, TextLength), AllocError>
+) -> Result<Vec<Mapping>, AllocError>
     requires placed { ArePlaced outer.now.stated inners.now }
-    ensures list { IfOk result (λ made. made.0.items
+    ensures list { IfOk result (λ made. made.items
         ≡ map (with_origin (origin_through_all (inners_seen inners.now))) (joined outer.now.stated.parts)) }
-    ensures length { IfOk result (λ made. IsLengthOf made.0.items made.1) }
     ensures within { IfOk result (λ made. All
-        (IsWithin inners.now.sources inners.now.names) made.0.items) }
-    ensures no_fault { IfOk result (λ made. list_fault made.0.items ≡ None) }
+        (IsWithin inners.now.sources inners.now.names) made.items) }
+    ensures no_fault { IfOk result (λ made. list_fault made.items ≡ None) }
 {
     let mut list = Vec::with_capacity(alloc, outer.segments() as usize)?;
-    let mut length = TextLength::new();
     for mapping in outer.mappings(alloc) {
         let followed = follow(alloc, outer, inners, mapping);
-        length.add(&followed);
         list.push(followed)?;
     }
     lists_in_order_have_no_fault();
-    Ok((list, length))
+    Ok(list)
 }
 
 // The mapping, followed where it has an origin.

@@ -15,6 +15,7 @@ mod follow;
 pub mod laws;
 mod left;
 mod left_out;
+mod length;
 mod listed;
 mod listing;
 mod parts;

@@ -1,10 +1,8 @@
 //! What is left of a map without what its mappings do not have.
-ghost use Rattle.std.specs.Prelude.{◌≡◌, ◌≤◌, None, false, length, map, IfOk};
+ghost use Rattle.std.specs.Prelude.{◌≡◌, ◌≤◌, None, length, map, IfOk};
 ghost use Rattle.std.specs.List.{All};
 ghost use Rattle.std.specs.Str.{bytes_eq};
-ghost use Rattle.smap_mappings.specs.Range.{is_mapping_past_limit};
 ghost use Rattle.smap_mappings.specs.Within.{IsOriginWithin, IsWithin};
-ghost use Rattle.smap_mappings.specs.Writing.{IsLengthOf};
 ghost use Rattle.smap_record.specs.Limits.{most_listed};
 ghost use Rattle.smap_compose.specs.LeftOut.{pruned_where};
 ghost use Rattle.smap_compose.specs.Pruned.{is_name_used, is_same_source, is_source_used, named_source, pruned};
@@ -17,7 +15,6 @@ use crate::left::{Places, kept_entries, places_left};
 use crate::listing::{LentSource, Listing};
 use crate::parts::Parts;
 use crate::used::used_entries;
-use smap_mappings::TextLength;
 use smap_mappings::laws::lists_in_order_have_no_fault;
 use smap_record::{Mapping, Origin};
 use std::alloc::{AllocError, Global};
@@ -44,7 +41,6 @@ fn pruned_parts(alloc: Global, whole: Parts<'_>) -> Result<Parts<'_>, AllocError
     let Parts {
         mut mappings,
         listing,
-        ..
     } = whole;
     let Listing {
         sources,
@@ -52,18 +48,14 @@ fn pruned_parts(alloc: Global, whole: Parts<'_>) -> Result<Parts<'_>, AllocError
         file,
     } = listing;
     let left = listing_left(alloc, &mappings, &sources, &names)?;
-    let length = move_origins(&mut mappings, &left.sources.places, &left.names.places);
+    move_origins(&mut mappings, &left.sources.places, &left.names.places);
     lists_in_order_have_no_fault();
     let listing = Listing {
         sources: kept_entries(alloc, sources, &left.sources.stays)?,
         names: kept_entries(alloc, names, &left.names.stays)?,
         file,
     };
-    Ok(Parts {
-        mappings,
-        length,
-        listing,
-    })
+    Ok(Parts { mappings, listing })
 }
 
 // What becomes of the sources and of the names of a map.
@@ -136,20 +128,14 @@ fn names_left(alloc: Global, names: &[&str], used: &[bool]) -> Result<Places, Al
     places_left(alloc, names, used)
 }
 
-// Gives each mapping the new places of its source and its name, and says how long the canonical text then is.
-fn move_origins(mappings: &mut [Mapping], sources: &[u32], names: &[u32]) -> TextLength
-    requires within { All (IsWithin (length sources.now) (length names.now)) mappings.old }
-    requires in_range { All (λ mapping. is_mapping_past_limit mapping ≡ false)
-        (map (mapping_moved_to sources.now names.now) mappings.old) }
-    ensures list { mappings.new ≡ map (mapping_moved_to sources.now names.now) mappings.old }
-    ensures length { IsLengthOf mappings.new result }
+// Gives each mapping the new places of its source and its name.
+fn move_origins(mappings: &mut [Mapping], sources: &[u32], names: &[u32])
+    requires { All (IsWithin (length sources.now) (length names.now)) mappings.old }
+    ensures { mappings.new ≡ map (mapping_moved_to sources.now names.now) mappings.old }
 {
-    let mut length = TextLength::new();
     for mapping in mappings {
         *mapping = moved_mapping(*mapping, sources, names);
-        length.add(mapping);
     }
-    length
 }
 
 fn moved_mapping(mapping: Mapping, sources: &[u32], names: &[u32]) -> Mapping

@@ -1,26 +1,33 @@
-use Rattle.std.proofs.Common.{◌≡◌, List, Result, false, length, not, sym, ap, subst, ◌∙◌}
+use Rattle.std.proofs.Common.{◌≡◌, ◌&&◌, Result, true, false, inr, sym, ap, subst, ◌∙◌}
+use Rattle.std.proofs.lemmas.Bool.{and_parts}
 use Rattle.std.proofs.lemmas.Result.{IfOk-weaker}
-use Rattle.smap_mappings.specs.Canonical.{canonical_text}
 use Rattle.smap_mappings.specs.Encode.{is_text_too_long}
 use Rattle.smap_mappings.specs.Exact.{GivesOr}
-use Rattle.smap_mappings.specs.declared.mapping.Mapping.{Mapping}
 use Rattle.smap_compose.specs.Composition.{Composition}
-use Rattle.smap_compose.specs.LeftOut.{contents_where, pruned_where}
+use Rattle.smap_compose.specs.LeftOut.{contents_where, left_of, pruned_where}
 use Rattle.smap_compose.specs.Pruned.{AnswersAlike}
 use Rattle.smap_compose.specs.Private.Parts.{parts_seen}
 use Rattle.smap_compose.specs.declared.refusal.ComposeRefusal.{ComposeRefusal}
 use Rattle.smap_compose.specs.declared.refusal.ComposeRefusal.TheVariants.{Memory}
-use Rattle.smap_compose.proofs.GivenLaws.{given_is_whole, given_short, given_where, left_alike, parts_within, same_mappings}
+use Rattle.smap_compose.proofs.GivenLaws.{given_is_whole, given_where, left_alike, parts_within, same_mappings, too_long}
 use Rattle.smap_compose.proofs.composing.left_of.Goals as goal
+
+pub is_refused_whole-requires : goal.is_refused_whole-requires
+is_refused_whole-requires c = rw c.deref.ensures.value c.requires.no_fault
+
+pub returns-then-is_refused_whole-clause-composed : goal.returns-then-is_refused_whole-clause-composed
+returns-then-is_refused_whole-clause-composed c =
+    let whole = parts_seen c.args.whole in
+    let refused : (c.args.left_out.unused && is_text_too_long c.deref.result.now) ≡ true = sym c.is_refused_whole.ensures ∙ c.if-is_refused_whole.true in
+    inr (ap (left_of c.args.left_out) (too_long whole (ap is_text_too_long (sym c.deref.ensures.value) ∙ (and_parts _ _ refused).1)))
 
 pub returns-clause-composed : goal.returns-clause-composed
 returns-clause-composed c =
-    let list : List Mapping = c.args.whole.mappings.items in
-    let short : is_text_too_long list ≡ false =
-    given_short (is_text_too_long list) (length (canonical_text list)) c.bytes.result (c.bytes.ensures list c.requires.measured)
-    (c.is_none.ensures ∙ ap not c.if-is_none.false) in
+    let whole = parts_seen c.args.whole in
+    let kept : (c.args.left_out.unused && is_text_too_long whole.mappings) ≡ false =
+    ap (λ list. c.args.left_out.unused && is_text_too_long list) (sym c.deref.ensures.value) ∙ sym c.is_refused_whole.ensures ∙ c.if-is_refused_whole.false in
     subst (λ (stated : Result Composition ComposeRefusal). GivesOr Memory (λ composed. composed) c.composed_map.result stated)
-    (given_where c.args.left_out (parts_seen c.args.whole) (parts_seen c.in_ok-left.left) short c.in_ok-left.ensures.left) c.composed_map.ensures
+    (given_where c.args.left_out whole (parts_seen c.in_ok-left.left) kept c.in_ok-left.ensures.left) c.composed_map.ensures
 
 pub returns-clause-mappings : goal.returns-clause-mappings
 returns-clause-mappings c whole_stays =

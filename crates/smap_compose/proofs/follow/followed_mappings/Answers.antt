@@ -4,7 +4,6 @@ use Rattle.std.proofs.lemmas.List.{append-nil, append_assoc, map-append}
 use Rattle.std.proofs.lemmas.List.Elements.{All-push}
 use Rattle.smap_mappings.specs.Order.{IsInOrder}
 use Rattle.smap_mappings.specs.Within.{IsWithin}
-use Rattle.smap_mappings.specs.Writing.{IsLengthOf}
 use Rattle.smap_mappings.specs.declared.mapping.Mapping.{Mapping}
 use Rattle.smap_index.specs.Parts.{joined}
 use Rattle.smap_compose.specs.Follow.{with_origin}
@@ -32,7 +31,6 @@ loop-mapping-preserved c =
             ∙ ap (λ followed. map following front ++ followed ∷ []) c.follow-followed.ensures.followed
             ∙ sym (map-append following front (m ∷ [])),
       );
-      length = subst (λ items. IsLengthOf items c.add.new.self) (sym pushed) (c.add.ensures before so_far.length);
       within = subst (All P) (sym pushed) (All-push P before c.follow-followed.result so_far.within c.follow-followed.ensures.within);
     }
 

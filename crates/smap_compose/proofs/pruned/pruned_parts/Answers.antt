@@ -1,11 +1,6 @@
-use Rattle.std.proofs.Common.{◌≡◌, ℕ, ◌++◌, List, false, length, map, take, drop, refl, sym, ap, subst, ◌∙◌}
+use Rattle.std.proofs.Common.{◌≡◌, ℕ, ◌++◌, List, length, map, take, drop, refl, sym, ap, ◌∙◌}
 use Rattle.std.specs.Prelude.{bytes_eq}
-use Rattle.std.specs.List.{All}
 use Rattle.std.proofs.lemmas.List.{length-map}
-use Rattle.smap_mappings.specs.Order.{IsInOrder}
-use Rattle.smap_mappings.specs.Range.{is_mapping_past_limit}
-use Rattle.smap_mappings.specs.Within.{IsWithin}
-use Rattle.smap_mappings.specs.Writing.{IsLengthOf}
 use Rattle.smap_mappings.specs.declared.mapping.Mapping.{Mapping}
 use Rattle.smap_compose.specs.Pruned.{is_name_used, is_same_source, is_source_used}
 use Rattle.smap_compose.specs.Private.Keys.{mapping_moved_to}
@@ -14,26 +9,8 @@ use Rattle.smap_compose.specs.declared.listing.Listing.{Listing}
 use Rattle.smap_compose.specs.declared.left.Places.{Places}
 use Rattle.smap_compose.specs.Private.Listing.{lent_source, lent_text}
 use Rattle.smap_compose.proofs.MovedLaws.{written_over}
-use Rattle.smap_compose.proofs.PartsLaws.{ArePartsLeft, left_at, moved_at, moved_in_range, parts_left}
+use Rattle.smap_compose.proofs.PartsLaws.{ArePartsLeft, left_at, moved_at, parts_left}
 use Rattle.smap_compose.proofs.pruned.pruned_parts.Goals as goal
-
-pub move_origins-length-requires-clause-in_range : goal.move_origins-length-requires-clause-in_range
-move_origins-length-requires-clause-in_range c =
-    let list : List Mapping = c.args.whole.mappings.items in
-    let listing : Listing = c.args.whole.listing in
-    let sources : Places = c.in_ok-left.left.sources in
-    let names : Places = c.in_ok-left.left.names in
-    let list_is : c.deref.result.now ≡ list = c.deref.ensures.value in
-    let listed_sources : c.deref-2.result.now ≡ listing.sources.items = c.deref-2.ensures.value in
-    let listed_names : c.deref-3.result.now ≡ listing.names.items = c.deref-3.ensures.value in
-    let sources_left : AreLeft is_same_source (is_source_used list) (map lent_source listing.sources.items) sources.places.items sources.stays.items =
-    left_at (ap is_source_used list_is) (ap (map lent_source) listed_sources) c.in_ok-left.ensures.sources in
-    let names_left : AreLeft bytes_eq (is_name_used list) (map lent_text listing.names.items) names.places.items names.stays.items =
-    left_at (ap is_name_used list_is) (ap (map lent_text) listed_names) c.in_ok-left.ensures.names in
-    let moved = moved_at c.deref_mut.result.now list c.deref-4.result.now sources.places.items c.deref-5.result.now names.places.items
-    c.deref_mut.ensures.value c.deref-4.ensures.value c.deref-5.ensures.value in
-    subst (All (λ (mapping : Mapping). is_mapping_past_limit mapping ≡ false)) (sym moved)
-    (moved_in_range list listing sources names sources_left names_left c.requires.within c.requires.few_sources c.requires.few_names)
 
 pub returns : goal.returns
 returns c =
@@ -48,8 +25,8 @@ returns c =
     left_at (ap is_source_used list_is) (ap (map lent_source) listed_sources) c.in_ok-left.ensures.sources in
     let names_left : AreLeft bytes_eq (is_name_used list) (map lent_text listing.names.items) names.places.items names.stays.items =
     left_at (ap is_name_used list_is) (ap (map lent_text) listed_names) c.in_ok-left.ensures.names in
-    let written : List Mapping = c.move_origins-length.new.mappings in
-    let moved_there : written ≡ map (mapping_moved_to c.deref-4.result.now c.deref-5.result.now) c.deref_mut.result.now = c.move_origins-length.ensures.list in
+    let written : List Mapping = c.move_origins.new.mappings in
+    let moved_there : written ≡ map (mapping_moved_to c.deref-4.result.now c.deref-5.result.now) c.deref_mut.result.now = c.move_origins.ensures in
     let moved : written ≡ map (mapping_moved_to sources.places.items names.places.items) list =
     moved_there ∙ moved_at c.deref_mut.result.now list c.deref-4.result.now sources.places.items c.deref-5.result.now names.places.items
     c.deref_mut.ensures.value c.deref-4.ensures.value c.deref-5.ensures.value in
@@ -69,7 +46,6 @@ returns c =
     record {
       pruned = parts.are_pruned;
       fit = record {
-        measured = subst (λ (mappings : List Mapping). IsLengthOf mappings c.move_origins-length.result) (sym left_is) c.move_origins-length.ensures.length;
         no_fault =
             c.lists_in_order_have_no_fault.ensures.within left (length others.sources.items) (length others.names.items)
             (parts.order ((c.lists_in_order_have_no_fault.ensures.exact list).0 c.requires.no_fault).0) parts.within;
