@@ -16,4 +16,5 @@ pub mod MovedLaws
 pub mod PartsLaws
 pub mod GivenLaws
 pub mod LengthLaws
+pub mod WalkLaws
 pub mod PrunedLaws

@@ -6,3 +6,4 @@ pub mod Left
 pub mod Used
 pub mod Keys
 pub mod Length
+pub mod Walk

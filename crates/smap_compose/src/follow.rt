@@ -1,23 +1,23 @@
 //! The mappings of a map, followed through the maps of its sources.
-ghost use Rattle.std.specs.Prelude.{◌≡◌, None, Some, length, map, slice_get, IfOk, IfSome};
+ghost use Rattle.std.specs.Prelude.{◌≡◌, None, Some, length, map, option_map, IfOk, IfSome};
 ghost use Rattle.std.specs.List.{All};
-ghost use Rattle.std.specs.Option.{option_flatten};
 ghost use Rattle.smap_index.specs.Parts.{joined};
 ghost use Rattle.smap_mappings.specs.Encode.{list_fault};
 ghost use Rattle.smap_mappings.specs.Within.{IsOriginWithin, IsWithin};
 ghost use Rattle.smap_record.specs.Limits.{most_listed};
-ghost use Rattle.smap_record.specs.Record.{answer_of_map};
-ghost use Rattle.smap_compose.specs.Follow.{moved_origin, origin_of_answer, with_origin};
+ghost use Rattle.smap_compose.specs.Follow.{moved_origin, with_origin};
 ghost use Rattle.smap_compose.specs.FollowAll.{origin_through, origin_through_all};
 ghost use Rattle.smap_compose.specs.Private.Placed.{AreFew, ArePlaced, FitsIn, inners_seen, placed_seen};
+ghost use Rattle.smap_compose.specs.Private.Walk.{IsWalkIn, IsWalkOf, IsWalkThrough};
 
 use crate::placed::{InnerMaps, PlacedMap};
+use crate::walk::{SourceWalk, walk_of};
 use smap_mappings::laws::lists_in_order_have_no_fault;
-use smap_record::{Answer, MapFile, Mapping, Meter, Origin};
+use smap_record::{MapFile, Mapping, Origin};
 use std::alloc::{AllocError, Global};
 
 /// The mappings of the outer map, followed through the inner maps. Each costs at most one look-up in the inner map of its
-/// source; the inner maps' mappings are not listed.
+/// source, and none where a few steps through that map lead to its place. The inner maps' mappings are not listed.
 pub fn followed_mappings(
     alloc: Global,
     outer: &MapFile,
@@ -31,68 +31,109 @@ pub fn followed_mappings(
     ensures no_fault { IfOk result (λ made. list_fault made.items ≡ None) }
 {
     let mut list = Vec::with_capacity(alloc, outer.segments() as usize)?;
+    let mut walk = None;
     for mapping in outer.mappings(alloc) {
-        let followed = follow(alloc, outer, inners, mapping);
+        let (followed, walk_on) = follow(alloc, outer, inners, mapping, walk);
         list.push(followed)?;
+        walk = walk_on;
     }
     lists_in_order_have_no_fault();
     Ok(list)
 }
 
-// The mapping, followed where it has an origin.
-fn follow(alloc: Global, outer: &MapFile, inners: &InnerMaps<'_>, mapping: Mapping) -> Mapping
+// The mapping, followed where it has an origin, and the walk after it.
+fn follow<'m>(
+    alloc: Global,
+    outer: &MapFile,
+    inners: &InnerMaps<'m>,
+    mapping: Mapping,
+    walk: Option<SourceWalk<'m>>,
+) -> (Mapping, Option<SourceWalk<'m>>)
     requires placed { ArePlaced outer.now.stated inners.now }
     requires within { IsWithin
         (length outer.now.stated.sources) (length outer.now.stated.names) mapping }
-    ensures followed { result ≡ with_origin (origin_through_all (inners_seen inners.now)) mapping }
-    ensures within { IsWithin inners.now.sources inners.now.names result }
+    requires walk { IfSome walk (IsWalkIn inners.now) }
+    ensures followed { result.0 ≡ with_origin (origin_through_all (inners_seen inners.now)) mapping }
+    ensures within { IsWithin inners.now.sources inners.now.names result.0 }
+    ensures walk { IfSome result.1 (IsWalkIn inners.now) }
 {
     match mapping.origin {
-        Some(origin) => Mapping {
-            origin: followed_origin(alloc, outer, inners, origin),
-            ..mapping
-        },
-        None => mapping,
+        Some(origin) => {
+            let (origin, walk) = followed_origin(alloc, outer, inners, origin, walk);
+            (Mapping { origin, ..mapping }, walk)
+        }
+        None => (mapping, walk),
     }
 }
 
 // What becomes of an origin: that to which the inner map of its source leads or, where the source has none, itself.
-fn followed_origin(
+fn followed_origin<'m>(
     alloc: Global,
     outer: &MapFile,
-    inners: &InnerMaps<'_>,
+    inners: &InnerMaps<'m>,
     origin: Origin,
-) -> Option<Origin>
+    walk: Option<SourceWalk<'m>>,
+) -> (Option<Origin>, Option<SourceWalk<'m>>)
     requires placed { ArePlaced outer.now.stated inners.now }
     requires within { IsOriginWithin
         (length outer.now.stated.sources) (length outer.now.stated.names) origin }
-    ensures followed { result ≡ origin_through_all (inners_seen inners.now) origin }
-    ensures within { IfSome result (IsOriginWithin inners.now.sources inners.now.names) }
+    requires walk { IfSome walk (IsWalkIn inners.now) }
+    ensures followed { result.0 ≡ origin_through_all (inners_seen inners.now) origin }
+    ensures within { IfSome result.0 (IsOriginWithin inners.now.sources inners.now.names) }
+    ensures walk { IfSome result.1 (IsWalkIn inners.now) }
 {
     match inners.maps.get(origin.source as usize) {
-        Some(Some(inner)) => inner_origin(alloc, inners, inner, origin),
-        _ => Some(origin),
+        Some(Some(inner)) => {
+            let (origin, walk) = inner_origin(alloc, inners, inner, origin, walk);
+            (origin, Some(walk))
+        }
+        _ => (Some(origin), walk),
     }
 }
 
-// The origin to which the inner map leads from this one, if there is one.
-fn inner_origin(
+// The origin to which the inner map leads from this one, if there is one, and the walk through that map.
+fn inner_origin<'m>(
     alloc: Global,
+    inners: &InnerMaps<'m>,
+    inner: &PlacedMap<'m>,
+    origin: Origin,
+    walk: Option<SourceWalk<'m>>,
+) -> (Option<Origin>, SourceWalk<'m>)
+    requires few { AreFew inners.now }
+    requires fits { FitsIn inners.now.sources inners.now.names inner.now }
+    requires within { IsOriginWithin inners.now.sources inners.now.names origin }
+    requires walk { IfSome walk (IsWalkOf inner.now.map.now.stated origin.source) }
+    ensures answer { result.0 ≡ origin_through (Some (placed_seen inner.now)) origin }
+    ensures within { IfSome result.0 (IsOriginWithin inners.now.sources inners.now.names) }
+    ensures source { result.1.source ≡ origin.source }
+    ensures walk { IsWalkThrough inner.now.map.now.stated result.1.walk }
+{
+    let mut walk = walk_of(alloc, inner.map, origin.source, walk);
+    let found = walk.origin_at(alloc, inner.map, origin.line, origin.column);
+    let moved = moved_where(inners, inner, origin, found);
+    let source = origin.source;
+    (moved, SourceWalk { source, walk })
+}
+
+// An origin of the inner map, where there is one, moved.
+fn moved_where(
     inners: &InnerMaps<'_>,
     inner: &PlacedMap<'_>,
     origin: Origin,
+    found: Option<Origin>,
 ) -> Option<Origin>
     requires few { AreFew inners.now }
     requires fits { FitsIn inners.now.sources inners.now.names inner.now }
     requires within { IsOriginWithin inners.now.sources inners.now.names origin }
-    ensures answer { result ≡ origin_through (Some (placed_seen inner.now)) origin }
+    requires found { IfSome found (IsOriginWithin
+        (length inner.now.map.now.stated.sources) (length inner.now.map.now.stated.names)) }
+    ensures moved { result
+        ≡ option_map (moved_origin inner.now.sources inner.now.names origin.name) found }
     ensures within { IfSome result (IsOriginWithin inners.now.sources inners.now.names) }
 {
-    let mut meter = Meter::new(alloc);
-    match inner.map.look_up(origin.line, origin.column, &mut meter) {
-        Answer::Found { origin: found, .. } => Some(moved_origin(inners, inner, origin, found)),
-        Answer::Unmapped { .. } => None,
-        Answer::Nothing => None,
+    match found {
+        Some(found) => Some(moved_origin(inners, inner, origin, found)),
+        None => None,
     }
 }
 

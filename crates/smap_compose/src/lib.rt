@@ -23,6 +23,7 @@ mod placed;
 mod pruned;
 mod refusal;
 mod used;
+mod walk;
 
 pub use composed::Composed;
 pub use composing::{compose, compose_all, compose_with};
