@@ -1,6 +1,6 @@
 -- How many bytes a canonical text has at most: as many as five numbers of seven digits and a `,` for each mapping, and a `;` for
 -- each line.
-use Rattle.std.proofs.Common.{◌≡◌, ℕ, zero, suc, ◌+◌, ◌-◌, ◌*◌, ◌<◌, ◌≤◌, ◌/◌, ltb, eqb, false, List, [], ◌∷◌, ◌++◌, length, map, replicate, Option, Some, None, refl, sym, ap, subst, ◌∙◌, arith, length-append, inl, inr, le-ltb}
+use Rattle.std.proofs.Common.{◌≡◌, ℕ, zero, suc, ◌+◌, ◌-◌, ◌*◌, ◌≤◌, ◌/◌, ltb, eqb, false, List, [], ◌∷◌, ◌++◌, length, map, replicate, Option, Some, None, refl, sym, ap, subst, ◌∙◌, arith, length-append, inl, inr, le-ltb}
 use Rattle.std.specs.Prelude.{ℤ}
 use Rattle.std.specs.List.{concat, last_or, slice_get}
 use Rattle.std.proofs.lemmas.Bool.{cond_both}

@@ -1,14 +1,7 @@
 -- A list of mappings whose elements are written one after another.
-use Rattle.std.proofs.Common.{Bool, false, ◌||◌, Option, Some, None, refl, ◌≡◌, ◌<◌, ◌≤◌, ℕ, ◌+◌, ◌∷◌, ◌++◌, [], List, map, take, drop, set, length, get_or, sym, ap, ◌∙◌, arith}
-use Rattle.std.proofs.lemmas.List.{append-nil, drop_all, drop_more, get_or_at, get_or_default, length-append, length-drop, length-map, length-take, length-take-le, map_more, take_all}
+use Rattle.std.proofs.Common.{◌≡◌, ◌<◌, ℕ, ◌+◌, ◌++◌, [], List, map, take, drop, set, length, get_or, sym, ap, ◌∙◌, arith}
+use Rattle.std.proofs.lemmas.List.{append-nil, drop_all, drop_more, get_or_at, get_or_default, length-append, length-drop, length-map, length-take, length-take-le, take_all}
 use Rattle.std.proofs.lemmas.List.Edits.{map_over_more}
-use Rattle.std.specs.Prelude.{IfSome}
-use Rattle.std.proofs.lemmas.Bool.{le-ltb}
-use Rattle.smap_mappings.specs.Limits.{limit}
-use Rattle.smap_mappings.specs.Range.{is_mapping_past_limit, is_name_past_limit, is_number_past_limit, is_origin_past_limit}
-use Rattle.smap_mappings.specs.Within.{IsIndexWithin, IsOriginWithin, IsWithin}
-use Rattle.smap_mappings.specs.declared.mapping.Mapping.{Mapping}
-use Rattle.smap_mappings.specs.declared.mapping.Origin.{Origin}
 
 -- ---- a list whose elements are written one after another
 

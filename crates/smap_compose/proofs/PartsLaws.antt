@@ -1,5 +1,5 @@
 -- The parts of a map that are left are those of the pruned map.
-use Rattle.std.proofs.Common.{◌≡◌, ◌≤◌, ℕ, Bool, List, length, map, Option, Some, refl, sym, ap, subst, ◌∙◌, arith}
+use Rattle.std.proofs.Common.{◌≡◌, ◌≤◌, ℕ, Bool, List, length, map, Some, sym, ap, subst, ◌∙◌, arith}
 use Rattle.std.specs.Prelude.{bytes_eq, option_copied}
 use Rattle.std.specs.List.{All}
 use Rattle.std.proofs.lemmas.List.{length-map}
@@ -7,7 +7,6 @@ use Rattle.smap_mappings.specs.Order.{IsInOrder}
 use Rattle.smap_mappings.specs.Within.{IsWithin}
 use Rattle.smap_mappings.specs.declared.mapping.Mapping.{Mapping}
 use Rattle.smap_record.specs.Limits.{most_listed}
-use Rattle.smap_record.specs.Sources.{StatedSource}
 use Rattle.smap_compose.specs.Composition.{Composition}
 use Rattle.smap_compose.specs.Pruned.{entries_left, is_name_used, is_same_source, is_source_used, names_left, pruned, pruned_origin, sources_left}
 use Rattle.smap_compose.specs.Private.Keys.{mapping_moved_to}

@@ -1,4 +1,4 @@
-use Rattle.std.proofs.Common.{◌≡◌, not, Option, Some, length, refl, sym, subst, ap, ◌∙◌}
+use Rattle.std.proofs.Common.{not, Option, length, refl, sym, subst, ap, ◌∙◌}
 use Rattle.std.specs.Prelude.{IfSome}
 use Rattle.smap_mappings.specs.Within.{IsOriginWithin}
 use Rattle.smap_mappings.specs.declared.mapping.Origin.{Origin}
