@@ -20,6 +20,15 @@ const MOST_URLS: usize = 256;
 
 const MOST_URL_BYTES: usize = 252;
 
+// After how many places that come for the first time, while none comes again, nothing is remembered for a while; how many of
+// them one that comes again makes up for, as looking it up would cost so much more than remembering one did; and for how many
+// places nothing is remembered then.
+const MOST_PATIENCE: u32 = 4096;
+
+const WORTH: u32 = 4;
+
+const MOST_REST: u32 = 65536;
+
 // A URL: its first `len` bytes.
 #[derive(Clone, Copy)]
 pub struct RememberedUrl {
@@ -44,7 +53,7 @@ const NO_PLACE: RememberedPlace = RememberedPlace {
 };
 
 /// Where places come from that were asked for before, so that they are not looked up again. All room is made at first; and
-/// what falls on a taken place replaces it.
+/// what falls on a taken place replaces it. Where few come again, all are looked up for a while, and none is remembered.
 #[derive(Drop)]
 pub struct Remembered {
     pub places: Vec<RememberedPlace>,
@@ -55,6 +64,10 @@ pub struct Remembered {
     pub recent: u32,
     // The number that a URL may have, by some of its bytes.
     pub hints: [u8; 256],
+    // How many places may come for the first time until nothing is remembered for a while, if none comes again.
+    pub patience: u32,
+    // For how many places nothing is remembered.
+    pub rest: u32,
 }
 
 impl Remembered {
@@ -81,6 +94,8 @@ impl Remembered {
             stored: 0,
             recent: 0,
             hints: [0; 256],
+            patience: MOST_PATIENCE,
+            rest: 0,
         }
     }
 
@@ -124,13 +139,45 @@ impl Remembered {
         ensures right { (maps : MapsByUrl) → maps url.now ≡ Some map.now.stated →
             StaysRight maps self.old self.new }
     {
+        if self.rests() {
+            return origin_at(alloc, map, line, column);
+        }
         let index = self.index_of(url, line, column);
         if let Some(origin) = self.recall(index, url, line, column) {
+            self.came_again();
             return origin;
         }
+        self.came_first();
         let origin = origin_at(alloc, map, line, column);
         self.remember(index, url, line, column, origin);
         origin
+    }
+
+    // Whether nothing is remembered for now, which is so for one place less from then on.
+    fn rests(&mut self) -> bool
+        ensures { (maps : MapsByUrl) → StaysRight maps self.old self.new }
+    {
+        let rests = self.rest > 0;
+        self.rest = self.rest.saturating_sub(1);
+        rests
+    }
+
+    // Counts a place that came again.
+    fn came_again(&mut self)
+        ensures { (maps : MapsByUrl) → StaysRight maps self.old self.new }
+    {
+        self.patience = self.patience.saturating_add(WORTH).min(MOST_PATIENCE);
+    }
+
+    // Counts a place that came for the first time.
+    fn came_first(&mut self)
+        ensures { (maps : MapsByUrl) → StaysRight maps self.old self.new }
+    {
+        self.patience = self.patience.saturating_sub(1);
+        if self.patience == 0 {
+            self.patience = MOST_PATIENCE;
+            self.rest = MOST_REST;
+        }
     }
 
     // The index at which a place would stand. Any would do: places that stand at the same replace each other.
