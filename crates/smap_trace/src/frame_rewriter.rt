@@ -1,5 +1,5 @@
 //! The frames of a trace, rewritten line by line.
-ghost use Rattle.std.specs.Prelude.{◌≡◌, ◌++◌, codes, map, true};
+ghost use Rattle.std.specs.Prelude.{◌≡◌, ◌++◌, map, true};
 ghost use Rattle.std.specs.List.{concat};
 ghost use Rattle.smap_lines.specs.LineOutput.{IsPut};
 ghost use Rattle.smap_lines.specs.Lines.{end_in};
@@ -11,9 +11,9 @@ use crate::hiding::Hiding;
 use crate::maps::Maps;
 use crate::original::Replacement;
 use crate::parts::Frame;
+use crate::printed::{MOST_PRINTED_BYTES, print_place};
 use crate::remembered::Remembered;
 use crate::sight::{Sight, look_again};
-use itoa::Buffer;
 use smap_io::{ByteSink, DeviceFault};
 use smap_lines::{LineEditor, LineOutput, end_of_line};
 use std::alloc::Global;
@@ -103,12 +103,11 @@ fn put_frame<W: ByteSink>(
     ensures { IsPut W.seen output.old output.new
         (replaced_frame frame.now replacement.now ++ end_in is_ended) result }
 {
-    let (mut line, mut column) = (Buffer::new(), Buffer::new());
+    let mut room = [0; MOST_PRINTED_BYTES];
     let pieces = pieces_of(
         frame.head,
         replacement.name.as_bytes(),
-        line.format(replacement.line).as_bytes(),
-        column.format(replacement.column).as_bytes(),
+        print_place(replacement.line, replacement.column, &mut room),
         frame.tail,
         end_of_line(is_ended),
     );
@@ -119,14 +118,12 @@ fn put_frame<W: ByteSink>(
 fn pieces_of<'a>(
     head: &'a [u8],
     name: &'a [u8],
-    line: &'a [u8],
-    column: &'a [u8],
+    place: &'a [u8],
     tail: &'a [u8],
     end: &'a [u8],
-) -> [&'a [u8]; 8]
+) -> [&'a [u8]; 5]
     ensures { concat (map (λ piece. piece.now) result)
-        ≡ (head.now ++ (name.now ++ codes ":" ++ line.now ++ codes ":" ++ column.now) ++ tail.now) ++
-        end.now }
+        ≡ (head.now ++ (name.now ++ place.now) ++ tail.now) ++ end.now }
 {
-    [head, name, b":", line, b":", column, tail, end]
+    [head, name, place, tail, end]
 }
