@@ -1,5 +1,5 @@
 //! The places of a text, rewritten as it passes through a window.
-ghost use Rattle.std.specs.Prelude.{◌≡◌, ◌<◌, ◌≤◌, ◌+◌, ◌^◌, ◌++◌, [], codes, false, true, is_some, length, map, option_map};
+ghost use Rattle.std.specs.Prelude.{◌≡◌, ◌<◌, ◌≤◌, ◌+◌, ◌^◌, ◌++◌, [], false, true, is_some, length, map, option_map};
 ghost use Rattle.std.specs.Prelude.{slice_range, unwrap_or, IfOk, MatchOption, OnErr, OnOk};
 ghost use Rattle.std.specs.List.{concat};
 ghost use Rattle.std.specs.Option.{option_or};
@@ -14,11 +14,10 @@ ghost use Rattle.smap_trace.specs.Rewriting.{Looked};
 use crate::finder::PlaceFinder;
 use crate::place::FoundPlace;
 use crate::replacement::find_replacement;
-use itoa::Buffer;
 use smap_io::{ByteSink, DeviceFault};
 use smap_lines::LineOutput;
 use smap_record::MapFile;
-use smap_trace::Maps;
+use smap_trace::{MOST_PRINTED_BYTES, Maps, print_place};
 use std::alloc::Global;
 
 /// Rewrites the places of a text, and counts them and those that are replaced.
@@ -130,21 +129,20 @@ fn put_place<W: ByteSink>(
         output.put(&line[from..place.end])?;
         return Ok(false);
     };
-    let (mut original_line, mut original_column) = (Buffer::new(), Buffer::new());
+    let mut room = [0; MOST_PRINTED_BYTES];
     let pieces = pieces_of(
         &line[from..place.start],
         replacement.name.as_bytes(),
-        original_line.format(replacement.line).as_bytes(),
-        original_column.format(replacement.column).as_bytes(),
+        print_place(replacement.line, replacement.column, &mut room),
     );
     output.put_all(&pieces)?;
     Ok(true)
 }
 
 // What is put where a place is replaced.
-fn pieces_of<'a>(front: &'a [u8], name: &'a [u8], line: &'a [u8], column: &'a [u8]) -> [&'a [u8]; 6]
+fn pieces_of<'a>(front: &'a [u8], name: &'a [u8], printed: &'a [u8]) -> [&'a [u8]; 3]
     ensures { concat (map (λ piece. piece.now) result)
-        ≡ front.now ++ (name.now ++ codes ":" ++ line.now ++ codes ":" ++ column.now) }
+        ≡ front.now ++ (name.now ++ printed.now) }
 {
-    [front, name, b":", line, b":", column]
+    [front, name, printed]
 }

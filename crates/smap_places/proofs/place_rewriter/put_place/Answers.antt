@@ -23,24 +23,12 @@ returns-in_default-clause-put g c =
 pub returns-in_err-put_all-clause-put : goal.returns-in_err-put_all-clause-put
 returns-in_err-put_all-clause-put g c =
     let p = err_from_is_err_and c.from_residual-in_err-put_all.result c.from_residual-in_err-put_all.ensures.1 in
-    let pieces = rw (
-      c.as_bytes.ensures.value,
-      c.as_bytes-2.ensures.value,
-      c.format.ensures.text,
-      c.as_bytes-3.ensures.value,
-      c.format-2.ensures.text,
-    ) at c.pieces_of-pieces.ensures in
+    let pieces = rw (c.as_bytes.ensures.value, c.print_place.ensures c.in-Some.replacement.name.now) at c.pieces_of-pieces.ensures in
     rw p.1 (rw (pieces ∙ text_replaced (option_map (λ file. file.now.stated) c.args.map) _
     (slice_range c.args.line.now c.args.place.now.start c.args.place.now.end) _ (place_seen c.args.place.now) c.in-Some.ensures) at c.in_err-put_all.ensures)
 
 pub returns-clause-put : goal.returns-clause-put
 returns-clause-put g c =
-    let pieces = rw (
-      c.as_bytes.ensures.value,
-      c.as_bytes-2.ensures.value,
-      c.format.ensures.text,
-      c.as_bytes-3.ensures.value,
-      c.format-2.ensures.text,
-    ) at c.pieces_of-pieces.ensures in
+    let pieces = rw (c.as_bytes.ensures.value, c.print_place.ensures c.in-Some.replacement.name.now) at c.pieces_of-pieces.ensures in
     rw (pieces ∙ text_replaced (option_map (λ file. file.now.stated) c.args.map) _
     (slice_range c.args.line.now c.args.place.now.start c.args.place.now.end) _ (place_seen c.args.place.now) c.in-Some.ensures) at c.in_ok-put_all.ensures
