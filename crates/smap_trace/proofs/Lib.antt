@@ -4,6 +4,7 @@ pub mod FrameSteps
 pub mod NumberLaws
 pub mod FrameLaws
 pub mod CountLaws
+pub mod EndNumberLaws
 pub mod Examples
 pub mod NotesLaws
 pub mod NoteSteps

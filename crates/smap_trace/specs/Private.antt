@@ -1,4 +1,5 @@
 -- What contracts of private functions alone cite.
+pub mod EndNumber
 pub mod LocationSeen
 pub mod Remembered
 pub mod FrameRewriter

@@ -11,10 +11,11 @@ ghost use Rattle.smap_trace.specs.FrameOf.{ends_in_digit, plain_frame, sign_fram
 ghost use Rattle.smap_trace.specs.FrameSeen.{parts_seen};
 ghost use Rattle.smap_trace.specs.Private.LocationSeen.{location_seen};
 
-use crate::cuts::{cut_at_call, cut_at_first, cut_at_last, without_last};
+use crate::cuts::{cut_at_call, cut_at_first, without_last};
+use crate::end_number::cut_at_number;
 use crate::parts::Frame;
 use memchr::memchr;
-use smap_lines::{MOST_LINE_BYTES, blanks, number};
+use smap_lines::{MOST_LINE_BYTES, blanks};
 
 /// The parts of a line, without its LF, that is a frame. The call takes no memory, and goes over the line a fixed number
 /// of times.
@@ -179,10 +180,10 @@ fn frame_at(line: &[u8], start: usize, end: usize) -> Option<Frame<'_>>
 fn location_of(text: &[u8]) -> Option<(&[u8], u32, u32)>
     ensures { option_map location_seen result ≡ location_of text.now }
 {
-    let (front, column) = cut_at_last(b':', text)?;
-    let (url, line) = cut_at_last(b':', front)?;
+    let (front, column) = cut_at_number(text)?;
+    let (url, line) = cut_at_number(front)?;
     if url.is_empty() {
         return None;
     }
-    Some((url, number(line)?, number(column)?))
+    Some((url, line, column))
 }

@@ -11,6 +11,7 @@
 #![tactic(auto)]
 
 mod cuts;
+mod end_number;
 mod frame_rewriter;
 mod frames;
 mod hiding;
