@@ -6,7 +6,7 @@ use Rattle.std.proofs.Math.Nat.{add-mul, le-mul_of_pos_right, mul_assoc, mul_com
 use Rattle.std.proofs.lemmas.Bool.{and_parts, cond-true, cond-false, eqb-true, le-leb, leb-true, leb-false, lt-leb, ltb-true, or_from}
 use Rattle.smap_lines.specs.Numbers.{decimal_number, read_on}
 use Rattle.smap_trace.specs.Cuts.{cut_at_last, later_cut}
-use Rattle.smap_trace.specs.FrameOf.{Location, location_before, location_cut, location_of, location_with}
+use Rattle.smap_trace.specs.FrameOf.{location_before, location_cut, location_of, location_with}
 use Rattle.smap_trace.specs.Private.EndNumber.{cut_at_number, with_front, with_number}
 use Rattle.smap_trace.proofs.CutLaws.{is_without, last_cut, no_cut}
 

@@ -1,4 +1,4 @@
-use Rattle.std.proofs.Common.{◌≡◌, ◌≤◌, ◌<◌, ◌+◌, ◌-◌, ◌^◌, ℕ, List, ◌++◌, ◌∷◌, [], set, length, drop, codes, decimal, ap, ◌∙◌, arith, append_assoc, append-nil, length-drop, length-set}
+use Rattle.std.proofs.Common.{◌≡◌, ◌≤◌, ◌<◌, ◌+◌, ◌-◌, ◌^◌, ℕ, List, ◌++◌, ◌∷◌, set, length, drop, codes, decimal, ap, ◌∙◌, arith, append_assoc, append-nil, length-drop, length-set}
 use Rattle.std.proofs.lemmas.Fmt.{length-decimal-le}
 use Rattle.std.proofs.lemmas.List.{drop-set, drop_all, take_all}
 use Rattle.smap_trace.proofs.printed.print_place.Goals as goal
