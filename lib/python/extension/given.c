@@ -128,3 +128,27 @@ void *room_of(PyObject *value, size_t *length) {
     *length = (size_t)given;
     return given && room ? room : nothing + 1;
 }
+
+/* The same where not all are given at their places, or one is missing or too many. */
+static bool words_by_name(PyObject *const *given, Py_ssize_t count, PyObject *named, const char *format, char **names, PyObject **words) {
+    PyObject *at_places = PyTuple_New(count), *by_name = named ? PyDict_New() : NULL;
+    bool is = at_places && (by_name || !named);
+    for (Py_ssize_t i = 0; is && i < count; i++) {
+        Py_INCREF(given[i]);
+        PyTuple_SetItem(at_places, i, given[i]);
+    }
+    for (Py_ssize_t i = 0; is && named && i < PyTuple_Size(named); i++)
+        is = PyDict_SetItem(by_name, PyTuple_GetItem(named, i), given[count + i]) == 0;
+    is = is && PyArg_ParseTupleAndKeywords(at_places, by_name, format, names, words, words + 1);
+    Py_XDECREF(at_places);
+    Py_XDECREF(by_name);
+    return is;
+}
+
+bool words_of(PyObject *const *given, Py_ssize_t count, PyObject *named, const char *format, char **names, PyObject **words) {
+    Py_ssize_t wanted = names[1] ? 2 : 1;
+    if (named || count != wanted) return words_by_name(given, count, named, format, names, words);
+    words[0] = given[0];
+    if (wanted == 2) words[1] = given[1];
+    return true;
+}

@@ -52,18 +52,13 @@ static PyObject *map_read(PyObject *self, PyObject *words) {
 
 typedef uint32_t look_up_call(const smap_map *, uint32_t, uint32_t, smap_found *);
 
-static PyObject *looked_up(PyObject *self, PyObject *words, PyObject *named, const char *format, look_up_call *call) {
+static PyObject *looked_up(PyObject *self, PyObject *const *given, Py_ssize_t count, PyObject *named, const char *format, look_up_call *call) {
     static char *names[] = {"line", "column", NULL};
     struct held *held = (struct held *)self;
-    PyObject *given_line, *given_column;
+    PyObject *words[2];
     uint32_t line, column;
-    if (!named && PyTuple_Size(words) == 2) {
-        given_line = PyTuple_GetItem(words, 0);
-        given_column = PyTuple_GetItem(words, 1);
-    } else if (!PyArg_ParseTupleAndKeywords(words, named, format, names, &given_line, &given_column)) {
-        return NULL;
-    }
-    if (!place_of(given_line, "line", &line) || !place_of(given_column, "column", &column) || !ready(&held, 1)) return NULL;
+    if (!words_of(given, count, named, format, names, words)) return NULL;
+    if (!place_of(words[0], "line", &line) || !place_of(words[1], "column", &column) || !ready(&held, 1)) return NULL;
     smap_found found = {0};
     call(&held->map, line, column, &found);
     if (found.kind == 0) return none();
@@ -75,12 +70,12 @@ static PyObject *looked_up(PyObject *self, PyObject *words, PyObject *named, con
     return tuple_of(answer_class, 5, items);
 }
 
-static PyObject *map_look_up(PyObject *self, PyObject *words, PyObject *named) {
-    return looked_up(self, words, named, "OO:look_up", smap_look_up);
+static PyObject *map_look_up(PyObject *self, PyObject *const *given, Py_ssize_t count, PyObject *named) {
+    return looked_up(self, given, count, named, "OO:look_up", smap_look_up);
 }
 
-static PyObject *map_look_up_from(PyObject *self, PyObject *words, PyObject *named) {
-    return looked_up(self, words, named, "OO:look_up_from", smap_look_up_from);
+static PyObject *map_look_up_from(PyObject *self, PyObject *const *given, Py_ssize_t count, PyObject *named) {
+    return looked_up(self, given, count, named, "OO:look_up_from", smap_look_up_from);
 }
 
 /* Looks positions up, whose bytes are given, and writes the answers into a buffer that nobody else has. Positions that could be
@@ -177,49 +172,49 @@ static PyObject *map_counts(PyObject *self, void *unused) {
 }
 
 /* The source of a number, whose texts are lent until the next call. */
-static bool source_of(PyObject *self, PyObject *words, PyObject *named, const char *format, smap_source_text *source) {
+static bool source_of(PyObject *self, PyObject *const *given, Py_ssize_t count, PyObject *named, const char *format, smap_source_text *source) {
     static char *names[] = {"index", NULL};
     struct held *held = (struct held *)self;
     PyObject *value;
     uint32_t index;
-    if (!PyArg_ParseTupleAndKeywords(words, named, format, names, &value) || !index_of(value, "a source", &index)) return false;
+    if (!words_of(given, count, named, format, names, &value) || !index_of(value, "a source", &index)) return false;
     if (!ready(&held, 1)) return false;
     if (smap_source(&held->map, index, source) == SMAP_DONE) return true;
     PyErr_Format(PyExc_IndexError, "no source %S", value);
     return false;
 }
 
-static PyObject *map_source(PyObject *self, PyObject *words, PyObject *named) {
+static PyObject *map_source(PyObject *self, PyObject *const *given, Py_ssize_t count, PyObject *named) {
     smap_source_text source = SMAP_SOURCE;
     PyObject *items[3] = {NULL};
-    if (!source_of(self, words, named, "O:source", &source)) return NULL;
+    if (!source_of(self, given, count, named, "O:source", &source)) return NULL;
     items[0] = text_if(source.named, source.name);
     items[1] = items[0] ? text_if(source.held, source.content) : NULL;
     items[2] = PyBool_FromLong(source.ignored);
     return tuple_of(source_class, 3, items);
 }
 
-static PyObject *map_source_name(PyObject *self, PyObject *words, PyObject *named) {
+static PyObject *map_source_name(PyObject *self, PyObject *const *given, Py_ssize_t count, PyObject *named) {
     smap_source_text source = SMAP_SOURCE;
-    return source_of(self, words, named, "O:source_name", &source) ? text_if(source.named, source.name) : NULL;
+    return source_of(self, given, count, named, "O:source_name", &source) ? text_if(source.named, source.name) : NULL;
 }
 
-static PyObject *map_source_content(PyObject *self, PyObject *words, PyObject *named) {
+static PyObject *map_source_content(PyObject *self, PyObject *const *given, Py_ssize_t count, PyObject *named) {
     smap_source_text source = SMAP_SOURCE;
-    return source_of(self, words, named, "O:source_content", &source) ? text_if(source.held, source.content) : NULL;
+    return source_of(self, given, count, named, "O:source_content", &source) ? text_if(source.held, source.content) : NULL;
 }
 
-static PyObject *map_is_ignored(PyObject *self, PyObject *words, PyObject *named) {
+static PyObject *map_is_ignored(PyObject *self, PyObject *const *given, Py_ssize_t count, PyObject *named) {
     smap_source_text source = SMAP_SOURCE;
-    return source_of(self, words, named, "O:is_ignored", &source) ? PyBool_FromLong(source.ignored) : NULL;
+    return source_of(self, given, count, named, "O:is_ignored", &source) ? PyBool_FromLong(source.ignored) : NULL;
 }
 
-static PyObject *map_name(PyObject *self, PyObject *words, PyObject *named) {
+static PyObject *map_name(PyObject *self, PyObject *const *given, Py_ssize_t count, PyObject *named) {
     static char *names[] = {"index", NULL};
     struct held *held = (struct held *)self;
     PyObject *value;
     uint32_t index;
-    if (!PyArg_ParseTupleAndKeywords(words, named, "O:name", names, &value)) return NULL;
+    if (!words_of(given, count, named, "O:name", names, &value)) return NULL;
     if (value == Py_None) return none();
     if (!index_of(value, "a name", &index) || !ready(&held, 1)) return NULL;
     smap_text text = SMAP_TEXT;
@@ -335,7 +330,8 @@ static PyObject *map_fit(PyObject *self, PyObject *data) {
                          (unsigned long long)fit.same);
 }
 
-#define WITH_NAMES(call) ((PyCFunction)(void (*)(void))(call))
+/* A method whose arguments may be given by their names. */
+#define WITH_NAMES(call) (PyCFunction)(void (*)(void))(call), METH_FASTCALL | METH_KEYWORDS
 
 /* Names the sources by the URL, where that is an absolute path. */
 static PyObject *map_use_paths(PyObject *self, PyObject *data) {
@@ -347,21 +343,21 @@ static PyObject *map_use_paths(PyObject *self, PyObject *data) {
 
 static PyMethodDef map_methods[] = {
     {"close", map_close, METH_NOARGS, "close($self)\n--\n\nFrees the map. It answers nothing any more."},
-    {"look_up", WITH_NAMES(map_look_up), METH_VARARGS | METH_KEYWORDS,
+    {"look_up", WITH_NAMES(map_look_up),
      "look_up($self, line, column)\n--\n\nThe last mapping on the line at the position or before it, or None."},
-    {"look_up_from", WITH_NAMES(map_look_up_from), METH_VARARGS | METH_KEYWORDS,
+    {"look_up_from", WITH_NAMES(map_look_up_from),
      "look_up_from($self, line, column)\n--\n\nThe first mapping on the line at the position or after it, or None."},
     {"mappings", map_mappings, METH_NOARGS,
      "mappings($self)\n--\n\nAn iterator over all mappings, in their order. It holds 32 bytes of memory for each."},
-    {"source", WITH_NAMES(map_source), METH_VARARGS | METH_KEYWORDS,
+    {"source", WITH_NAMES(map_source),
      "source($self, index)\n--\n\nThis source, from 0. Raises `IndexError` where there is none."},
-    {"source_name", WITH_NAMES(map_source_name), METH_VARARGS | METH_KEYWORDS,
+    {"source_name", WITH_NAMES(map_source_name),
      "source_name($self, index)\n--\n\nThe name of this source, or None."},
-    {"source_content", WITH_NAMES(map_source_content), METH_VARARGS | METH_KEYWORDS,
+    {"source_content", WITH_NAMES(map_source_content),
      "source_content($self, index)\n--\n\nThe content of this source, where the map has it, or None."},
-    {"is_ignored", WITH_NAMES(map_is_ignored), METH_VARARGS | METH_KEYWORDS,
+    {"is_ignored", WITH_NAMES(map_is_ignored),
      "is_ignored($self, index)\n--\n\nWhether the map says that a debugger should pass over this source."},
-    {"name", WITH_NAMES(map_name), METH_VARARGS | METH_KEYWORDS,
+    {"name", WITH_NAMES(map_name),
      "name($self, index)\n--\n\nThis name, from 0, and None for None, as an answer without a name has it. Raises `IndexError` "
      "where there is none."},
     {"_read", map_read, METH_VARARGS, NULL},
