@@ -10,6 +10,9 @@ const { BAD_BASE, Refused, refusedGenerated, refusedMap, refusedWriting } = requ
 
 // How an absolute path begins.
 const PATH = /^(\/|[A-Za-z]:[/\\])/;
+// The one look-up, and what it is asked and answers, as tracing.js has it, with the place of the map behind.
+const { lookUp, room } = addon;
+const ROOM_MAP = 10;
 // What `using` calls at the end of a block.
 const DISPOSE = Symbol.dispose || Symbol.for('nodejs.dispose');
 
@@ -82,6 +85,16 @@ function open(map) {
   const { handle } = map.inner;
   if (!handle) throw new Error('the map is closed');
   return handle;
+}
+
+// Looks a line and a column up, both from 0, in the map of this handle and in this way, 0 or as tracing.js has it. What is answered
+// stands in the room from its fourth number on.
+function ask(handle, line, column, how) {
+  room[0] = line;
+  room[1] = column;
+  room[2] = how;
+  room[ROOM_MAP] = handle.place;
+  lookUp();
 }
 
 // What a map has by this key, which is made once, of its handle.
@@ -213,18 +226,16 @@ class TraceMap {
   // Where a generated position comes from, the line from 1 and the column from 0: {source, line, column, name, ignored, index}, or null
   // where no mapping answers that has an original.
   placeAt(line, column) {
-    const lookUp = open(this);
-    const { room } = addon;
-    [room[0], room[1], room[2]] = [given.line(line), given.column(column), 0];
-    lookUp();
+    const handle = open(this);
+    ask(handle, given.line(line), given.column(column), 0);
     if (room[3] !== 2) return null;
-    const [index, line0, column0, isNamed, name] = room.subarray(5, 10);
+    const index = room[5];
     return {
       source: this.sourceAt(index),
-      line: line0 + 1,
-      column: column0,
-      name: isNamed ? this.nameAt(name) : null,
-      ignored: addon.isIgnored(lookUp, index),
+      line: room[6] + 1,
+      column: room[7],
+      name: room[8] ? this.nameAt(room[9]) : null,
+      ignored: addon.isIgnored(handle, index),
       index,
     };
   }
@@ -305,6 +316,7 @@ module.exports = {
   DISPOSE,
   TraceMap,
   Under,
+  ask,
   empty,
   encodedMappings,
   linesOf,

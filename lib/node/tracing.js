@@ -2,7 +2,7 @@
 // The calls of @jridgewell/trace-mapping, and look-ups of many positions at once.
 const addon = require('./addon.js');
 const given = require('./given.js');
-const { TraceMap, encodedMappings, linesOf, once, open, withMappings } = require('./map.js');
+const { TraceMap, ask, encodedMappings, linesOf, once, open, withMappings } = require('./map.js');
 const { NUMBERS, decoded, mappingAt } = require('./mappings.js');
 
 const GREATEST_LOWER_BOUND = 1;
@@ -17,11 +17,7 @@ const OF_ORIGINAL = 2;
 // Where the generated position comes from: {source, line, column, name}, all null where nothing answers or what answers
 // has no original. A column past the line's end, and Infinity, has the line's last mapping.
 function originalPositionFor(map, { line, column, bias }) {
-  const lookUp = open(map);
-  room[0] = given.line(line);
-  room[1] = given.column(column);
-  room[2] = bias === LEAST_UPPER_BOUND ? 1 : 0;
-  lookUp();
+  ask(open(map), given.line(line), given.column(column), bias === LEAST_UPPER_BOUND ? 1 : 0);
   if (room[3] !== 2) return { source: null, line: null, column: null, name: null };
   return {
     source: map.sourceAt(room[5]),
@@ -33,12 +29,10 @@ function originalPositionFor(map, { line, column, bias }) {
 
 // The segment that answers at a line and a column, both from 0, as in decoded mappings, or null.
 function traceSegment(map, line, column) {
-  const lookUp = open(map);
-  room[0] = given.lineFromZero(line);
+  const handle = open(map);
+  const line0 = given.lineFromZero(line);
   if (typeof column === 'number' && column < 0) return null;
-  room[1] = given.column(column);
-  room[2] = 0;
-  lookUp();
+  ask(handle, line0, given.column(column), 0);
   if (room[3] === 0) return null;
   if (room[3] === 1) return [room[4]];
   return room[8] ? [room[4], room[5], room[6], room[7], room[9]] : [room[4], room[5], room[6], room[7]];
@@ -91,15 +85,13 @@ const PLACE = 4;
 // have the original column next to the asked one, trace-mapping takes the first, but the last with LEAST_UPPER_BOUND at this very
 // column, and before it.
 function generatedPositionFor(map, { source, line, column, bias }) {
-  const lookUp = open(map);
+  const handle = open(map);
   const index = sourceNumber(map, source);
   const isAfter = bias === LEAST_UPPER_BOUND;
-  room[0] = given.line(line);
-  room[1] = given.column(column);
+  const [line0, column0] = [given.line(line), given.column(column)];
   if (index < 0) return { line: null, column: null };
-  room[2] = OF_ORIGINAL + (isAfter ? AT_OR_AFTER : AT_OR_BEFORE);
   room[3] = index;
-  lookUp();
+  ask(handle, line0, column0, OF_ORIGINAL + (isAfter ? AT_OR_AFTER : AT_OR_BEFORE));
   if (room[3] === 0) return { line: null, column: null };
   const isFirst = (room[4] === column) !== isAfter;
   return isFirst ? { line: room[5] + 1, column: room[6] } : { line: room[7] + 1, column: room[8] };

@@ -90,8 +90,9 @@ function beneath() {
   const map = new smap.TraceMap(small);
   const { handle } = map.inner;
   addon.room.set([0, 12, 0]);
-  handle();
-  same([...addon.room.subarray(3)], [2, 10, 0, 1, 4, 1, 0]);
+  addon.room[10] = handle.place;
+  addon.lookUp();
+  same([...addon.room.subarray(3, 10)], [2, 10, 0, 1, 4, 1, 0]);
   for (const number of [far, far + 3, -1, 0.5, NaN, Infinity, '0', null, undefined]) {
     for (const call of [addon.sourceName, addon.sourceContent, addon.isIgnored, addon.name]) {
       refuses('TypeError', () => call(handle, number), /whole number/);
@@ -103,7 +104,13 @@ function beneath() {
   refuses('TypeError', () => addon.counts(), /arguments/);
   refuses('TypeError', () => addon.compose(handle, 0, handle), /twice/);
   map.close();
-  refuses('Error', () => handle(), /closed/);
+  refuses('Error', () => addon.lookUp(), /closed/);
+  // What is no map, and no place.
+  const table = new smap.Table({});
+  for (const place of [table.handle.place, handle.place + 1000, far - 1]) {
+    addon.room[10] = place;
+    refuses('Error', () => addon.lookUp(), /closed/);
+  }
 }
 
 function maps() {

@@ -42,21 +42,28 @@ napi_value buffer(napi_env env, smap_bytes *bytes);
 enum kind { MAP, TABLE, INNERS };
 struct held;
 
-/* The addon in one environment of node. The room is what one look-up is asked and answers, in a Uint32Array of ten: the line, the
- * column, 1 for the other direction, and the seven numbers of the answer. There is one, so that a look-up hands over no argument
- * and makes no value. Where it has OF_ORIGINAL and a direction in place of the 1, an original place is asked for, whose source stands
- * behind; and the answer is whether it has generated places, their original column, and the first and the last of them. */
+/* What stands at a place: something that is held, or nothing, and then the next place is free too. */
+struct place { struct held *held; uint32_t next; };
+
+/* The addon in one environment of node. The room is what one look-up is asked and answers, in a Uint32Array of eleven: the line, the
+ * column, 1 for the other direction, the seven numbers of the answer, and the place of the map. There is one, so that a look-up hands
+ * over no argument and makes no value, and that of each map is one function. Where it has OF_ORIGINAL and a direction in place of the 1,
+ * an original place is asked for, whose source stands behind; and the answer is whether it has generated places, their original column,
+ * and the first and the last of them. */
 #define OF_ORIGINAL 2
+#define ROOM_MAP 10
+#define ROOM (ROOM_MAP + 1)
 struct addon {
     uint32_t *room;
-    struct held *first;
+    struct place *places;
+    uint32_t count, free;    /* how many places there are, and the first that is free, or as many */
     int64_t reported, swept; /* the bytes that V8 knows of, and the fewest since the last sweep */
     int64_t freed;           /* the bytes that glibc may keep */
 };
 
 struct held {
     struct addon *addon;
-    struct held *before, *after;
+    uint32_t place;  /* where it stands in the addon */
     napi_ref itself; /* the object, as long as it was not collected */
     int64_t size;    /* the bytes that V8 knows of */
     bool full;
@@ -71,14 +78,11 @@ struct addon *addon_of(napi_env env);
 struct held *held_of(napi_env env, napi_value value, enum kind kind);
 struct held *map_of(napi_env env, napi_value value);
 
-/* Makes an object that holds what is full. */
-napi_value object_of(napi_env env, struct held *held);
+/* Makes an object that holds what is full, of so many bytes that V8 is to know of. It names its place. Where that fails it is freed. */
+napi_value object_of(napi_env env, struct held *held, int64_t size);
 
 /* The map went over to what takes it. */
 void hand_over(napi_env env, struct held *map, struct held *taker);
-
-/* Puts what is full into the object, which owns it then. Where that fails it is freed. */
-bool hold(napi_env env, struct addon *addon, napi_value object, struct held *held, int64_t size);
 
 /* Says to V8 how many bytes this holds now. */
 void report_size(napi_env env, struct held *held, int64_t size);

@@ -32,7 +32,7 @@ napi_value new_inners(napi_env env, napi_callback_info info) {
         return refuse(env, "out of memory");
     }
     held->kind = INNERS;
-    return object_of(env, held);
+    return object_of(env, held, 0);
 }
 
 /* putInner(inners, source, map): whether the map has the place of this source, and is closed then. */

@@ -18,6 +18,9 @@ static const struct { napi_type_tag tag; const char *other, *closed; } kinds[] =
     [INNERS] = {{0x8d3f0b6a91c24e55, 0xb1a7c05e2f6d4a03}, "no inner maps", "the inner maps are closed"},
 };
 
+/* The addon that this thread asked for last, and its environment: so a look-up need not ask node for it. */
+static _Thread_local struct { napi_env env; struct addon *addon; } last;
+
 void report_size(napi_env env, struct held *held, int64_t size) {
     int64_t all;
     struct addon *addon = held->addon;
@@ -51,37 +54,47 @@ static void let_go(napi_env env, struct held *held) {
     report_size(env, held, 0);
 }
 
+/* Gives what is held a place. */
+static bool take_place(struct addon *addon, struct held *held) {
+    if (addon->free == addon->count) {
+        uint32_t count = 2 * addon->count + 16;
+        struct place *places = realloc(addon->places, count * sizeof *places);
+        if (!places) return false;
+        for (uint32_t i = addon->count; i < count; i++) places[i] = (struct place){NULL, i + 1};
+        addon->places = places, addon->count = count;
+    }
+    held->addon = addon;
+    held->place = addon->free;
+    addon->free = addon->places[held->place].next;
+    addon->places[held->place].held = held;
+    return true;
+}
+
 void drop(napi_env env, void *data, void *hint) {
     (void)hint;
     struct held *held = data;
+    struct addon *addon = held->addon;
     let_go(env, held);
-    if (held->before) held->before->after = held->after;
-    else if (held->addon) held->addon->first = held->after;
-    if (held->after) held->after->before = held->before;
+    if (addon) {
+        addon->places[held->place] = (struct place){NULL, addon->free};
+        addon->free = held->place;
+    }
     if (held->itself) napi_delete_reference(env, held->itself);
     free(held);
 }
 
-bool hold(napi_env env, struct addon *addon, napi_value object, struct held *held, int64_t size) {
+napi_value object_of(napi_env env, struct held *held, int64_t size) {
+    napi_value object;
     held->full = true;
-    if (napi_type_tag_object(env, object, &kinds[held->kind].tag) != napi_ok ||
+    if (napi_create_object(env, &object) != napi_ok || napi_type_tag_object(env, object, &kinds[held->kind].tag) != napi_ok ||
+        !take_place(addon_of(env), held) || napi_set_named_property(env, object, "place", number(env, held->place)) != napi_ok ||
         napi_wrap(env, object, held, drop, NULL, &held->itself) != napi_ok) {
         held->itself = NULL;
         drop(env, held, NULL);
-        return false;
+        return refuse(env, "out of memory");
     }
-    held->addon = addon;
-    held->after = addon->first;
-    if (held->after) held->after->before = held;
-    addon->first = held;
     report_size(env, held, size);
-    return true;
-}
-
-napi_value object_of(napi_env env, struct held *held) {
-    napi_value object;
-    napi_create_object(env, &object);
-    return hold(env, addon_of(env), object, held, 0) ? object : refuse(env, "out of memory");
+    return object;
 }
 
 void hand_over(napi_env env, struct held *map, struct held *taker) {
@@ -93,9 +106,10 @@ void hand_over(napi_env env, struct held *map, struct held *taker) {
 void sweep(napi_env env, struct addon *addon) {
     napi_handle_scope scope;
     if (addon->reported - addon->swept < SWEEP || napi_open_handle_scope(env, &scope) != napi_ok) return;
-    for (struct held *held = addon->first; held; held = held->after) {
+    for (uint32_t i = 0; i < addon->count; i++) {
+        struct held *held = addon->places[i].held;
         napi_value object = NULL;
-        if (napi_get_reference_value(env, held->itself, &object) == napi_ok && !object) let_go(env, held);
+        if (held && napi_get_reference_value(env, held->itself, &object) == napi_ok && !object) let_go(env, held);
     }
     napi_close_handle_scope(env, scope);
     addon->swept = addon->reported;
@@ -104,10 +118,10 @@ void sweep(napi_env env, struct addon *addon) {
 void drop_addon(napi_env env, void *data, void *hint) {
     (void)env, (void)hint;
     struct addon *addon = data;
-    for (struct held *held = addon->first, *next; held; held = next) {
-        next = held->after;
-        held->addon = NULL, held->before = NULL, held->after = NULL;
-    }
+    for (uint32_t i = 0; i < addon->count; i++)
+        if (addon->places[i].held) addon->places[i].held->addon = NULL;
+    if (last.addon == addon) last.env = NULL;
+    free(addon->places);
     free(addon);
 }
 
@@ -127,9 +141,12 @@ struct held *held_of(napi_env env, napi_value value, enum kind kind) {
 struct held *map_of(napi_env env, napi_value value) { return held_of(env, value, MAP); }
 
 struct addon *addon_of(napi_env env) {
-    void *data = NULL;
-    napi_get_instance_data(env, &data);
-    return data;
+    if (last.env != env) {
+        void *data = NULL;
+        napi_get_instance_data(env, &data);
+        last.env = env, last.addon = data;
+    }
+    return last.addon;
 }
 
 /* Frees what the first argument holds now. */

@@ -16,13 +16,13 @@ static bool places_of(napi_env env, struct held *held, uint32_t source, uint32_t
     return true;
 }
 
-/* The function that a map is, called: the look-up that the room asks for. */
+/* lookUp(): what the room asks for, of the map whose place stands in it. */
 napi_value look_up(napi_env env, napi_callback_info info) {
-    void *data = NULL;
-    napi_get_cb_info(env, info, NULL, NULL, NULL, &data);
-    struct held *held = data;
-    if (!held->full) return refuse(env, "the map is closed");
-    uint32_t *room = held->addon->room;
+    (void)info;
+    const struct addon *addon = addon_of(env);
+    uint32_t *room = addon->room;
+    struct held *held = room[ROOM_MAP] < addon->count ? addon->places[room[ROOM_MAP]].held : NULL;
+    if (!held || held->kind != MAP || !held->full) return refuse(env, "the map is closed");
     if (room[2] < OF_ORIGINAL) {
         (room[2] ? smap_look_up_from : smap_look_up)(&held->map, room[0], room[1], (smap_found *)(room + 3));
         return NULL;

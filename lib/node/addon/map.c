@@ -7,8 +7,7 @@ static int64_t size_of(size_t length, const smap_count *count) {
     return (int64_t)(length + 32 * (count->checkpoints + count->sources + count->names) + 8 * count->lines);
 }
 
-/* read(bytes, base, interval, refusal): a map, or null, with the numbers of the refusal in a Float64Array of 6. The map is a
- * function, which looks up when it is called. */
+/* read(bytes, base, interval, refusal): a map, or null, with the numbers of the refusal in a Float64Array of 6. */
 napi_value read_map(napi_env env, napi_callback_info info) {
     napi_value words[WORDS];
     const uint8_t *bytes, *base;
@@ -18,8 +17,7 @@ napi_value read_map(napi_env env, napi_callback_info info) {
     if (!words_of(env, info, 4, words) || !bytes_of(env, words[0], &bytes, &length) || !bytes_of(env, words[1], &base, &base_length) ||
         !number_of(env, words[2], &interval) || !(numbers = doubles_of(env, words[3], 6)))
         return NULL;
-    struct addon *addon = addon_of(env);
-    sweep(env, addon);
+    sweep(env, addon_of(env));
     struct held *held = calloc(1, sizeof *held);
     if (!held) return refuse(env, "out of memory");
     smap_refusal refusal = {0};
@@ -33,13 +31,7 @@ napi_value read_map(napi_env env, napi_callback_info info) {
     }
     smap_count count = {0};
     smap_counts(&held->map, &count);
-    napi_value map = NULL;
-    if (napi_create_function(env, "lookUp", NAPI_AUTO_LENGTH, look_up, held, &map) != napi_ok) {
-        held->full = true;
-        drop(env, held, NULL);
-        return refuse(env, "out of memory");
-    }
-    return hold(env, addon, map, held, size_of(length, &count)) ? map : refuse(env, "out of memory");
+    return object_of(env, held, size_of(length, &count));
 }
 
 napi_value counts(napi_env env, napi_callback_info info) {

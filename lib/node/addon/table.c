@@ -10,7 +10,7 @@ napi_value new_table(napi_env env, napi_callback_info info) {
         return refuse(env, "out of memory");
     }
     held->kind = TABLE;
-    return object_of(env, held);
+    return object_of(env, held, 0);
 }
 
 /* add(table, url, map): nothing, and the map is closed then; or the number of the refusal. */
