@@ -866,6 +866,30 @@ function closed() {
   }
 }
 
+// Maps in turn, of which some are closed or collected while others are read: each answers for itself, also in the place of another.
+async function inTurn() {
+  v8.setFlagsFromString('--expose-gc');
+  const collect = vm.runInNewContext('gc');
+  const read = (column) => new smap.TraceMap({ version: 3, sources: [`${column}.js`], mappings: [[[column, 0, 7, column]]] });
+  const [open, places] = [new Map(), new Set()];
+  for (let column = 1; column <= 400; column++) {
+    open.set(column, read(column));
+    for (const [other, map] of open) {
+      same(smap.originalPositionFor(map, { line: 1, column: other }), { source: `${other}.js`, line: 8, column: other, name: null });
+      same(smap.traceSegment(map, 0, other - 1), null);
+    }
+    places.add(open.get(column).inner.handle.place);
+    const [first] = open.keys();
+    if (column % 3 === 0) open.get(first).close();
+    if (open.size > 20 || column % 3 === 0) open.delete(first);
+    if (column % 50 === 0) {
+      collect();
+      await new Promise(setImmediate);
+    }
+  }
+  same(places.size < 200, true);
+}
+
 places();
 many();
 beneath();
@@ -895,4 +919,4 @@ cutByChance();
 anywhere();
 options();
 closed();
-console.log('mistakes', reported);
+inTurn().then(() => console.log('mistakes', reported));

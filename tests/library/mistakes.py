@@ -90,6 +90,9 @@ def places():
             for words in ((), (0,), (0, 10, 0)):
                 refuses(TypeError, lambda: look_up(*words), f"{look_up.__name__}() ")
             refuses(TypeError, lambda: look_up(0, row=10))
+            for named in ({}, {"column": 10}, {"line": 0, "column": 10, "row": 0}):
+                refuses(TypeError, lambda: look_up(**named), f"{look_up.__name__}() ")
+            refuses(TypeError, lambda: look_up(0, 10, column=10), f"{look_up.__name__}() ")
 
 
 def many():
@@ -557,6 +560,9 @@ def lists():
                 refuses(IndexError, lambda: call(number), f"no source {number}")
             for other in (0.0, "0", None, True):
                 refuses(TypeError, lambda: call(other), "a source is a whole number")
+            for words, named in (((), {}), ((0, 0), {}), ((0,), {"index": 0}), ((), {"index": 0, "other": 0})):
+                refuses(TypeError, lambda: call(*words, **named), f"{call.__name__}() ")
+            refuses(TypeError, lambda: call(number=0))
     same((small.closed, repr(small)), (True, "<SourceMap closed>"))
     marked = '{"version":3,"file":"f.js","sources":["a.js",null,"b.js"],"sourcesContent":["x",null,"ä"],"ignoreList":[2,0],"mappings":""}'
     with SourceMap(marked) as made:
