@@ -221,6 +221,7 @@ def memory():
         "a map": lambda: SourceMap(data).close(), "a map that is not closed": lambda: SourceMap(SMALL),
         "a refused map": lambda: refused(lambda: SourceMap(b'{"version":3,"sources":[],"mappings":"AACA"}')),
         "a look-up": lambda: source_map.look_up(0, 12), "a look-up that finds nothing": lambda: source_map.look_up(7, 7),
+        "a place": lambda: source_map.place(0, 12), "no place": lambda: source_map.place(7, 7),
         "a look-up by names": lambda: source_map.look_up(line=0, column=12), "a misnamed one": lambda: refused(lambda: source_map.look_up(0, row=12)),
         "a refused look-up": lambda: refused(lambda: source_map.look_up(-1, 0)),
         "look-ups": lambda: source_map.look_up_many(positions), "counts": lambda: source_map.counts,

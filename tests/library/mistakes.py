@@ -12,7 +12,7 @@ import tempfile
 from array import array
 from pathlib import Path
 
-from smap import Answer, Fit, Mapping, Refused, Rewriter, SourceMap, _smap, compose, compose_all, encode
+from smap import Answer, Fit, Mapping, Place, Refused, Rewriter, SourceMap, _smap, compose, compose_all, encode
 from smap._answers import Refusal
 from smap._reported import refused_map
 
@@ -76,16 +76,16 @@ def places():
         same(small.look_up(0, 3), FIRST)
         same(small.look_up_from(0, 3), LAST)
         same(small.look_up(2, FAR), Answer(5, None, None, None, None))
-        for look_up in (small.look_up, small.look_up_from):
+        for look_up, last in ((small.look_up, LAST), (small.look_up_from, LAST), (small.place, Place("a.js", 1, 4, "n", False, 0))):
             for number in (-1, -FAR, -FAR + 3):
                 refuses(ValueError, lambda: look_up(number, 0), "line", str(number))
                 refuses(ValueError, lambda: look_up(0, number), "column", str(number))
             for number in (True, False, 0.0, 1.5, float("inf"), float("nan"), "0", b"0", None, (0,)):
                 refuses(TypeError, lambda: look_up(number, 0), "line", type(number).__name__)
                 refuses(TypeError, lambda: look_up(0, number), "column", type(number).__name__)
-            same(look_up(line=0, column=10), LAST)
-            same(look_up(0, column=10), LAST)
-            same(look_up(Whole(0), Whole(10)), LAST)
+            same(look_up(line=0, column=10), last)
+            same(look_up(0, column=10), last)
+            same(look_up(Whole(0), Whole(10)), last)
             refuses(KeyError, lambda: look_up(0, Whole(None)), "no number")
             for words in ((), (0,), (0, 10, 0)):
                 refuses(TypeError, lambda: look_up(*words), f"{look_up.__name__}() ")

@@ -92,6 +92,9 @@ PyObject *held_new(PyTypeObject *type, PyObject *words, PyObject *named);
 void held_free(PyObject *self);
 PyObject *held_closed(PyObject *self, void *unused);
 
+/* A place that a look-up found, with its texts. */
+PyObject *place_found(const smap_found *found, const smap_source_text *source, smap_text name);
+
 /* The functions of the module, and a method of the map that mappings.c has. */
 PyObject *map_mappings(PyObject *self, PyObject *unused);
 PyObject *encode(PyObject *module, PyObject *data);

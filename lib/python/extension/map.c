@@ -52,15 +52,21 @@ static PyObject *map_read(PyObject *self, PyObject *words) {
 
 typedef uint32_t look_up_call(const smap_map *, uint32_t, uint32_t, smap_found *);
 
-static PyObject *looked_up(PyObject *self, PyObject *const *given, Py_ssize_t count, PyObject *named, const char *format, look_up_call *call) {
+/* What a call answers at the line and the column that are given. */
+static bool found_of(PyObject *self, PyObject *const *given, Py_ssize_t count, PyObject *named, const char *format, look_up_call *call,
+                     smap_found *found) {
     static char *names[] = {"line", "column", NULL};
     struct held *held = (struct held *)self;
     PyObject *words[2];
     uint32_t line, column;
-    if (!words_of(given, count, named, format, names, words)) return NULL;
-    if (!place_of(words[0], "line", &line) || !place_of(words[1], "column", &column) || !ready(&held, 1)) return NULL;
+    if (!words_of(given, count, named, format, names, words)) return false;
+    if (!place_of(words[0], "line", &line) || !place_of(words[1], "column", &column) || !ready(&held, 1)) return false;
+    return call(&held->map, line, column, found) == SMAP_DONE;
+}
+
+static PyObject *looked_up(PyObject *self, PyObject *const *given, Py_ssize_t count, PyObject *named, const char *format, look_up_call *call) {
     smap_found found = {0};
-    call(&held->map, line, column, &found);
+    if (!found_of(self, given, count, named, format, call, &found)) return NULL;
     if (found.kind == 0) return none();
     bool is = found.kind == 2;
     PyObject *items[] = {
@@ -76,6 +82,26 @@ static PyObject *map_look_up(PyObject *self, PyObject *const *given, Py_ssize_t 
 
 static PyObject *map_look_up_from(PyObject *self, PyObject *const *given, Py_ssize_t count, PyObject *named) {
     return looked_up(self, given, count, named, "OO:look_up_from", smap_look_up_from);
+}
+
+PyObject *place_found(const smap_found *found, const smap_source_text *source, smap_text name) {
+    PyObject *items[] = {
+        text_if(source->named, source->name), PyLong_FromUnsignedLong(found->line), PyLong_FromUnsignedLong(found->column),
+        text_if(found->named, name), PyBool_FromLong(source->ignored), PyLong_FromUnsignedLong(found->source),
+    };
+    return tuple_of(place_class, 6, items);
+}
+
+static PyObject *map_place(PyObject *self, PyObject *const *given, Py_ssize_t count, PyObject *named) {
+    struct held *held = (struct held *)self;
+    smap_found found = {0};
+    if (!found_of(self, given, count, named, "OO:place", smap_look_up, &found)) return NULL;
+    if (found.kind != 2) return none();
+    smap_source_text source = SMAP_SOURCE;
+    smap_text name = SMAP_TEXT;
+    smap_source(&held->map, found.source, &source);
+    if (found.named) smap_name(&held->map, found.name, &name);
+    return place_found(&found, &source, name);
 }
 
 /* Looks positions up, whose bytes are given, and writes the answers into a buffer that nobody else has. Positions that could be
@@ -347,6 +373,8 @@ static PyMethodDef map_methods[] = {
      "look_up($self, line, column)\n--\n\nThe last mapping on the line at the position or before it, or None."},
     {"look_up_from", WITH_NAMES(map_look_up_from),
      "look_up_from($self, line, column)\n--\n\nThe first mapping on the line at the position or after it, or None."},
+    {"place", WITH_NAMES(map_place),
+     "place($self, line, column)\n--\n\nWhere a generated position comes from, or None where no mapping answers that has an original."},
     {"mappings", map_mappings, METH_NOARGS,
      "mappings($self)\n--\n\nAn iterator over all mappings, in their order. It holds 32 bytes of memory for each."},
     {"source", WITH_NAMES(map_source),

@@ -103,12 +103,7 @@ static PyObject *table_look_up(PyObject *self, PyObject *words) {
     smap_source_text source = SMAP_SOURCE;
     smap_text name = SMAP_TEXT;
     uint32_t status = smap_table_look_up(&held->table, url.bytes, url.length, line, column, &cut, &found, &source, &name);
-    if (status != SMAP_DONE || found.kind != 2) return none();
-    PyObject *items[] = {
-        text_if(source.named, source.name), PyLong_FromUnsignedLong(found.line), PyLong_FromUnsignedLong(found.column),
-        text_if(found.named, name), PyBool_FromLong(source.ignored), PyLong_FromUnsignedLong(found.source),
-    };
-    return tuple_of(place_class, 6, items);
+    return status == SMAP_DONE && found.kind == 2 ? place_found(&found, &source, name) : none();
 }
 
 /* Puts a URL into the dict, and where it begins into its list, if it has a query or a fragment. */

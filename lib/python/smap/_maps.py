@@ -7,7 +7,7 @@ from pathlib import Path
 from typing import Iterable, List, Optional, Tuple, Type, TypeVar, Union
 
 from . import _given, _smap
-from ._answers import Context, Fit, Generated, Mapping, Place, Source
+from ._answers import Context, Fit, Generated, Mapping, Source
 from ._paths import placed
 from ._reported import (BAD_BASE, Refused, refused_base, refused_composition, refused_encoding, refused_generated,
                         refused_map, refused_writing)
@@ -98,14 +98,6 @@ class SourceMap(_smap.Map):
         if self.closed:
             return "<SourceMap closed>"
         return f"<SourceMap file={self.file!r} sources={self.counts.sources} segments={self.counts.segments}>"
-
-    def place(self, line: int, column: int) -> Optional[Place]:
-        """Where a generated position comes from, or None where no mapping answers that has an original."""
-        answer = self.look_up(line, column)
-        if answer is None or answer.source is None or answer.line is None or answer.column is None:
-            return None
-        return Place(self.source_name(answer.source), answer.line, answer.column, self.name(answer.name),
-                     self.is_ignored(answer.source), answer.source)
 
     def generated(self, source: int, line: int, column: Optional[int] = None, after: bool = False) -> List[Generated]:
         """The places of the generated file whose original stands on this line of this source: those at the greatest original
