@@ -10,9 +10,12 @@ const { BAD_BASE, Refused, refusedGenerated, refusedMap, refusedWriting } = requ
 
 // How an absolute path begins.
 const PATH = /^(\/|[A-Za-z]:[/\\])/;
-// The one look-up, and what it is asked and answers, as tracing.js has it, with the place of the map behind.
+// The one look-up, and what it is asked and answers, as tracing.js has it; behind that the place of the map, and whether the source is
+// ignored, where it is asked so.
 const { lookUp, room } = addon;
+const WITH_IGNORED = 4;
 const ROOM_MAP = 10;
+const ROOM_IGNORED = 11;
 // What `using` calls at the end of a block.
 const DISPOSE = Symbol.dispose || Symbol.for('nodejs.dispose');
 
@@ -226,16 +229,15 @@ class TraceMap {
   // Where a generated position comes from, the line from 1 and the column from 0: {source, line, column, name, ignored, index}, or null
   // where no mapping answers that has an original.
   placeAt(line, column) {
-    const handle = open(this);
-    ask(handle, given.line(line), given.column(column), 0);
+    ask(open(this), given.line(line), given.column(column), WITH_IGNORED);
     if (room[3] !== 2) return null;
-    const index = room[5];
+    const [index, ignored] = [room[5], room[ROOM_IGNORED] === 1];
     return {
       source: this.sourceAt(index),
       line: room[6] + 1,
       column: room[7],
       name: room[8] ? this.nameAt(room[9]) : null,
-      ignored: addon.isIgnored(handle, index),
+      ignored,
       index,
     };
   }

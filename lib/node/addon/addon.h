@@ -45,14 +45,16 @@ struct held;
 /* What stands at a place: something that is held, or nothing, and then the next place is free too. */
 struct place { struct held *held; uint32_t next; };
 
-/* The addon in one environment of node. The room is what one look-up is asked and answers, in a Uint32Array of eleven: the line, the
- * column, 1 for the other direction, the seven numbers of the answer, and the place of the map. There is one, so that a look-up hands
- * over no argument and makes no value, and that of each map is one function. Where it has OF_ORIGINAL and a direction in place of the 1,
- * an original place is asked for, whose source stands behind; and the answer is whether it has generated places, their original column,
- * and the first and the last of them. */
+/* The addon in one environment of node. The room is what one look-up is asked and answers, in a Uint32Array of twelve: the line, the
+ * column, 1 for the other direction, the seven numbers of the answer, the place of the map, and whether the source is ignored, which is
+ * answered where WITH_IGNORED stands in place of the 1. There is one room, so that a look-up hands over no argument and makes no value,
+ * and is one function for all maps. Where OF_ORIGINAL and a direction stand there, an original place is asked for, whose source stands
+ * behind; and the answer is whether it has generated places, their original column, and the first and the last of them. */
 #define OF_ORIGINAL 2
+#define WITH_IGNORED 4
 #define ROOM_MAP 10
-#define ROOM (ROOM_MAP + 1)
+#define ROOM_IGNORED 11
+#define ROOM (ROOM_IGNORED + 1)
 struct addon {
     uint32_t *room;
     struct place *places;

@@ -23,8 +23,13 @@ napi_value look_up(napi_env env, napi_callback_info info) {
     uint32_t *room = addon->room;
     struct held *held = room[ROOM_MAP] < addon->count ? addon->places[room[ROOM_MAP]].held : NULL;
     if (!held || held->kind != MAP || !held->full) return refuse(env, "the map is closed");
-    if (room[2] < OF_ORIGINAL) {
-        (room[2] ? smap_look_up_from : smap_look_up)(&held->map, room[0], room[1], (smap_found *)(room + 3));
+    if (room[2] < OF_ORIGINAL || room[2] == WITH_IGNORED) {
+        smap_source_text source = SMAP_SOURCE;
+        (room[2] == 1 ? smap_look_up_from : smap_look_up)(&held->map, room[0], room[1], (smap_found *)(room + 3));
+        if (room[2] == WITH_IGNORED && room[3] == 2) {
+            smap_source(&held->map, room[5], &source);
+            room[ROOM_IGNORED] = source.ignored;
+        }
         return NULL;
     }
     smap_generated_places places = SMAP_PLACES;
