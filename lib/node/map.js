@@ -10,8 +10,8 @@ const { BAD_BASE, Refused, refusedGenerated, refusedMap, refusedWriting } = requ
 
 // How an absolute path begins.
 const PATH = /^(\/|[A-Za-z]:[/\\])/;
-// The one look-up, and what it is asked and answers, as tracing.js has it; behind that the place of the map, and whether the source is
-// ignored, where it is asked so.
+// The one look-up, and what it is asked and answers, as tracing.js has it; behind that the place of the map, and whether the
+// source is ignored, where that is asked too.
 const { lookUp, room } = addon;
 const WITH_IGNORED = 4;
 const ROOM_MAP = 10;
@@ -90,8 +90,8 @@ function open(map) {
   return handle;
 }
 
-// Looks a line and a column up, both from 0, in the map of this handle and in this way, 0 or as tracing.js has it. What is answered
-// stands in the room from its fourth number on.
+// Looks a line and a column up, both from 0, in the map of this handle, in this way: 0, WITH_IGNORED, or as tracing.js has it. What
+// is answered stands in the room from its fourth number on.
 function ask(handle, line, column, how) {
   room[0] = line;
   room[1] = column;

@@ -866,7 +866,8 @@ function closed() {
   }
 }
 
-// Maps in turn, of which some are closed or collected while others are read: each answers for itself, also in the place of another.
+// Maps in turn, of which some are closed or collected while others are read: each answers for itself, also in the place of
+// another.
 async function inTurn() {
   v8.setFlagsFromString('--expose-gc');
   const collect = vm.runInNewContext('gc');

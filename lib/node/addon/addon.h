@@ -45,11 +45,12 @@ struct held;
 /* What stands at a place: something that is held, or nothing, and then the next place is free too. */
 struct place { struct held *held; uint32_t next; };
 
-/* The addon in one environment of node. The room is what one look-up is asked and answers, in a Uint32Array of twelve: the line, the
- * column, 1 for the other direction, the seven numbers of the answer, the place of the map, and whether the source is ignored, which is
- * answered where WITH_IGNORED stands in place of the 1. There is one room, so that a look-up hands over no argument and makes no value,
- * and is one function for all maps. Where OF_ORIGINAL and a direction stand there, an original place is asked for, whose source stands
- * behind; and the answer is whether it has generated places, their original column, and the first and the last of them. */
+/* The addon in one environment of node. The room is what one look-up is asked and answers, in a Uint32Array of twelve: the
+ * line, the column, 1 for the other direction, the seven numbers of the answer, the place of the map, and whether the source is
+ * ignored, which is said where WITH_IGNORED stands in place of the 1. There is one room, so that a look-up hands over no
+ * argument and makes no value, and is one function for all maps. Where OF_ORIGINAL and a direction stand there, an original
+ * place is asked for, whose source stands behind; and the answer is whether it has generated places, their original column, and
+ * the first and the last of them. */
 #define OF_ORIGINAL 2
 #define WITH_IGNORED 4
 #define ROOM_MAP 10
@@ -80,7 +81,8 @@ struct addon *addon_of(napi_env env);
 struct held *held_of(napi_env env, napi_value value, enum kind kind);
 struct held *map_of(napi_env env, napi_value value);
 
-/* Makes an object that holds what is full, of so many bytes that V8 is to know of. It names its place. Where that fails it is freed. */
+/* Makes an object that holds what is full, of so many bytes that V8 is to know of. The object names its place. Where that fails,
+ * what is held is freed. */
 napi_value object_of(napi_env env, struct held *held, int64_t size);
 
 /* The map went over to what takes it. */

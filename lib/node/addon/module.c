@@ -6,8 +6,8 @@ NAPI_MODULE_INIT() {
     const struct { const char *name; napi_callback call; } calls[] = {
         {"read", read_map}, {"refusalText", refusal_text}, {"refusalExplain", refusal_explain}, {"closeMap", close_map},
         {"closeTable", close_table}, {"closeInners", close_inners}, {"lookUp", look_up}, {"lookUpMany", look_up_many},
-        {"generated", generated}, {"mappings", mappings}, {"encode", encode}, {"bytesBySource", bytes_by_source}, {"fit", fit}, {"members", members},
-        {"counts", counts}, {"size", size}, {"usePaths", use_paths}, {"sourceName", source_name}, {"sourceContent", source_content},
+        {"generated", generated}, {"mappings", mappings}, {"encode", encode}, {"bytesBySource", bytes_by_source}, {"fit", fit},
+        {"members", members}, {"counts", counts}, {"size", size}, {"usePaths", use_paths}, {"sourceName", source_name}, {"sourceContent", source_content},
         {"sourceLines", source_lines}, {"isIgnored", is_ignored},
         {"name", name}, {"file", file}, {"write", write_map}, {"compose", compose}, {"newInners", new_inners},
         {"putInner", put_inner}, {"nextInner", next_inner}, {"innerName", inner_name}, {"composeAll", compose_all}, {"newTable", new_table},

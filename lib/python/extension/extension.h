@@ -28,14 +28,14 @@ bool bytes_of(PyObject *value, struct given *given);
 /* Where a buffer is written to. Nothing else can have it. */
 void *room_of(PyObject *value, size_t *length);
 
-/* How a method is called whose arguments may be given by their names, without a tuple or a dict of them. Every version from 3.8 on calls
- * so; for the limited API of 3.8 its headers do not name it. */
+/* How a method is called whose arguments may be given by their names, without a tuple or a dict of them. Every version from 3.8
+ * on calls so; for the limited API of 3.8 its headers do not name it. */
 #ifndef METH_FASTCALL
 #define METH_FASTCALL 0x0080
 #endif
 
-/* The arguments of such a call: `count` are given at their places, and those of the tuple `named` behind them. As many are wanted as
- * there are names, at most two, and the format is that of PyArg_ParseTupleAndKeywords. */
+/* The arguments of such a call: `count` are given at their places, and those of the tuple `named` behind them. As many are wanted
+ * as there are names, at most two, and the format is that of PyArg_ParseTupleAndKeywords. */
 bool words_of(PyObject *const *given, Py_ssize_t count, PyObject *named, const char *format, char **names, PyObject **words);
 
 /* A line or a column. Past the greatest number there is as much as at it: nothing. */
