@@ -43,11 +43,12 @@ long_base_line = codes "usage: base URL too long" ++ 10 ∷ []
 abbrev pub no_pair_line : (form argument : Text) → Text
 no_pair_line form argument = codes "usage: no " ++ (form ++ (codes ": " ++ shown argument ++ 10 ∷ []))
 
--- `rewrite` has neither a word nor a list, which is reported as clap reports an argument that is missing
+-- `rewrite` or `locate` has neither a word nor a list, which is reported as clap reports an argument that is missing
 abbrev pub no_maps_text : (command : Text) → Text
 no_maps_text command =
-    codes "error: the following required arguments were not provided:\n  <URL=FILE>...\n\nUsage: smap "
-    ++ (command ++ codes " <URL=FILE>...\n\nFor more information, try '--help'.\n")
+    codes "error: the following required arguments were not provided:\n  <URL=FILE>... or --maps <LIST>\n\nUsage: smap "
+    ++ (command ++ (codes " <URL=FILE>...\n       smap "
+    ++ (command ++ codes " --maps <LIST> [URL=FILE]...\n\nFor more information, try '--help'.\n")))
 
 -- `compose` has SOURCE beside maps that are given by the names of their sources
 abbrev pub source_with_inners_line : Text

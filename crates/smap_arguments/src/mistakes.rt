@@ -73,16 +73,18 @@ pub fn no_pair_line(alloc: Global, form: &str, argument: &str) -> Result<String,
     format!(in alloc; "usage: no {form}: {argument}\n")
 }
 
-/// Standard error: a command has neither a word nor a list. It is reported as clap reports any argument that is missing.
+/// Standard error: a command has neither a word nor a list, of which one will do. It is reported as clap reports any
+/// argument that is missing.
 pub fn no_maps_text(alloc: Global, command: &str) -> Result<String, AllocError>
     ensures { IfOk result (λ text. string_bytes text ≡ no_maps_text command.now) }
 {
     format!(in alloc;
         "\
 error: the following required arguments were not provided:
-  <URL=FILE>...
+  <URL=FILE>... or --maps <LIST>
 
 Usage: smap {command} <URL=FILE>...
+       smap {command} --maps <LIST> [URL=FILE]...
 
 For more information, try '--help'.
 "
