@@ -56,8 +56,8 @@ source_with_inners_line = codes "usage: SOURCE with --inner or --inners" ++ 10 �
 
 -- the end of what is reported where `compose` has no inner map, which is reported in clap's way, too
 abbrev pub compose_usage_lines : Text
-compose_usage_lines = codes "  <INNER>" ++ 10 ∷ 10 ∷ codes "Usage: smap compose <OUTER> <SOURCE> <INNER>" ++ 10 ∷ 10
-    ∷ codes "For more information, try '--help'." ++ 10 ∷ []
+compose_usage_lines = codes "  <INNER>" ++ 10 ∷ 10 ∷ codes "Usage: smap compose <OUTER> <SOURCE> <INNER>" ++ 10
+    ∷ codes "       smap compose <OUTER> --inner <NAME=FILE>..." ++ 10 ∷ 10 ∷ codes "For more information, try '--help'." ++ 10 ∷ []
 
 -- `compose` has SOURCE without INNER
 abbrev pub no_inner_text : Text

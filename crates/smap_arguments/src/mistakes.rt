@@ -35,6 +35,7 @@ error: the following required arguments were not provided:
   <INNER>
 
 Usage: smap compose <OUTER> <SOURCE> <INNER>
+       smap compose <OUTER> --inner <NAME=FILE>...
 
 For more information, try '--help'.
 ";
@@ -45,6 +46,7 @@ error: the following required arguments were not provided:
   <INNER>
 
 Usage: smap compose <OUTER> <SOURCE> <INNER>
+       smap compose <OUTER> --inner <NAME=FILE>...
 
 For more information, try '--help'.
 ";
