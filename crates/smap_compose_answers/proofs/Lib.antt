@@ -1,3 +1,4 @@
 mod ComposeLaws
+mod FirstLaws
 mod InnersLaws
 mod NamesLaws

@@ -24,7 +24,7 @@ use Rattle.smap_locations.specs.declared.refusal.ListFault.TheVariants.{Twice}
 use Rattle.smap_compose_answers.specs.Compose.{compose_refusal_result}
 use Rattle.smap_replies.specs.Files.{MayRead, IsUnread}
 use Rattle.smap_replies.specs.Lines.{argument_refused_line}
-use Rattle.smap_compose_answers.specs.Lines.{no_source_named_line}
+use Rattle.smap_compose_answers.specs.Lines.{no_source_named_text}
 use Rattle.smap_replies.specs.Map.{ReportsMap, refusal_result, refused_file}
 use Rattle.smap_replies.specs.Outcome.{OrMemory, Report, misuse, out_of_memory, refusal}
 use Rattle.smap_replies.specs.Lists.{list_bytes_refusal, list_refusal}
@@ -47,7 +47,7 @@ OrRefused (Ok it) Goes result = Goes it result
 abbrev pub NamesFirst : List StatedSource → (old : Named) → (name path : List ℕ) → Result Named Report → Type 0
 NamesFirst sources old name path result =
     MatchBool (list_any (is_called name) sources) ((new : Named) × IsWith old name path new × (result ≡ Ok new))
-    (result ≡ Err (refusal (Some C4) (no_source_named_line name)))
+    (result ≡ Err (refusal (Some C4) (no_source_named_text sources name)))
 
 -- the same of any name, unless memory runs out. What is said of the second path of a name depends on where it stands
 abbrev pub NamesPair : List StatedSource → (twice : Report) → (old : Named) → (name path : List ℕ) → Result Named Report → Type 0

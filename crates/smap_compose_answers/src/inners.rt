@@ -1,5 +1,5 @@
 //! The files of inner maps, each under the name of a source of the outer map.
-ghost use Rattle.std.specs.Prelude.{◌≡◌, ◌⊎◌, [], false, is_some, length, map, option_copied, slice_get, Err, Some, IfOk};
+ghost use Rattle.std.specs.Prelude.{◌≡◌, ◌⊎◌, [], false, is_some, length, map, option_copied, Err, Some, IfOk};
 ghost use Rattle.std.specs.Str.Lines.{lines};
 ghost use Rattle.smap_compose_answers.specs.ComposeAll.{NamesBytes, NamesEntry, NamesFirst, NamesInners, NamesLines, NamesList, NamesPair, NamesWords};
 ghost use Rattle.smap_compose_answers.specs.ComposeAll.{ReadsInner, ReadsInners, ReadsSource, pair_of, with_name};
@@ -186,8 +186,8 @@ fn with_path(
         ⊎ NamesFirst outer.now.map.now.stated.sources named name.now path.now (or_reported result) }
 {
     if !outer.has_source_called(name) {
-        let line = lines::no_source_named_line(alloc, name)?;
-        return Err(Failure::refusal(Code::C4, line));
+        let text = lines::no_source_named_text(alloc, outer.map, name)?;
+        return Err(Failure::refusal(Code::C4, text));
     }
     let name = String::from_str(alloc, name)?;
     let path = String::from_str(alloc, path)?;
