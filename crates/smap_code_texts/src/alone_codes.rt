@@ -25,7 +25,8 @@ pub const DEVICE: &Row = &Row {
         The file is missing, is a folder, a URL, or may not be read; the disk is full, or the \
         program behind the pipe has ended.",
     remedy: "\
-        See that the path is right and may be read. `smap check --explain FILE` says why it can't be.",
+        See that the path is right and may be read. `smap check --explain FILE` says why it can't be. \
+        A folder of maps is given as `PREFIX/=FOLDER/`, with both `/`.",
 };
 
 pub const MEMORY: &Row = &Row {

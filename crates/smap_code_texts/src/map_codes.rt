@@ -21,7 +21,8 @@ pub const M2: &Row = &Row {
         It is empty or cut off, an error page in HTML, the generated file in place of its map, or \
         compressed; or it is not UTF-8.",
     remedy: "\
-        `smap check --explain FILE` says what the file begins as, and where it ends or is broken.",
+        `smap check --explain FILE` says what the file begins as, and where it ends or is broken. \
+        If a script holds its map in a `data:` URL, take that out of it first.",
 };
 
 pub const M3: &Row = &Row {
