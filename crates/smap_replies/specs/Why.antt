@@ -1,7 +1,11 @@
 -- Why a file gives no map, where that is asked.
-use Rattle.std.specs.Prelude.{◌≡◌, ℕ, ◌⊎◌, ◌++◌, Bool, true, false, List, Option, Some, Ok, Err, codes}
+use Rattle.std.specs.Prelude.{◌≡◌, ℕ, ◌⊎◌, ◌++◌, ◌&&◌, Bool, true, false, List, [], Option, Some, Ok, Err, codes, if◌then◌else◌}
+use Rattle.smap_explain.specs.Beginning.{has_bytes}
 use Rattle.smap_explain.specs.Explain.{IsExplained}
+use Rattle.smap_explain.specs.declared.explanation.Beginning.{Beginning}
+use Rattle.smap_explain.specs.declared.explanation.Beginning.TheVariants.{Script}
 use Rattle.smap_explain.specs.declared.explanation.Explanation.{Explanation}
+use Rattle.smap_explain.specs.declared.explanation.Explanation.TheVariants.{NotJson}
 use Rattle.smap_io.specs.declared.transfer.ReadFailure.TheVariants.{Device}
 use Rattle.smap_record.specs.Codes.{map_code}
 use Rattle.smap_record.specs.Record.{MapRecord, record_of}
@@ -16,13 +20,34 @@ use Rattle.smap_verdicts.specs.Keys.{explanation_text}
 use Rattle.smap_verdicts.specs.Refusal.{refusal_text}
 use Rattle.url.specs.Parts.{Parts}
 
+-- ---- a script in place of a map
+
+abbrev pub is_script : Beginning → Bool
+is_script Script = true
+is_script other = false
+
+-- the file is no JSON, but a script that names its map
+abbrev pub is_of_script : Explanation → Bool
+is_of_script (NotJson facts) = is_script facts.begins_as
+is_of_script other = false
+
+-- how to take the map out of a script that holds it
+abbrev pub take_out_text : List ℕ
+take_out_text = codes "  a sourceMappingURL in it is a data: URL, which holds the map; if that is base64, this takes it out:\n"
+    ++ codes "  sed -n 's/^.*sourceMappingURL=data:[^,]*base64,//p' FILE | base64 -d > FILE.map\n"
+
+-- the same of these bytes, where they are such a script; of any others nothing
+abbrev pub inline_text : (bytes : List ℕ) → Explanation → List ℕ
+inline_text bytes explanation =
+    if is_of_script explanation && has_bytes bytes (codes "sourceMappingURL=data:") then take_out_text else []
+
 -- ---- a map that is refused
 
 -- the line of a refusal, and then why the map is refused
 pub record IsWhyLine (bytes path : List ℕ) (refused : MapRefusal) (line : List ℕ) : Type 0 where
   pub explanation : Explanation
   pub known : IsExplained bytes refused explanation
-  pub text : line ≡ map_refused_line path (refusal_text refused) ++ explanation_text explanation
+  pub text : line ≡ map_refused_line path (refusal_text refused) ++ (explanation_text explanation ++ inline_text bytes explanation)
 
 -- a refusal is reported on standard error, and why, where that is asked
 abbrev pub IsRefused : (bytes path : List ℕ) → (explain : Bool) → MapRefusal → Report → Type 0

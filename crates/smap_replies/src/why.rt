@@ -1,5 +1,6 @@
 //! Saying why a file gives no map, where that is asked.
 ghost use Rattle.std.specs.Prelude.{◌≡◌, ◌≢◌, ◌++◌, option_copied, string_bytes, true, IfErr, IfOk};
+ghost use Rattle.smap_explain.specs.Beginning.{has_bytes};
 ghost use Rattle.smap_record.specs.MapFile.{IsMapOf};
 ghost use Rattle.smap_record.specs.Record.{record_of};
 ghost use Rattle.smap_record.specs.declared.refusal.MapRefusal.TheVariants.{Memory};
@@ -7,17 +8,25 @@ ghost use Rattle.smap_replies.specs.Lines.{file_failed_line};
 ghost use Rattle.smap_replies.specs.Map.{IsStated, Never, ReportsRead};
 ghost use Rattle.smap_replies.specs.Outcome.{OrMemory, failure_report};
 ghost use Rattle.smap_replies.specs.Why.{IsRefused, IsUnreadFor, IsWhyLine, ReportsMapWhy, cause_text};
+ghost use Rattle.smap_replies.specs.Why.{inline_text, is_of_script, is_script};
 
 use crate::files::{FileReader, UnreadCause};
 use crate::lines::file_failed_line;
 use crate::map::{MapReader, read_map};
 use crate::outcome::Failure;
 use crate::refusal::refusal_line;
-use smap_explain::explain;
+use memchr::memmem;
+use smap_explain::{Beginning, Explanation, explain};
 use smap_io::ReadFailure;
 use smap_record::{MapFile, MapRefusal, Url};
 use smap_verdicts::explanation_text;
 use std::alloc::{AllocError, Global};
+
+// How the map of a script is taken out of it.
+const TAKE_OUT: &str =
+    "  a sourceMappingURL in it is a data: URL, which holds the map; if that is base64, this takes it out:
+  sed -n 's/^.*sourceMappingURL=data:[^,]*base64,//p' FILE | base64 -d > FILE.map
+";
 
 /// The map that the file of this number and path is. Where it is none, and `explain` asks for that, why is reported too: for
 /// that the bytes of the file are kept until its map is read.
@@ -99,7 +108,43 @@ fn why_line(
     let line = refusal_line(alloc, path, refused)?;
     let explanation = explain(alloc, bytes, refused)?;
     let why = explanation_text(alloc, &explanation)?;
-    format!(in alloc; "{line}{why}")
+    let inline = inline_text(bytes, &explanation);
+    format!(in alloc; "{line}{why}{inline}")
+}
+
+// How to take the map out of the bytes of a script that holds one; of anything else nothing.
+fn inline_text(bytes: &[u8], explanation: &Explanation) -> &'static str
+    ensures { result.now ≡ inline_text bytes.now explanation.now }
+{
+    if is_of_script(explanation) && has_bytes(bytes, b"sourceMappingURL=data:") {
+        TAKE_OUT
+    } else {
+        ""
+    }
+}
+
+fn is_of_script(explanation: &Explanation) -> bool
+    ensures { result ≡ is_of_script explanation.now }
+{
+    match explanation {
+        Explanation::NotJson(facts) => is_script(facts.begins_as),
+        _ => false,
+    }
+}
+
+fn is_script(begins_as: Beginning) -> bool
+    ensures { result ≡ is_script begins_as }
+{
+    match begins_as {
+        Beginning::Script => true,
+        _ => false,
+    }
+}
+
+fn has_bytes(text: &[u8], bytes: &[u8]) -> bool
+    ensures { result ≡ has_bytes text.now bytes.now }
+{
+    memmem::find(text, bytes).is_some()
 }
 
 /// That the file at a path can't be read and, where that is asked, why not.
