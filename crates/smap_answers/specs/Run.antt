@@ -1,7 +1,6 @@
 -- What a run of the program does to its streams, and the status with which it ends.
 use Rattle.std.specs.Prelude.{◌≡◌, ℕ, List, [], MatchBool, None, map, option_map, string_bytes, true}
 use Rattle.smap_command.specs.Limits.{usual_interval}
-use Rattle.smap_command.specs.Options.{is_json}
 use Rattle.smap_command.specs.Reading.{strips_ansi}
 pub use Rattle.smap_command.specs.Runnable.{IsRunnable}
 use Rattle.smap_check_answers.specs.Check.{ChecksAll, form_of, paths_of}

@@ -54,12 +54,13 @@ pub fn run<R: ByteSource, W: ByteSink, E: ByteSink>(
     )
 }
 
-/// Runs a command over the files that it names, and gives the exit status and the input again. Of several files each is let go
-/// once its map is read; one that can't be read is reported before any refusal, and the first of them ends the run; but `Check`
-/// reports each file by itself, and `Fit` each pair, and goes on to the next, up to a failure of standard output. The code of the first refusal that
-/// is reported on standard error is put into `first`, where that has none. Where the command asks for it, the control sequences
-/// of a terminal are left out of the input before anything else looks at it. The caller gives a command at whose
-/// interval checkpoints may stand and whose numbers of bytes are in their ranges, and devices that have not failed.
+/// Runs a command over the files that it names, and gives the exit status and the input again. Of several files each is let
+/// go once its map is read; one that can't be read is reported before any refusal, and the first of them ends the run; but
+/// `Check` reports each file by itself, and `Fit` each pair, and goes on to the next, up to a failure of standard output.
+/// The code of the first refusal that is reported on standard error is put into `first`, where that has none. Where the
+/// command asks for it, the control sequences of a terminal are left out of the input before anything else looks at it. The
+/// caller gives a command at whose interval checkpoints may stand and whose numbers of bytes are in their ranges, and
+/// devices that have not failed.
 pub fn run_reading<F: FileReader, R: ByteSource, W: ByteSink, E: ByteSink>(
     alloc: Global,
     reader: &F,

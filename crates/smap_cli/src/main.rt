@@ -1,7 +1,7 @@
 //! `smap` answers questions about source maps from the command line. The words are parsed by smap_arguments, and the command
 //! is run by smap_answers. Where a refusal goes to a terminal, a last line says which word of `explain` says more; where
-//! `rewrite` has nothing to say but passed places over, which option takes them; and after a mistake in the words of a command
-//! that reads standard input, that it does.
+//! `rewrite` has nothing to say but passed places over, which option takes them; and after a mistake in the words of a
+//! command that reads standard input, that it does.
 #![tactic(auto)]
 
 mod hint;
