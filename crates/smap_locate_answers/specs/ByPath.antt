@@ -2,7 +2,6 @@
 -- one, and else why there is none.
 use Rattle.std.specs.Prelude.{◌≡◌, ◌⊎◌, ℕ, Bool, List, Option, Some, None, Result, Ok, Err}
 use Rattle.url.specs.Parts.{Parts}
-use Rattle.smap_codes.specs.declared.code.Code.TheVariants.{M16}
 use Rattle.smap_io.specs.Device.{Gives, Takes}
 use Rattle.smap_io.specs.declared.transfer.ReadFailure.TheVariants.{Device}
 use Rattle.smap_lines.specs.Edited.{IsEdited}
@@ -13,9 +12,9 @@ use Rattle.smap_locate_answers.specs.Place.{Place, place_of}
 use Rattle.smap_locations.specs.Locations.{LocationsSeen, key_for, path_for}
 use Rattle.smap_positions.specs.Places.{bad_place_line}
 use Rattle.smap_positions.specs.declared.options.AnswerOptions.{AnswerOptions}
-use Rattle.smap_record.specs.Codes.{map_code}
 use Rattle.smap_record.specs.Record.{MapRecord}
 use Rattle.smap_record.specs.declared.refusal.MapRefusal.{MapRefusal}
+use Rattle.smap_record.specs.declared.refusal.MapRefusal.TheVariants.{Url}
 use Rattle.smap_replies.specs.Files.{MayRead}
 use Rattle.smap_store.specs.Fileless.{known_of}
 use Rattle.smap_store.specs.Loaded.{Outcome}
@@ -34,8 +33,8 @@ pub record ReadsAlike (Reads : MayRead) (number : ℕ) (bytes_at : BytesByPath) 
 
 -- what the bytes of a file are found to be, by what they state; resolving a source may give a URL that is too long
 abbrev pub IsFoundIn : Result MapRecord MapRefusal → Outcome → Type 0
-IsFoundIn (Ok stated) outcome = (outcome ≡ Ok stated) ⊎ (outcome ≡ Err (Refused M16))
-IsFoundIn (Err refused) outcome = outcome ≡ Err (Refused (map_code refused))
+IsFoundIn (Ok stated) outcome = (outcome ≡ Ok stated) ⊎ (outcome ≡ Err (Refused Url))
+IsFoundIn (Err refused) outcome = outcome ≡ Err (Refused refused)
 
 module _ (paths : Bool) (base : Option Parts) (k : ℕ) where
   -- the same of a file that has bytes, or can't be read

@@ -20,7 +20,7 @@ use Rattle.smap_store.specs.declared.loader.NoMap.TheVariants.{Unnamed, Unread, 
 abbrev pub unanswered_of : NoMap → Unanswered
 unanswered_of Unnamed = answers.NoMap
 unanswered_of Unread = answers.NoFile
-unanswered_of (Refused code) = answers.Refused code
+unanswered_of (Refused refused) = answers.Refused refused
 unanswered_of Memory = answers.NoMemory
 
 abbrev pub answer_from : Outcome → Result MapRecord Unanswered

@@ -79,7 +79,7 @@ fn unanswered_of(why: NoMap) -> Unanswered
     match why {
         NoMap::Unnamed => Unanswered::NoMap,
         NoMap::Unread => Unanswered::NoFile,
-        NoMap::Refused(code) => Unanswered::Refused(code),
+        NoMap::Refused(refused) => Unanswered::Refused(refused),
         NoMap::Memory => Unanswered::NoMemory,
     }
 }

@@ -7,8 +7,12 @@ use Rattle.smap_codes.specs.declared.code.Code.{Code}
 use Rattle.smap_command.specs.Lines.{line_from}
 use Rattle.smap_command.specs.Options.{is_json}
 use Rattle.smap_command.specs.declared.options.Form.{Form}
+use Rattle.smap_mappings.specs.Codes.{kind_code}
+use Rattle.smap_record.specs.Codes.{map_code}
 use Rattle.smap_record.specs.Record.{MapRecord}
 use Rattle.smap_record.specs.Written.{member_where}
+use Rattle.smap_record.specs.declared.refusal.MapRefusal.{MapRefusal}
+use Rattle.smap_record.specs.declared.refusal.MapRefusal.TheVariants.{Text}
 use Rattle.smap_positions.specs.Json.{count, json_line, url_members}
 use Rattle.smap_positions.specs.Positions.{asked_line}
 use Rattle.smap_positions.specs.declared.options.AnswerOptions.{AnswerOptions}
@@ -33,25 +37,37 @@ unanswered_word (Refused code) = codes "refused"
 unanswered_word NoMemory = codes "no memory"
 
 -- by which code the map is refused, where it is
-abbrev pub refusal_in : Unanswered → Option Code
-refusal_in NoMap = None
-refusal_in NoFile = None
-refusal_in (Refused code) = Some code
-refusal_in NoMemory = None
+abbrev pub code_of : Unanswered → Option Code
+code_of NoMap = None
+code_of NoFile = None
+code_of (Refused refused) = Some (map_code refused)
+code_of NoMemory = None
+
+-- the code of the fault for which a map's mappings are refused, where they are
+abbrev pub fault_in : MapRefusal → Option Code
+fault_in (Text section fault) = Some (kind_code fault.kind)
+fault_in other = None
+
+abbrev pub fault_of : Unanswered → Option Code
+fault_of NoMap = None
+fault_of NoFile = None
+fault_of (Refused refused) = fault_in refused
+fault_of NoMemory = None
 
 abbrev pub words_of : (word : List ℕ) → (refusal : Option Code) → List (List ℕ)
 words_of word None = word ∷ []
 words_of word (Some code) = word ∷ codes " " ∷ label_of code ∷ []
 
 abbrev pub unanswered_line : Unanswered → List ℕ
-unanswered_line why = line_from (words_of (unanswered_word why) (refusal_in why))
+unanswered_line why = line_from (words_of (unanswered_word why) (code_of why))
 
 abbrev pub unanswered_value : (url : List ℕ) → PrintedPosition → Unanswered → Data
 unanswered_value url position why = object (
     member (codes "answer") (string (unanswered_word why))
     (member (codes "column") (count position.column)
+    (member_where (codes "fault") (option_map (λ code. string (label_of code)) (fault_of why))
     (member (codes "line") (count position.line)
-    (member_where (codes "refusal") (option_map (λ code. string (label_of code)) (refusal_in why)) (url_members (Some url))))))
+    (member_where (codes "refusal") (option_map (λ code. string (label_of code)) (code_of why)) (url_members (Some url)))))))
 
 abbrev pub unanswered : Form → (url : List ℕ) → PrintedPosition → Unanswered → List ℕ
 unanswered form url position why = if is_json form then json_line (unanswered_value url position why) else unanswered_line why

@@ -3,9 +3,9 @@ ghost use Rattle.std.specs.Prelude.{◌≡◌, option_map};
 ghost use Rattle.std.specs.Result.{result_map_both};
 ghost use Rattle.serde_json.specs.Written.{compact_text};
 ghost use Rattle.smap_lines.specs.LineOutput.{IsPut};
-ghost use Rattle.smap_positions.specs.Places.{bad_place_line, place_line, refusal_in, unanswered, unanswered_line, unanswered_value, unanswered_word};
+ghost use Rattle.smap_positions.specs.Places.{bad_place_line, code_of, fault_in, fault_of, place_line, unanswered, unanswered_line, unanswered_value, unanswered_word};
 ghost use Rattle.smap_positions.specs.Positions.{asked_line};
-ghost use Rattle.smap_positions.specs.Private.Members.{refusal_member};
+ghost use Rattle.smap_positions.specs.Private.Members.{code_member};
 
 use crate::answer::lookup_answer;
 use crate::gathered_line::GatheredLine;
@@ -20,7 +20,7 @@ use smap_codes::Code;
 use smap_command::Form;
 use smap_io::{ByteSink, DeviceFault};
 use smap_lines::LineOutput;
-use smap_record::MapFile;
+use smap_record::{MapFile, MapRefusal};
 use std::alloc::Global;
 
 /// A generated position in the file of a URL, as it is asked for.
@@ -37,8 +37,8 @@ pub enum Unanswered {
     NoMap,
     /// The file of its map can't be read.
     NoFile,
-    /// Its map is refused, by this code.
-    Refused(Code),
+    /// Its map is refused, for this.
+    Refused(MapRefusal),
     /// Memory ran out.
     NoMemory,
 }
@@ -149,9 +149,9 @@ fn put_unanswered_line<O: Output>(why: Unanswered, output: &mut O)
     match why {
         Unanswered::NoMap => output.put(b"no map\n"),
         Unanswered::NoFile => output.put(b"no file\n"),
-        Unanswered::Refused(code) => {
+        Unanswered::Refused(refused) => {
             output.put(b"refused ");
-            output.put(code.label().as_bytes());
+            output.put(refused.code().label().as_bytes());
             output.put(b"\n");
         }
         Unanswered::NoMemory => output.put(b"no memory\n"),
@@ -165,8 +165,9 @@ fn put_unanswered_object<O: Output>(place: AskedPlace<'_>, why: Unanswered, outp
     output.put(b"{\"answer\":");
     put_json_text(Some(word_of(why)), output);
     put_number(b",\"column\":", u64::from(place.position.column), output);
+    put_code(b",\"fault\":", fault_of(why), output);
     put_number(b",\"line\":", u64::from(place.position.line), output);
-    put_refusal(why, output);
+    put_code(b",\"refusal\":", code_of(why), output);
     put_end(Some(place.url), output);
 }
 
@@ -181,12 +182,41 @@ fn word_of(why: Unanswered) -> &'static str
     }
 }
 
-// Puts by which code a map is refused, where it is, behind other members.
-fn put_refusal<O: Output>(why: Unanswered, output: &mut O)
-    ensures { O.Puts output.old output.new (refusal_member (refusal_in why)) }
+// By which code a map is refused, where it is.
+fn code_of(why: Unanswered) -> Option<Code>
+    ensures { result ≡ code_of why }
 {
-    if let Unanswered::Refused(code) = why {
-        output.put(b",\"refusal\":");
+    match why {
+        Unanswered::Refused(refused) => Some(refused.code()),
+        _ => None,
+    }
+}
+
+// The code of the fault for which the mappings of a map are refused, where they are.
+fn fault_of(why: Unanswered) -> Option<Code>
+    ensures { result ≡ fault_of why }
+{
+    match why {
+        Unanswered::Refused(refused) => fault_in(refused),
+        _ => None,
+    }
+}
+
+fn fault_in(refused: MapRefusal) -> Option<Code>
+    ensures { result ≡ fault_in refused }
+{
+    match refused {
+        MapRefusal::Text(_, fault) => Some(fault.kind.code()),
+        _ => None,
+    }
+}
+
+// Puts a code behind what stands before it, where there is one.
+fn put_code<O: Output>(front: &[u8], code: Option<Code>, output: &mut O)
+    ensures { O.Puts output.old output.new (code_member front.now code) }
+{
+    if let Some(code) = code {
+        output.put(front);
         put_json_text(Some(code.label()), output);
     }
 }

@@ -4,7 +4,7 @@ ghost use Rattle.smap_replies.specs.Base.{base_of};
 ghost use Rattle.smap_replies.specs.Files.{IsUnread};
 ghost use Rattle.smap_replies.specs.Map.{IsStated, Never, ReportsFound, ReportsMap, refusal_result};
 ghost use Rattle.smap_replies.specs.Outcome.{OrMemory, failure_report};
-ghost use Rattle.smap_record.specs.MapFile.{IsMapOf};
+ghost use Rattle.smap_record.specs.MapFile.{IsMapOf, IsRefusalOf};
 ghost use Rattle.smap_record.specs.Record.{record_of};
 
 use crate::files::FileReader;
@@ -12,7 +12,7 @@ use crate::lines;
 use crate::outcome::Failure;
 use crate::refusal::refusal_of;
 use smap_io::ReadFailure;
-use smap_record::{MapFile, Url};
+use smap_record::{MapFile, MapRefusal, Url};
 use std::alloc::{AllocError, Global};
 use url::ParseError;
 
@@ -82,7 +82,28 @@ pub fn map_of(
     }
 }
 
-/// The map that the bytes of the file at a path are. Without a base, it stands at the URL that frames name.
+/// The map that bytes are, which are let go before its index is built. Without a base, it stands at the URL that frames name.
+pub fn map_at_url<F: FileReader>(
+    alloc: Global,
+    maps: &MapReader<'_, F>,
+    url: &str,
+    bytes: Vec<u8>,
+) -> Result<MapFile, MapRefusal>
+    ensures read { IfOk result (IsMapOf (record_of bytes.items
+        (base_of (option_copied maps.now.base) url.now) maps.now.interval) maps.now.interval) }
+    ensures refused { IfErr result (IsRefusalOf (record_of bytes.items
+        (base_of (option_copied maps.now.base) url.now) maps.now.interval)) }
+{
+    match maps.base {
+        Some(base) => MapFile::read_owned(alloc, bytes, Some(base), maps.interval),
+        None => {
+            let own = own_base(alloc, url)?;
+            MapFile::read_owned(alloc, bytes, own.as_ref(), maps.interval)
+        }
+    }
+}
+
+/// The same of the bytes of the file at a path.
 pub fn read_map_at<F: FileReader>(
     alloc: Global,
     maps: &MapReader<'_, F>,
@@ -96,12 +117,9 @@ pub fn read_map_at<F: FileReader>(
         (record_of bytes.items (base_of (option_copied maps.now.base) url.now) maps.now.interval)
         Never) (failure_report failure)) }
 {
-    match maps.base {
-        Some(base) => map_of(alloc, path, bytes, Some(base), maps.interval),
-        None => {
-            let own = own_base(alloc, url)?;
-            map_of(alloc, path, bytes, own.as_ref(), maps.interval)
-        }
+    match map_at_url(alloc, maps, url, bytes) {
+        Ok(map) => Ok(map),
+        Err(refused) => Err(refusal_of(alloc, path, refused)?),
     }
 }
 

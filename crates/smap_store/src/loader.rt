@@ -3,8 +3,7 @@ ghost use Rattle.std.specs.Prelude.{ℕ, List, Option};
 ghost use Rattle.smap_record.specs.Record.{MapRecord};
 ghost use Rattle.smap_store.specs.Loaded.{Came, came_seen, record_in};
 
-use smap_codes::Code;
-use smap_record::MapFile;
+use smap_record::{MapFile, MapRefusal};
 use std::alloc::Global;
 
 /// A map that was loaded, and how many bytes its file has.
@@ -21,8 +20,8 @@ pub enum NoMap {
     Unnamed,
     /// Its file can't be read.
     Unread,
-    /// The map in its file is refused, by this code.
-    Refused(Code),
+    /// The map in its file is refused, for this.
+    Refused(MapRefusal),
     /// Memory ran out while it was read.
     Memory,
 }

@@ -1,16 +1,18 @@
 -- What is read of a map whose sources are named by its URL.
-use Rattle.std.proofs.Common.{◌≡◌, ◌∙◌, ℕ, Bool, true, false, List, ap, inl, inr, sym}
+use Rattle.std.proofs.Common.{◌≡◌, ◌≢◌, ◌∙◌, ℕ, Bool, true, false, List, ap, inl, inr, refl, subst, sym}
 use Rattle.std.proofs.lemmas.Bool.{cond-false, cond-true}
 use Rattle.std.specs.Prelude.{Option, None, Result, Ok, Err}
 use Rattle.std.specs.Result.{result_map_both}
 use Rattle.url.specs.Parts.{Parts}
 use Rattle.smap_names.specs.ByPath.{map_by_path, named_by_path}
-use Rattle.smap_record.specs.MapFile.{IsMapOf, Map}
+use Rattle.smap_record.specs.MapFile.{IsMapOf, IsRefusalOf, Map}
 use Rattle.smap_record.specs.Record.{MapRecord, record_of}
 use Rattle.smap_record.specs.declared.refusal.MapRefusal.{MapRefusal}
+use Rattle.smap_record.specs.declared.refusal.MapRefusal.TheVariants.{Memory}
 use Rattle.smap_replies.specs.Map.{Never, ReportsFound, refusal_result}
 use Rattle.smap_replies.specs.Outcome.{OrMemory, Report}
-use Rattle.smap_text_answers.specs.ByPath.{goes_by_path, record_at, record_by_path}
+use Rattle.smap_text_answers.specs.ByPath.{MayRefuse, goes_by_path, record_at, record_by_path}
+use Rattle.smap_text_answers.specs.Laws.Loader.{reports_refused}
 
 -- ---- its record
 
@@ -23,15 +25,27 @@ module _ (k : ℕ) (url bytes : List ℕ) where
 
 -- ---- why it is refused
 
-found_so : (path url : List ℕ) (found : Result MapRecord MapRefusal) (report : Report) → ReportsFound (refusal_result path) found Never report
-    → ReportsFound (refusal_result path) (result_map_both (named_by_path url) (λ refused. refused) found) Never report
-found_so path url (Err refused) report is = is
-found_so path url (Ok stated) report is = is
+-- what reading refuses
+pub may_refuse : (found : Result MapRecord MapRefusal) (refusal : MapRefusal) → IsRefusalOf found refusal → MayRefuse found refusal
+may_refuse found refusal (inl memory) = inl memory
+may_refuse (Ok stated) refusal (inr (inl (url, named))) = inr url
+may_refuse (Err given) refusal (inr (inl (url, named))) = absurd named
+may_refuse found refusal (inr (inr is)) = subst (λ f. MayRefuse f refusal) (sym is) (inr refl)
 
-pub refused_so : (k : ℕ) (url path bytes : List ℕ) (report : Report) → OrMemory (ReportsFound (refusal_result path) (record_of bytes None k) Never) report
-    → OrMemory (ReportsFound (refusal_result path) (record_by_path k url bytes) Never) report
-refused_so k url path bytes report (inl memory) = inl memory
-refused_so k url path bytes report (inr is) = inr (found_so path url (record_of bytes None k) report is)
+found_so : (url : List ℕ) (found : Result MapRecord MapRefusal) (refusal : MapRefusal) → MayRefuse found refusal
+    → MayRefuse (result_map_both (named_by_path url) (λ refused. refused) found) refusal
+found_so url (Err given) refusal may = may
+found_so url (Ok stated) refusal may = may
+
+pub refused_so : (k : ℕ) (url bytes : List ℕ) (refusal : MapRefusal) → IsRefusalOf (record_of bytes None k) refusal
+    → MayRefuse (record_by_path k url bytes) refusal
+refused_so k url bytes refusal is = found_so url (record_of bytes None k) refusal (may_refuse (record_of bytes None k) refusal is)
+
+-- what is reported of it
+pub reports_so : (path : List ℕ) (found : Result MapRecord MapRefusal) (refusal : MapRefusal) (report : Report) → MayRefuse found refusal → refusal ≢ Memory
+    → report ≡ refusal_result path refusal → OrMemory (ReportsFound (refusal_result path) found Never) report
+reports_so path found refusal report (inl memory) no_memory is = absurd (no_memory memory)
+reports_so path found refusal report (inr refused) no_memory is = inr (reports_refused path found refusal report refused is)
 
 -- ---- whether it goes by its URL
 

@@ -2,20 +2,19 @@
 use Rattle.std.specs.Prelude.{◌≡◌, ◌⊎◌, ℕ, ◌+◌, ◌-◌, ◌^◌, ◌==◌, Bool, List, Option, Some, None, Result, Ok, Err, MatchBool, cond, if◌then◌else◌, length, max, min, nat_lt}
 use Rattle.url.specs.Parts.{Parts}
 use Rattle.std.specs.Option.{option_or}
-use Rattle.std.specs.Str.{bytes_eq, is_utf8}
+use Rattle.std.specs.Str.{is_utf8}
 use Rattle.smap_codes.specs.declared.code.Code.{Code}
 use Rattle.smap_io.specs.Device.{SinkSeen}
 use Rattle.smap_locations.specs.Paths.{without_query}
 use Rattle.smap_record.specs.Record.{MapRecord}
 use Rattle.smap_record.specs.declared.refusal.MapRefusal.{MapRefusal}
 use Rattle.smap_replies.specs.Files.{IsUnread, MayRead, OfFile}
-use Rattle.smap_replies.specs.Lines.{memory_line}
 use Rattle.smap_replies.specs.Base.{base_of}
 use Rattle.smap_replies.specs.Map.{Never, ReportsFound, refusal_result}
 use Rattle.smap_store.specs.Loaded.{Came}
 use Rattle.smap_store.specs.declared.loader.NoMap.{NoMap}
 use Rattle.smap_store.specs.declared.loader.NoMap.TheVariants.{Unnamed, Unread, Refused, Memory}
-use Rattle.smap_text_answers.specs.ByPath.{record_at}
+use Rattle.smap_text_answers.specs.ByPath.{IsRefusedFor, record_at}
 use Rattle.smap_text_answers.specs.Lines.{map_memory_line}
 use Rattle.smap_replies.specs.Outcome.{Report, failure, out_of_memory}
 use Rattle.smap_replies.specs.Streams.{IsReportedTo}
@@ -70,15 +69,17 @@ module _ (Reads : MayRead) (paths : Bool) (base : Option Parts) (k number : ℕ)
   FailsToRead url path report =
       OfFile Reads number path (λ bytes. ReportsFound (refusal_result path) (record_loaded paths base k url bytes) Never) report
 
-  -- memory ran out, which is reported with the path, if there is memory for that; or the file can't be read; or its map is
-  -- refused, by this code
+  -- memory ran out; or the file can't be read; or its map is refused, for this
+  abbrev pub FailsBy : NoMap → (url path : List ℕ) → Report → Type 0
+  FailsBy Unnamed url path report = ⊥
+  FailsBy Memory url path report = report ≡ out_of_memory
+  FailsBy Unread url path report = IsUnread Reads number path report
+  FailsBy (Refused refusal) url path report =
+      (bytes : List ℕ) × Reads number path (Ok bytes) × IsRefusedFor (record_loaded paths base k url bytes) refusal × (report ≡ refusal_result path refusal)
+
+  -- the same, where memory's end is reported with the path, if there is memory for that
   abbrev pub FailsWith : NoMap → (url path : List ℕ) → Report → Type 0
-  FailsWith Unnamed url path report = ⊥
-  FailsWith Memory url path report = (report ≡ out_of_memory) ⊎ (report ≡ failure (map_memory_line path))
-  FailsWith Unread url path report = IsUnread Reads number path report
-  FailsWith (Refused code) url path report =
-      ((bytes : List ℕ) × Reads number path (Ok bytes) × ReportsFound (refusal_result path) (record_loaded paths base k url bytes) Never report)
-      × (report.code ≡ Some code)
+  FailsWith why url path report = FailsBy why url path report ⊎ ((why ≡ Memory) × (report ≡ failure (map_memory_line path)))
 
   -- one of these
   abbrev pub FailsToLoad : (url path : List ℕ) → Report → Type 0
@@ -92,14 +93,6 @@ module _ (Reads : MayRead) (paths : Bool) (base : Option Parts) (k number : ℕ)
 -- why the map at a path can't be had, named
 abbrev pub named_report : (path : List ℕ) → (report named : Report) → Type 0
 named_report path report named = (named ≡ report) ⊎ ((report ≡ out_of_memory) × (named ≡ failure (map_memory_line path)))
-
--- why there is no map, by what says so: where that has no code, memory ran out, if this is said, or else the file can't be read
-abbrev pub why_by : (code : Option Code) (text : List ℕ) → NoMap
-why_by (Some code) text = Refused code
-why_by None text = if bytes_eq text memory_line then Memory else Unread
-
-abbrev pub why_in : Report → NoMap
-why_in report = why_by report.code report.text
 
 -- one more, as far as 64 bits can count
 abbrev pub one_more : ℕ → ℕ

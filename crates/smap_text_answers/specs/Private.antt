@@ -1,3 +1,4 @@
 -- What contracts of private functions alone cite.
 pub mod Gathering
 pub mod Sources
+pub mod Unloaded

@@ -1,20 +1,22 @@
 //! The maps that are read when a text names them.
 ghost use Rattle.std.specs.Prelude.{◌≡◌, option_copied, IfErr, IfOk};
+ghost use Rattle.smap_text_answers.specs.ByPath.{MayRefuse};
 ghost use Rattle.smap_text_answers.specs.Lines.{map_memory_line};
-ghost use Rattle.smap_text_answers.specs.Loader.{FailsToRead, FailsWith, IsLoaded, Notes, base_at, loader_seen, named_report, record_loaded, why_in};
+ghost use Rattle.smap_text_answers.specs.Loader.{FailsBy, FailsToRead, IsLoaded, Notes, base_at, loader_seen, named_report, record_loaded};
+ghost use Rattle.smap_text_answers.specs.Private.Unloaded.{IsUnloadedFor, unread_why};
 ghost use Rattle.smap_record.specs.MapFile.{IsMapOf};
-ghost use Rattle.smap_replies.specs.Map.{Never, ReportsFound, refusal_result};
-ghost use Rattle.smap_replies.specs.Outcome.{OrMemory, failure_report, failure};
+ghost use Rattle.smap_replies.specs.Outcome.{OrMemory, failure_report, failure, out_of_memory};
+ghost use Rattle.smap_store.specs.declared.loader.NoMap.TheVariants.{Memory};
 
-use crate::by_path::{goes_by_path, map_by_path};
+use crate::by_path::{goes_by_path, read_by_path};
 use crate::lines;
 use smap_codes::Code;
 use smap_io::ByteSink;
 use smap_locations::without_query;
-use smap_record::MapFile;
+use smap_record::{MapFile, MapRefusal};
 use smap_replies::{
-    Failure, FileReader, MapReader, NO_MEMORY, REFUSED, file_bytes, map_of, print_error,
-    read_map_at,
+    Failure, FileReader, MapReader, NO_MEMORY, REFUSED, file_bytes, map_at_url, print_error,
+    refusal_of,
 };
 use smap_store::{LoadedMap, MapLoader, NoMap};
 use std::alloc::Global;
@@ -51,34 +53,50 @@ impl<F: FileReader, E: ByteSink> FileLoader<'_, '_, '_, F, E> {
             (F.gives self.now.maps.now.files.now) self.now.paths (option_copied self.now.maps.now.base) self.now.maps.now.interval self.now.number
             url.now path.now) (failure_report failure)) }
     {
-        let bytes = file_bytes(alloc, self.maps.files, self.number, path)?;
-        let file_bytes = bytes.len() as u64;
-        let map = self.map_at(alloc, url, path, bytes)?;
-        Ok(LoadedMap { map, file_bytes })
+        match self.load_at(alloc, url, path) {
+            Ok(loaded) => Ok(loaded),
+            Err(unloaded) => Err(unloaded.failure),
+        }
+    }
+
+    // The same, or why there is none, beside how that is reported.
+    fn load_at(&self, alloc: Global, url: &[u8], path: &str) -> Result<LoadedMap, Unloaded>
+        ensures read { IfOk result (λ loaded. IsLoaded (F.gives self.now.maps.now.files.now) self.now.paths
+            (option_copied self.now.maps.now.base) self.now.maps.now.interval self.now.number
+            url.now path.now loaded.map.stated loaded.file_bytes) }
+        ensures failed { IfErr result (λ unloaded. FailsBy (F.gives self.now.maps.now.files.now) self.now.paths
+            (option_copied self.now.maps.now.base) self.now.maps.now.interval self.now.number
+            unloaded.why url.now path.now (failure_report unloaded.failure)) }
+        ensures memory { IfErr result (λ unloaded.
+            failure_report unloaded.failure ≡ out_of_memory → unloaded.why ≡ Memory) }
+    {
+        match file_bytes(alloc, self.maps.files, self.number, path) {
+            Ok(bytes) => {
+                let file_bytes = bytes.len() as u64;
+                match self.map_at(alloc, url, bytes) {
+                    Ok(map) => Ok(LoadedMap { map, file_bytes }),
+                    Err(refusal) => Err(refused(alloc, path, refusal)),
+                }
+            }
+            Err(failure) => Err(unread(failure)),
+        }
     }
 
     // The map that the bytes are, with its sources named by the URL, where it goes by that; else its base, where none is
     // given, is the URL without its query and its fragment.
-    fn map_at(
-        &self,
-        alloc: Global,
-        url: &[u8],
-        path: &str,
-        bytes: Vec<u8>,
-    ) -> Result<MapFile, Failure>
+    fn map_at(&self, alloc: Global, url: &[u8], bytes: Vec<u8>) -> Result<MapFile, MapRefusal>
         ensures read { IfOk result (IsMapOf (record_loaded self.now.paths
             (option_copied self.now.maps.now.base) self.now.maps.now.interval url.now bytes.items)
             self.now.maps.now.interval) }
-        ensures refused { IfErr result (λ failure. OrMemory (ReportsFound (refusal_result path.now)
-            (record_loaded self.now.paths (option_copied self.now.maps.now.base)
-            self.now.maps.now.interval url.now bytes.items) Never) (failure_report failure)) }
+        ensures refused { IfErr result (MayRefuse (record_loaded self.now.paths
+            (option_copied self.now.maps.now.base) self.now.maps.now.interval url.now bytes.items)) }
     {
         if goes_by_path(self.maps, self.paths, url) {
-            return map_by_path(alloc, url, path, bytes, self.maps.interval);
+            return read_by_path(alloc, url, bytes, self.maps.interval);
         }
         match str::from_utf8(without_query(url)) {
-            Ok(url) => read_map_at(alloc, self.maps, url, path, bytes),
-            Err(_) => map_of(alloc, path, bytes, self.maps.base, self.maps.interval),
+            Ok(url) => map_at_url(alloc, self.maps, url, bytes),
+            Err(_) => MapFile::read_owned(alloc, bytes, self.maps.base, self.maps.interval),
         }
     }
 
@@ -117,10 +135,10 @@ impl<F: FileReader, E: ByteSink> MapLoader for FileLoader<'_, '_, '_, F, E> {
         × IsSameLoader loader after };
 
     fn load(&mut self, alloc: Global, url: &[u8], path: &str) -> Result<LoadedMap, NoMap> {
-        match self.read(alloc, url, path) {
+        match self.load_at(alloc, url, path) {
             Ok(loaded) => Ok(loaded),
-            Err(failure) => {
-                let why = why_of(&failure);
+            Err(unloaded) => {
+                let Unloaded { why, failure } = unloaded;
                 self.note(&named(alloc, path, failure));
                 Err(why)
             }
@@ -136,14 +154,46 @@ impl<F: FileReader, E: ByteSink> MapLoader for FileLoader<'_, '_, '_, F, E> {
     ghost same = { λ loader after url path other other_path came more loads may. same_load F.gives loader after loads.1 other other_path more may };
 }
 
-// Why there is no map, by the failure that says so.
-fn why_of(failure: &Failure) -> NoMap
-    ensures { result ≡ why_in (failure_report failure.now) }
+// Why no map came from a file, and how that is reported, before memory's end is named.
+#[derive(Drop)]
+struct Unloaded {
+    why: NoMap,
+    failure: Failure,
+}
+
+// What a failure to read a file comes to.
+fn unread(failure: Failure) -> Unloaded
+    ensures why { result.why ≡ unread_why (failure_report failure).text }
+    ensures reported { failure_report result.failure ≡ failure_report failure }
 {
-    match failure.code() {
-        Some(code) => NoMap::Refused(code),
-        None if failure.bytes() == NO_MEMORY.as_bytes() => NoMap::Memory,
-        None => NoMap::Unread,
+    let why = unread_why(&failure);
+    Unloaded { why, failure }
+}
+
+// Why there is no map, by the failure to read its file.
+fn unread_why(failure: &Failure) -> NoMap
+    ensures { result ≡ unread_why (failure_report failure.now).text }
+{
+    if failure.bytes() == NO_MEMORY.as_bytes() {
+        NoMap::Memory
+    } else {
+        NoMap::Unread
+    }
+}
+
+// What a refusal of the map in the file at a path comes to.
+fn refused(alloc: Global, path: &str, refusal: MapRefusal) -> Unloaded
+    ensures { IsUnloadedFor path.now refusal result.why (failure_report result.failure) }
+{
+    match refusal_of(alloc, path, refusal) {
+        Ok(failure) => Unloaded {
+            why: NoMap::Refused(refusal),
+            failure,
+        },
+        Err(_) => Unloaded {
+            why: NoMap::Memory,
+            failure: Failure::Memory,
+        },
     }
 }
 

@@ -6,8 +6,6 @@ use Rattle.std.proofs.Common.{ap, inl, inr, refl, subst, sym, ◌∙◌}
 use Rattle.url.specs.Parts.{Parts}
 use Rattle.smap_by_text.specs.ByText.{value_under}
 use Rattle.smap_by_text.specs.Laws.ByText.{IsOf}
-use Rattle.smap_codes.specs.declared.code.Code.{Code}
-use Rattle.smap_codes.specs.declared.code.Code.TheVariants.{M16}
 use Rattle.smap_lines.specs.Edited.{IsEditedLine, StepsLines, is_short}
 use Rattle.smap_lines.specs.Editing.{DevicesSeen, EditsInto}
 use Rattle.smap_lines.specs.Lines.{Line, line_text, lines_with_ends}
@@ -18,11 +16,9 @@ use Rattle.smap_locate_answers.specs.Place.{Place, place_of}
 use Rattle.smap_locations.specs.Laws.Key.{path_of_key}
 use Rattle.smap_locations.specs.Locations.{LocationsSeen, key_for, path_for}
 use Rattle.smap_positions.specs.declared.options.AnswerOptions.{AnswerOptions}
-use Rattle.smap_record.specs.Codes.{map_code}
 use Rattle.smap_record.specs.Record.{MapRecord}
 use Rattle.smap_record.specs.declared.refusal.MapRefusal.{MapRefusal}
 use Rattle.smap_replies.specs.Files.{MayRead}
-use Rattle.smap_replies.specs.Map.{Never, ReportsFound, refusal_result}
 use Rattle.smap_replies.specs.Outcome.{Report}
 use Rattle.smap_store.specs.Cache.{CacheSeen, Keeps, Kept, Remembers, kept_of}
 use Rattle.smap_store.specs.Fileless.{known_of}
@@ -31,6 +27,7 @@ use Rattle.smap_store.specs.Loaded.{Came, Outcome, outcome_in}
 use Rattle.smap_store.specs.Stored.{Asks, Comes, FindsIn, Recalls, StoredSeen, Untouched, known_outcome, outcome_at, outcome_of}
 use Rattle.smap_store.specs.declared.loader.NoMap.{NoMap}
 use Rattle.smap_store.specs.declared.loader.NoMap.TheVariants.{Unnamed, Unread, Refused, Memory}
+use Rattle.smap_text_answers.specs.ByPath.{IsRefusedFor}
 use Rattle.smap_text_answers.specs.Loader.{FailsWith, LoaderSeen, Loads, record_loaded}
 use Rattle.smap_text_answers.specs.SameBytes.{BytesByPath}
 
@@ -77,16 +74,10 @@ module _ (Reads : MayRead) (paths : Bool) (base : Option Parts) (k number : ℕ)
   abbrev Found : (url : List ℕ) (path : Option (List ℕ)) → Outcome → Type 0
   Found url path outcome = (outcome ≡ Err Memory) ⊎ IsFoundFor paths base k bytes_at url path outcome
 
-  -- why a map is refused, by its code
-  refused_in : (path : List ℕ) (found : Result MapRecord MapRefusal) (report : Report) (code : Code) → ReportsFound (refusal_result path) found Never report
-      → report.code ≡ Some code → IsFoundIn found (Err (Refused code))
-  refused_in path (Err refused) report code is coded =
-      let same : Some code ≡ (refusal_result path refused).code = sym coded ∙ ap (λ r. r.code) is in
-      let code_is : code ≡ map_code refused = cc in ap (λ c. Err (Refused c)) code_is
-  refused_in path (Ok stated) report code (inl is) coded =
-      let same : Some code ≡ Some M16 = sym coded ∙ ap (λ r. r.code) is in
-      let code_is : code ≡ M16 = cc in inr (ap (λ c. Err (Refused c)) code_is)
-  refused_in path (Ok stated) report code (inr never) coded = absurd never
+  -- why a map is refused
+  refused_in : (found : Result MapRecord MapRefusal) (refusal : MapRefusal) → IsRefusedFor found refusal → IsFoundIn found (Err (Refused refusal))
+  refused_in (Err given) refusal is = ap (λ r. Err (Refused r)) is
+  refused_in (Ok stated) refusal is = inr (ap (λ r. Err (Refused r)) is)
 
   found_bytes : (url path bytes : List ℕ) (outcome : Outcome) → Reads number path (Ok bytes) → IsFoundIn (record_loaded paths base k url bytes) outcome
       → IsFoundFor paths base k bytes_at url (Some path) outcome
@@ -94,12 +85,13 @@ module _ (Reads : MayRead) (paths : Bool) (base : Option Parts) (k number : ℕ)
       subst (λ b. IsFoundOf paths base k url b outcome) (sym (alike.same path bytes read)) is
 
   failed : (why : NoMap) (url path : List ℕ) (report : Report) → FailsWith Reads paths base k number why url path report → Found url (Some path) (Err why)
-  failed Unnamed url path report fails = absurd fails
-  failed Memory url path report fails = inl refl
-  failed Unread url path report unread =
+  failed why url path report (inr named) = inl (ap (λ w. Err w) named.0)
+  failed Unnamed url path report (inl fails) = absurd fails
+  failed Memory url path report (inl fails) = inl refl
+  failed Unread url path report (inl unread) =
       inr (subst (λ b. IsFoundOf paths base k url b (Err Unread)) (sym (alike.fails path unread.0)) refl)
-  failed (Refused code) url path report ((bytes, read, found), coded) =
-      inr (found_bytes url path bytes (Err (Refused code)) read (refused_in path (record_loaded paths base k url bytes) report code found coded))
+  failed (Refused refusal) url path report (inl (bytes, read, refused, is)) =
+      inr (found_bytes url path bytes (Err (Refused refusal)) read (refused_in (record_loaded paths base k url bytes) refusal refused))
 
   loaded : (old new : LoaderSeen) (url path : List ℕ) (came : Came) → Loads Reads paths base k number old url path came new → Found url (Some path) (outcome_in came)
   loaded old new url path (Err why) loads = failed why url path loads.0 loads.1

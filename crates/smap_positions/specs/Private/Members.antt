@@ -16,10 +16,10 @@ excerpt_member (Some excerpt) = codes ",\"excerpt\":" ++ compact_text (excerpt_v
 abbrev pub ignored_member : Bool → List ℕ
 ignored_member ignored = codes ",\"ignored\":" ++ compact_text (boolean ignored)
 
--- by which code a map is refused, where it is
-abbrev pub refusal_member : Option Code → List ℕ
-refusal_member None = []
-refusal_member (Some code) = codes ",\"refusal\":" ++ compact_text (string (label_of code))
+-- a code behind what stands before it, where there is one
+abbrev pub code_member : (front : List ℕ) → Option Code → List ℕ
+code_member front None = []
+code_member front (Some code) = front ++ compact_text (string (label_of code))
 
 -- the beginning of the object of a source: its bytes, where they are known
 abbrev pub row_front : Option ℕ → List ℕ

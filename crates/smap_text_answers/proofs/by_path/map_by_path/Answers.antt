@@ -1,12 +1,8 @@
-use Rattle.std.proofs.lemmas.Result.{err_from_is_err_and}
-use Rattle.smap_text_answers.proofs.ByPathLaws.{read_so, refused_so}
+use Rattle.smap_text_answers.proofs.ByPathLaws.{reports_so}
+use Rattle.smap_text_answers.specs.ByPath.{record_by_path}
 use Rattle.smap_text_answers.proofs.by_path.map_by_path.Goals as goal
 
-pub returns-clause-read : goal.returns-clause-read
-returns-clause-read c =
-    read_so c.args.interval c.args.url.now c.args.bytes.items _ _ c.in_ok-map.ensures.read c.in_ok-name_sources_by_path.ensures.named
-
-pub returns-in_err-map-clause-refused : goal.returns-in_err-map-clause-refused
-returns-in_err-map-clause-refused c =
-    let p = err_from_is_err_and c.from_residual.result c.from_residual.ensures.1 in
-    rw (p.1, p.2) (refused_so c.args.interval c.args.url.now c.args.path.now c.args.bytes.items _ c.in_err-map.ensures.refused)
+pub returns-in_ok-refusal_of-in-Err-clause-refused : goal.returns-in_ok-refusal_of-in-Err-clause-refused
+returns-in_ok-refusal_of-in-Err-clause-refused c =
+    reports_so c.args.path.now (record_by_path c.args.interval c.args.url.now c.args.bytes.items) c.in-Err.refused _ c.in-Err.ensures.refused
+    c.in_ok-refusal_of-in-Err.ensures.not_memory c.in_ok-refusal_of-in-Err.ensures.reported
