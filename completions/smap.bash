@@ -18,7 +18,7 @@ _smap() {
     mappings) options='--base --json --help' ;;
     sources) options='--base --content --fit --json --sort --help' ;;
     rewrite) options='--anywhere --base --cache --explain --hide --hide-ignored --interval --limit --maps --paths --strip-ansi --summary --help' ;;
-    locate) options='--after --base --cache --interval --json --maps --paths --help' ;;
+    locate) options='--after --base --cache --context --interval --json --maps --paths --help' ;;
     check) options='--base --explain --interval --json --help' ;;
     show) options='--base --no-content --prune --help' ;;
     compose) options='--base --inner --inners --no-content --prune --help' ;;

@@ -28,6 +28,7 @@ complete -c smap -n '__fish_seen_subcommand_from sources' -l fit -d 'Say how man
 complete -c smap -n '__fish_seen_subcommand_from sources' -l sort -x -a bytes -d 'Those that make most first'
 complete -c smap -n '__fish_seen_subcommand_from rewrite' -l anywhere -d 'Rewrite places anywhere in a line'
 complete -c smap -n '__fish_seen_subcommand_from rewrite locate' -l cache -x -d 'How many bytes of maps of folders and lists are kept'
+complete -c smap -n '__fish_seen_subcommand_from locate' -l context -x -d 'With --json, how many lines of the source are shown around a place'
 complete -c smap -n '__fish_seen_subcommand_from rewrite' -l hide -x -d 'Leave out the frames of sources with this text in their names'
 complete -c smap -n '__fish_seen_subcommand_from rewrite' -l hide-ignored -d 'Leave out the frames of ignored sources'
 complete -c smap -n '__fish_seen_subcommand_from rewrite' -l limit -x -d 'How many bytes of the text are taken'

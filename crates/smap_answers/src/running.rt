@@ -163,6 +163,7 @@ fn run_over<F: FileReader, R: ByteSource, W: ByteSink, E: ByteSink>(
             let options = AnswerOptions {
                 direction: Direction::of(*after),
                 form: *form,
+                context: None,
             };
             answer_positions(alloc, &maps, path, options, input, output)
         }

@@ -21,7 +21,7 @@ use Rattle.clap.specs.declared.builder.value_parser.ValueParser.{ValueParser}
 use Rattle.clap.specs.declared.builder.value_parser.ValueParser.TheVariants as parser
 use Rattle.clap.specs.declared.error.Error.{Error}
 use Rattle.clap.specs.declared.error.kind.ErrorKind.TheVariants.{DisplayHelp, DisplayVersion, OutOfMemory}
-use Rattle.smap_arguments.specs.CommandLine.{base_rule, bytes_number, bytes_rule, check, compose, content_rule, flag_rule, interval_number, interval_rule}
+use Rattle.smap_arguments.specs.CommandLine.{base_rule, bytes_number, bytes_rule, check, compose, content_rule, context_number, context_rule, flag_rule, interval_number, interval_rule}
 use Rattle.smap_arguments.specs.CommandLine.{explain, fit, generated, list_rule, locate, lookup, mappings, named, number, order_rule, positions, raw, repeated_rule, rewrite, show, smap, smap_generated, source_number, sources}
 use Rattle.smap_arguments.specs.CommandLine.{whole_name}
 use Rattle.smap_arguments.specs.Line.{asks_generated, line_for, line_of}
@@ -149,14 +149,15 @@ abbrev flags : List Text
 flags = codes "after" ∷ codes "anywhere" ∷ codes "fit" ∷ codes "json" ∷ codes "explain" ∷ codes "summary" ∷ codes "strip-ansi" ∷ codes "hide-ignored"
     ∷ codes "prune" ∷ codes "no-content" ∷ codes "paths" ∷ codes "generated" ∷ []
 
--- lines, columns, sources, intervals and bytes are numbers, flags are true or false, and the other arguments are any text
+-- lines, columns, sources, intervals, bytes and lines around one are numbers, flags are true or false, and the other arguments are any text
 abbrev at_argument : Text → ValueParser
 at_argument id = cond (list_any (bytes_eq id) flags) parser.Bool
     (cond (bytes_eq id (codes "SOURCE") || bytes_eq id (codes "INDEX")) source_number
     (cond (bytes_eq id (codes "LINE") || bytes_eq id (codes "COLUMN")) number
     (cond (bytes_eq id (codes "K")) interval_number
     (cond (bytes_eq id (codes "cache")) (bytes_number 0)
-    (cond (bytes_eq id (codes "limit")) (bytes_number 1) parser.String)))))
+    (cond (bytes_eq id (codes "limit")) (bytes_number 1)
+    (cond (bytes_eq id (codes "N")) context_number parser.String))))))
 
 base_plain : (i : ℕ) → IsPlain at_argument (with_index i (filled base_rule))
 base_plain i = option at_argument i (codes "URL") (codes "base")
@@ -181,6 +182,9 @@ pairs_plain i = more_option at_argument i (codes "NAME=FILE") (codes "inner")
 
 hidden_plain : (i : ℕ) → IsPlain at_argument (with_index i (filled (repeated_rule (codes "TEXT") (codes "hide"))))
 hidden_plain i = more_option at_argument i (codes "TEXT") (codes "hide")
+
+context_plain : (i : ℕ) → IsPlain at_argument (with_index i (filled context_rule))
+context_plain i = option at_argument i (codes "N") (codes "context")
 
 cache_plain : (i : ℕ) → IsPlain at_argument (with_index i (filled (bytes_rule 0 (codes "cache"))))
 cache_plain i = named_option at_argument i (codes "cache") (codes "cache")
@@ -280,7 +284,7 @@ locate_plain = (
         interval_plain 2,
         (
           flag_plain 2 (codes "paths") refl,
-          (cache_plain 2, (flag_plain 2 (codes "after") refl, (flag_plain 2 (codes "json") refl, (help_plain, tt)))),
+          (cache_plain 2, (flag_plain 2 (codes "after") refl, (flag_plain 2 (codes "json") refl, (context_plain 2, (help_plain, tt))))),
         ),
       ),
     ),

@@ -2,7 +2,7 @@
 use Rattle.std.specs.Prelude.{◌≡◌, ◌+◌, ℕ, Bool, false, true, pos, codes, Option, Some, List, []}
 use Rattle.std.specs.Prelude.{◌∷◌, find, fold, if◌then◌else◌}
 use Rattle.std.specs.Str.{bytes_eq}
-use Rattle.smap_command.specs.Limits.{limit, most_bytes, most_interval}
+use Rattle.smap_command.specs.Limits.{limit, most_bytes, most_context, most_interval}
 use Rattle.clap.specs.Simple.{on_top}
 use Rattle.clap.specs.Words.{App, Rule, Shape, Text, app_of, new_app, new_rule, rule_of, with_rule, with_subcommand}
 use Rattle.clap.specs.declared.builder.action.ArgAction.TheVariants.{Append, SetTrue}
@@ -25,6 +25,10 @@ source_number = parser.Signed (pos 0) (pos 4294967295)
 -- an interval at which checkpoints may stand
 abbrev pub interval_number : ValueParser
 interval_number = parser.Signed (pos 1) (pos most_interval)
+
+-- how many lines are shown on each side of one
+abbrev pub context_number : ValueParser
+context_number = parser.Signed (pos 0) (pos most_context)
 
 -- a number of bytes, from this one on
 abbrev pub bytes_number : (least : ℕ) → ValueParser
@@ -69,6 +73,10 @@ order_rule = record (new_rule (codes "BY")) { long = Some (codes "sort") }
 -- the option that is the number of the source whose content is written
 abbrev pub content_rule : Rule
 content_rule = record (new_rule (codes "INDEX")) { long = Some (codes "content"); parser = Some source_number }
+
+-- the option that is how many lines are shown on each side of one
+abbrev pub context_rule : Rule
+context_rule = record (new_rule (codes "N")) { long = Some (codes "context"); parser = Some context_number }
 
 -- a flag, which its name stands for
 abbrev pub flag_rule : Text → Rule
@@ -128,7 +136,7 @@ rewrite = with_rules (codes "rewrite") (texts_rule false (codes "URL=FILE") ∷ 
 
 abbrev pub locate : App
 locate = with_rules (codes "locate") (texts_rule false (codes "URL=FILE") ∷ list_rule (codes "maps") ∷ base_rule ∷ interval_rule
-    ∷ flag_rule (codes "paths") ∷ bytes_rule 0 (codes "cache") ∷ flag_rule (codes "after") ∷ flag_rule (codes "json") ∷ [])
+    ∷ flag_rule (codes "paths") ∷ bytes_rule 0 (codes "cache") ∷ flag_rule (codes "after") ∷ flag_rule (codes "json") ∷ context_rule ∷ [])
 
 abbrev pub check : App
 check = with_rules (codes "check") (texts_rule true (codes "PATH") ∷ base_rule ∷ interval_rule ∷ flag_rule (codes "json")

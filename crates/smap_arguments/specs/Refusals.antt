@@ -1,5 +1,5 @@
 -- Why the arguments of the command line give no command.
-use Rattle.std.specs.Prelude.{◌≡◌, ◌≢◌, ◌++◌, ◌%◌, ◌⊎◌, ◌∷◌, Bool, true, codes, length, List, [], Err, None, Option, Some, String, find, is_some, not, ⊤}
+use Rattle.std.specs.Prelude.{◌≡◌, ◌≢◌, ◌++◌, ◌%◌, ◌⊎◌, ◌∷◌, ℕ, Bool, true, false, codes, length, List, [], Err, None, Option, Some, String, find, is_some, not, ⊤}
 use Rattle.std.specs.declared.alloc.Global.{Global}
 use Rattle.std.specs.Option.{IsSome}
 use Rattle.std.specs.String.{string_bytes}
@@ -13,7 +13,7 @@ use Rattle.clap.specs.Words.{Row, Text, first_of, one_of, subcommand_of}
 use Rattle.clap.specs.declared.error.kind.ErrorKind.{ErrorKind}
 use Rattle.clap.specs.declared.error.kind.ErrorKind.TheVariants.{DisplayHelp, DisplayVersion, OutOfMemory}
 use Rattle.smap_arguments.specs.CommandLine.{whole_name}
-use Rattle.smap_arguments.specs.Arguments.{GivesBase, GivesFlag, GivesFurther, GivesOrder, GivesPairs, GivesText, GivesTexts, HasMaps, HasNoInners, has_equals_sign, has_inner}
+use Rattle.smap_arguments.specs.Arguments.{GivesBase, GivesFlag, GivesFurther, GivesNumberIfGiven, GivesOrder, GivesPairs, GivesText, GivesTexts, HasMaps, HasNoInners, has_equals_sign, has_inner}
 use Rattle.smap_arguments.specs.Arguments.{has_listing, words_of}
 use Rattle.smap_arguments.specs.Excludes.{base_and_paths_line, excluded_line}
 use Rattle.smap_arguments.specs.Line.{asks_generated, line_of}
@@ -119,9 +119,18 @@ abbrev pub ReportsBaseAndPaths : List Row → Text → Type 0
 ReportsBaseAndPaths rows text = (text ≡ base_and_paths_line)
     × ((base : Option Parts) × GivesBase rows base × (is_some base ≡ true)) × GivesFlag rows (codes "paths") true
 
+-- lines of sources are to be shown, and places answered as text
+abbrev pub context_alone_line : Text
+context_alone_line = codes "usage: --context without --json" ++ 10 ∷ []
+
+-- it is reported that `locate` is to do so
+abbrev pub ReportsContextAlone : List Row → Text → Type 0
+ReportsContextAlone rows text = (text ≡ context_alone_line)
+    × ((context : Option ℕ) × GivesNumberIfGiven rows (codes "N") context × (is_some context ≡ true)) × GivesFlag rows (codes "json") false
+
 -- what `locate` refuses after its base: its maps, and then what excludes each other
 abbrev pub ReportsLocate : List Row → Text → Type 0
-ReportsLocate rows text = ReportsMaps (codes "locate") rows text ⊎ ReportsBaseAndPaths rows text
+ReportsLocate rows text = ReportsMaps (codes "locate") rows text ⊎ ReportsBaseAndPaths rows text ⊎ ReportsContextAlone rows text
 
 -- it is reported that SOURCE or INNER is given beside maps that are given by the names of their sources, of words that are pairs
 abbrev pub ReportsSourceWithInners : List Row → Text → Type 0

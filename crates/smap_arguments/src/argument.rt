@@ -1,11 +1,11 @@
 //! The kinds of arguments that commands have, as clap gets them.
-ghost use Rattle.smap_arguments.specs.CommandLine.{IsLocalArgument, base_rule, bytes_rule, content_rule, flag_rule, interval_rule, list_rule, number, number_rule};
+ghost use Rattle.smap_arguments.specs.CommandLine.{IsLocalArgument, base_rule, bytes_rule, content_rule, context_rule, flag_rule, interval_rule, list_rule, number, number_rule};
 ghost use Rattle.smap_arguments.specs.CommandLine.{optional_number_rule, optional_rule, order_rule, repeated_rule, source_rule, text_rule, texts_rule};
 
-use crate::help::{CONTENT_HELP, INTERVAL_HELP, ORDER_HELP, SOURCE_HELP};
+use crate::help::{CONTENT_HELP, CONTEXT_HELP, INTERVAL_HELP, ORDER_HELP, SOURCE_HELP};
 use clap::builder::ValueParser;
 use clap::{Arg, ArgAction, value_parser};
-use smap_command::{LIMIT, MOST_BYTES, MOST_INTERVAL};
+use smap_command::{LIMIT, MOST_BYTES, MOST_CONTEXT, MOST_INTERVAL};
 use std::alloc::Global;
 
 /// A required argument that is of any text.
@@ -94,6 +94,16 @@ pub fn interval<'a>(alloc: Global) -> Arg<'a>
         .long("interval")
         .value_parser(value_parser!(u32).range(1..=i64::from(MOST_INTERVAL)))
         .help(INTERVAL_HELP)
+}
+
+/// The option that is how many lines are shown on each side of one.
+pub fn context<'a>(alloc: Global) -> Arg<'a>
+    ensures { IsLocalArgument context_rule result }
+{
+    Arg::new(alloc, "N")
+        .long("context")
+        .value_parser(value_parser!(u32).range(0..=i64::from(MOST_CONTEXT)))
+        .help(CONTEXT_HELP)
 }
 
 /// A flag, which its name stands for.

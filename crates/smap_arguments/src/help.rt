@@ -149,7 +149,8 @@ Answer: for each line one line, in their order, while they come:
   refused CODE   its map is refused, as `smap explain CODE` says
   no memory      memory ran out
   bad place      the line is no place
-With --json each is a JSON object.
+With --json each is a JSON object. With --context one that has an original has the line of its source, and those
+around it, where the map has the source's text.
 
 The last mapping at a position or before it answers or, with --after, the first at it or after it.
 
@@ -320,6 +321,9 @@ smaller K answers look-ups faster and takes more memory; their answers are the s
 
 pub const AFTER_HELP: &str =
     "Answer by the first mapping on the line at the position or after it, not the last before";
+
+pub const CONTEXT_HELP: &str =
+    "With --json, show up to N lines of the source on each side of the original line, 0 to 100";
 
 pub const JSON_HELP: &str = "Answer in JSON: one compact object a line";
 

@@ -7,8 +7,8 @@ ghost use Rattle.smap_arguments.specs.CommandLine.{mappings, next_commands, posi
 ghost use Rattle.smap_arguments.specs.CommandLine.{with_commands, with_rules};
 
 use crate::argument::{
-    base_url, bytes, content, flag, interval, list, optional, optional_position_number, order,
-    position_number, repeated, source, text, texts,
+    base_url, bytes, content, context, flag, interval, list, optional, optional_position_number,
+    order, position_number, repeated, source, text, texts,
 };
 use crate::help::{
     AFTER_HELP, ALIKE_HELP, ANYWHERE_HELP, CACHE_HELP, CHECK_ABOUT, CHECK_NOTES, CODE_HELP,
@@ -213,6 +213,7 @@ fn locate_command<'a>(alloc: Global) -> Result<Command<'a>, AllocError>
         bytes(alloc, "cache", CACHE_HELP, 0),
         flag(alloc, "after", AFTER_HELP),
         flag(alloc, "json", JSON_HELP),
+        context(alloc),
     ]?;
     described(alloc, "locate", LOCATE_ABOUT, LOCATE_NOTES, arguments)
 }

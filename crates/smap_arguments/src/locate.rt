@@ -5,16 +5,16 @@ ghost use Rattle.smap_arguments.specs.CommandLine.{named};
 ghost use Rattle.smap_arguments.specs.Arguments.{GivesBase, HasArguments, IsInRange, NamedAsksFor};
 ghost use Rattle.smap_arguments.specs.Refusals.{IsNamedRefusal, ReportsLocate};
 
-use crate::mistakes::BASE_AND_PATHS;
+use crate::mistakes::{BASE_AND_PATHS, CONTEXT_ALONE};
 use crate::pairs::maps_in;
 use crate::usage::Usage;
-use crate::values::{bytes_in, flag_in, form_in, interval_in, text_if_given};
+use crate::values::{bytes_in, context_in, flag_in, form_in, interval_in, text_if_given};
 use clap::ArgMatches;
 use smap_command::{Command, LocateOptions};
 use std::alloc::Global;
 use url::Url;
 
-/// What `locate` is asked. It needs maps, and with a base sources are not named by paths.
+/// What `locate` is asked. It needs maps, with a base sources are not named by paths, and lines of sources are shown in JSON alone.
 pub fn locate_in(
     alloc: Global,
     matches: &ArgMatches<'_>,
@@ -32,6 +32,11 @@ pub fn locate_in(
     if base.is_some() && paths {
         return Err(Usage::Words(String::from_str(alloc, BASE_AND_PATHS)?));
     }
+    let context = context_in(matches);
+    let form = form_in(matches);
+    if context.is_some() && !form.is_json() {
+        return Err(Usage::Words(String::from_str(alloc, CONTEXT_ALONE)?));
+    }
     Ok(Command::Locate {
         maps,
         base,
@@ -41,7 +46,8 @@ pub fn locate_in(
             paths,
             cache_bytes: bytes_in(matches, "cache", 0),
             after: flag_in(matches, "after"),
-            form: form_in(matches),
+            form,
+            context,
         },
     })
 }

@@ -26,6 +26,9 @@ pub const ANY_URL: &str = "usage: *=FILE with --anywhere\n";
 
 pub const BASE_AND_PATHS: &str = "usage: --base with --paths\n";
 
+/// Standard error: `locate` is to show lines of sources, and to answer as text.
+pub const CONTEXT_ALONE: &str = "usage: --context without --json\n";
+
 pub const SOURCE_WITH_INNERS: &str = "usage: SOURCE with --inner or --inners\n";
 
 /// Standard error: `compose` has neither SOURCE nor a map by its name. It is reported as `no_maps_text` is.

@@ -1,9 +1,9 @@
 //! What clap found for the arguments.
 ghost use Rattle.std.specs.Prelude.{◌≡◌, ◌≤◌, ◌<◌, ◌+◌, IfErr, IfOk, IfSome, codes, is_some, length, map, option_map, string_bytes, true};
 ghost use Rattle.clap.specs.Words.{first_of, found_of, rows_of};
-ghost use Rattle.smap_command.specs.Limits.{is_interval, limit, most_bytes};
+ghost use Rattle.smap_command.specs.Limits.{is_interval, limit, most_bytes, most_context};
 ghost use Rattle.smap_command.specs.Options.{is_json};
-ghost use Rattle.smap_arguments.specs.CommandLine.{bytes_number, interval_number, number, source_number};
+ghost use Rattle.smap_arguments.specs.CommandLine.{bytes_number, context_number, interval_number, number, source_number};
 ghost use Rattle.smap_arguments.specs.Arguments.{GivesBase, GivesFlag, GivesInterval, GivesNumber, GivesNumberIfGiven, GivesText};
 ghost use Rattle.smap_arguments.specs.Arguments.{GivesTextIfGiven, GivesTexts, HasValue};
 ghost use Rattle.smap_arguments.specs.Arguments.{HasValueIfGiven, bytes_given, texts, words_of};
@@ -62,6 +62,15 @@ pub fn source_in(matches: &ArgMatches<'_>, name: &str) -> Option<u32>
     ensures { GivesNumberIfGiven (rows_of (found_of matches.now)) name.now result }
 {
     matches.get_one::<u32>(name)
+}
+
+/// How many lines are shown on each side of one, where that is given.
+pub fn context_in(matches: &ArgMatches<'_>) -> Option<u32>
+    requires { HasValueIfGiven context_number (rows_of (found_of matches.now)) (codes "N") }
+    ensures given { GivesNumberIfGiven (rows_of (found_of matches.now)) (codes "N") result }
+    ensures in_range { IfSome result (λ lines. lines ≤ most_context) }
+{
+    matches.get_one::<u32>("N")
 }
 
 /// The interval of the option `--interval`, or the usual one where it is not given.

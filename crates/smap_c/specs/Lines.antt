@@ -1,9 +1,10 @@
 -- The lines around a line of a source (ECMAScript, line terminator sequences), and where they stand in its content.
-use Rattle.std.specs.Prelude.{◌≡◌, ◌<◌, ◌≤◌, ◌+◌, ◌-◌, ℕ, List, Option, Some, None, IsSomeAnd, drop, length, min, nat_lt, option_and_then, slice_get, take}
+use Rattle.std.specs.Prelude.{◌≡◌, ◌<◌, ◌+◌, ◌-◌, ℕ, List, Option, Some, None, IsSomeAnd, drop, length, min, nat_lt, option_and_then, slice_get, take}
 use Rattle.std.specs.Prelude.{if◌then◌else◌}
-use Rattle.std.specs.Str.{IsCharBoundary, chars}
+use Rattle.std.specs.Str.{chars}
 use Rattle.smap_record.specs.Record.{MapRecord}
 use Rattle.smap_text.specs.Lines.{lines_of}
+use Rattle.smap_context.specs.Shown.{IsFrontOf}
 use Rattle.smap_c.specs.Texts.{flag}
 use Rattle.smap_c.specs.declared.lines.LineBytes.{LineBytes}
 use Rattle.smap_c.specs.declared.lines.LineRange.{LineRange}
@@ -34,12 +35,6 @@ abbrev pub around : MapRecord → (source line before after : ℕ) → Option Ar
 around stated source line before after = option_and_then (around_in line before after) (content_of stated source)
 
 -- ---- where they stand
-
--- of the bytes of a line so many stand before the last place within 65,536 at which a character begins or the line ends
-pub record IsFrontOf (line : List ℕ) (bytes : ℕ) : Type 0 where
-  pub boundary : IsCharBoundary line bytes
-  pub within : bytes ≤ 65536
-  pub last : (byte : ℕ) → bytes < byte → byte ≤ 65536 → IsCharBoundary line byte → ⊥
 
 -- of a content that ends with these lines, line k of them stands there
 pub record IsLineAt (content : List ℕ) (lines : List (List ℕ)) (k : ℕ) (place : LineBytes) : Type 0 where

@@ -2,6 +2,5 @@
 pub mod Base
 pub mod FirstLine
 pub mod Lending
-pub mod Lines
 pub mod Places
 pub mod Rewriting

@@ -2,17 +2,15 @@
 ghost use Rattle.std.specs.Prelude.{◌≡◌, ◌<◌, ◌≤◌, ◌+◌, ◌-◌, ℕ, IfSome, IsSome, IsSomeAnd, MatchOption, drop, length, min, nat_lt, option_map, slice_get};
 ghost use Rattle.std.specs.Str.{chars};
 ghost use Rattle.smap_text.specs.Lines.{lines_of};
-ghost use Rattle.smap_c.specs.Lines.{AreLines, IsFrontOf, IsLineAt, around, content_of};
-ghost use Rattle.smap_c.specs.Private.Lines.{IsEndFrom};
+ghost use Rattle.smap_context.specs.Shown.{IsFrontOf};
+ghost use Rattle.smap_c.specs.Lines.{AreLines, IsLineAt, around, content_of};
 ghost use Rattle.smap_c.specs.Texts.{flag};
 
 use crate::handles::MapHandle;
 use crate::status::{DONE, REFUSED};
+use smap_context::{rest_from, shown_bytes};
 use smap_record::MapFile;
 use smap_text::split_line;
-
-// How many bytes of a line are shown at most.
-const MOST_LINE_BYTES: usize = 65536;
 
 /// Where a line stands in the content of its source, in bytes from 0, without its end.
 #[repr(C)]
@@ -100,18 +98,6 @@ fn content_of(file: &MapFile, source: u32) -> Option<&str>
     }
 }
 
-// What a text has from its line of this number on, from 0, where it has that line.
-fn rest_from(text: &str, line: u32) -> Option<&str>
-    ensures { MatchOption result (length (lines_of (chars text.now)) ≤ line)
-        (λ rest. IsEndFrom text.now line rest.now) }
-{
-    let mut rest = text;
-    for _passed in 0..line {
-        rest = split_line(rest).1?;
-    }
-    Some(rest)
-}
-
 // Puts where the lines of the end of a content stand in it, as many as there are, and at most `most`; and says how many.
 fn put_lines(content: &str, rest: &str, most: usize, lines: &mut [LineBytes]) -> usize
     requires end { drop (length content.now - length rest.now) content.now ≡ rest.now }
@@ -139,7 +125,7 @@ fn line_bytes(start: usize, line: &str) -> LineBytes
     ensures front { IsFrontOf line.now result.length }
     ensures cut { result.cut ≡ flag (nat_lt result.length (length line.now)) }
 {
-    let length = line.floor_char_boundary(MOST_LINE_BYTES);
+    let length = shown_bytes(line);
     LineBytes {
         start,
         length,

@@ -21,6 +21,10 @@ is_interval k = nat_le 1 k && nat_le k most_interval
 abbrev pub most_hidden : ℕ
 most_hidden = 16
 
+-- the most lines that may be shown on each side of one
+abbrev pub most_context : ℕ
+most_context = 100
+
 -- the greatest number of bytes that may be kept, and that may be taken
 abbrev pub most_bytes : ℕ
 most_bytes = 9223372036854775807

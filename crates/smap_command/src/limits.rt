@@ -12,6 +12,9 @@ pub const USUAL_INTERVAL: u32 = 64;
 /// The most texts by which lines of frames may be dropped.
 pub const MOST_HIDDEN: usize = 16;
 
+/// The most lines that may be shown on each side of one.
+pub const MOST_CONTEXT: u32 = 100;
+
 /// The greatest number of bytes that may be kept, and that may be taken.
 pub const MOST_BYTES: u64 = 9223372036854775807;
 

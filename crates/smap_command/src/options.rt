@@ -130,6 +130,8 @@ pub struct LocateOptions {
     /// Whether the first mapping at a position or after it answers; else the last one at it or before it.
     pub after: bool,
     pub form: Form,
+    /// How many lines of its source are shown before and behind that of a place that is found: 0 to `MOST_CONTEXT`. As text none is.
+    pub context: Option<u32>,
 }
 
 impl FurtherOptions {

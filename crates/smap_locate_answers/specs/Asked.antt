@@ -12,5 +12,5 @@ asked_of maps options = record {
   list = option_map string_bytes options.list;
   paths = options.paths;
   cache_bytes = unwrap_or options.cache_bytes usual_cache_bytes;
-  options = record { direction = direction_of options.after; form = options.form };
+  options = record { direction = direction_of options.after; form = options.form; context = options.context };
 }

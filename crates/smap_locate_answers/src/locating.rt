@@ -59,6 +59,7 @@ impl<'a, 'r, F: FileReader> LocateRequest<'a, 'r, F> {
             options: AnswerOptions {
                 direction: Direction::of(options.after),
                 form: options.form,
+                context: options.context,
             },
         }
     }

@@ -3,5 +3,6 @@ mod PrintedLaws
 mod EscapeLaws
 pub mod PositionLaws
 pub mod ColumnLaws
+mod ContextLaws
 mod CountLaws
 mod SourceLaws

@@ -10,6 +10,7 @@ use Rattle.smap_index.specs.declared.answer.Answer.TheVariants.{Nothing, Unmappe
 use Rattle.smap_record.specs.Record.{MapRecord}
 use Rattle.smap_record.specs.Sources.{StatedSource}
 use Rattle.smap_record.specs.Written.{is_ignored_where, member_where, text_of_source, value_of_text}
+use Rattle.smap_positions.specs.Context.{context_value, source_context}
 use Rattle.smap_positions.specs.Lookup.{answer_excerpt, lookup_answer}
 use Rattle.smap_positions.specs.declared.options.Direction.{Direction}
 use Rattle.smap_positions.specs.declared.printed_position.PrintedPosition.{PrintedPosition}
@@ -57,22 +58,25 @@ origin_members origin source name more =
     (member (codes "source") (value_of_text (option_and_then text_of_source source))
     (member (codes "sourceIndex") (count origin.source) more))))
 
--- where the mapping comes from that answers and stands at this column; and the excerpt that shows it, where there is one
-abbrev pub found_value : (excerpt url : Option (List ℕ)) → PrintedPosition → (column : ℕ) → Origin → Option StatedSource → (name : Option (List ℕ)) → Data
-found_value excerpt url position column origin source name = object (
+-- where the mapping comes from that answers and stands at this column; the lines around that, up to so many on each side, where they
+-- are asked for and there are some; and the excerpt that shows it, where there is one
+abbrev pub found_value : (most : Option ℕ) → (excerpt url : Option (List ℕ)) → PrintedPosition → (column : ℕ) → Origin → Option StatedSource → (name : Option (List ℕ)) → Data
+found_value most excerpt url position column origin source name = object (
     member (codes "answer") (string (codes "found"))
     (member (codes "column") (count position.column)
+    (member_where (codes "context") (option_map context_value (source_context most source origin.line))
     (member_where (codes "excerpt") (option_map excerpt_value excerpt)
     (member (codes "generatedColumn") (count (column + 1))
     (member (codes "ignored") (boolean (is_ignored_where source))
-    (member (codes "line") (count position.line) (origin_members origin source name (url_members url))))))))
+    (member (codes "line") (count position.line) (origin_members origin source name (url_members url)))))))))
 
--- what a map answers for a position, with the excerpt that shows it, and with the URL that was asked for, where there is one
-abbrev pub answer_value : (excerpt url : Option (List ℕ)) → MapRecord → PrintedPosition → Answer → Data
-answer_value excerpt url stated position Nothing = none_value url position
-answer_value excerpt url stated position (Unmapped column) = unmapped_value url position column
-answer_value excerpt url stated position (Found column origin) =
-    found_value excerpt url position column origin (slice_get stated.sources origin.source) (option_and_then (slice_get stated.names) origin.name)
+-- what a map answers for a position, with so many lines around the place that is found, where they are asked for, with the excerpt that
+-- shows it, and with the URL that was asked for, where there is one
+abbrev pub answer_value : (most : Option ℕ) → (excerpt url : Option (List ℕ)) → MapRecord → PrintedPosition → Answer → Data
+answer_value most excerpt url stated position Nothing = none_value url position
+answer_value most excerpt url stated position (Unmapped column) = unmapped_value url position column
+answer_value most excerpt url stated position (Found column origin) =
+    found_value most excerpt url position column origin (slice_get stated.sources origin.source) (option_and_then (slice_get stated.names) origin.name)
 
 -- ---- the lines
 
@@ -83,4 +87,4 @@ json_line value = compact_text value ++ 10 ∷ []
 abbrev pub lookup_json : Direction → (line column : ℕ) → MapRecord → List ℕ
 lookup_json direction line column stated =
     let answer = lookup_answer direction line column stated in
-    json_line (answer_value (answer_excerpt stated answer) None stated (record { line = line + 1; column = column + 1 }) answer)
+    json_line (answer_value None (answer_excerpt stated answer) None stated (record { line = line + 1; column = column + 1 }) answer)

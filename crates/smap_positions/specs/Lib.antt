@@ -2,6 +2,7 @@ pub mod Position
 pub mod PositionOf
 pub mod Lines
 pub mod Lookup
+pub mod Context
 pub mod Json
 pub mod Positions
 pub mod Places

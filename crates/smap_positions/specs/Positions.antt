@@ -20,11 +20,11 @@ use Rattle.smap_positions.specs.declared.printed_position.PrintedPosition.{Print
 abbrev pub position_answer : Direction → MapRecord → PrintedPosition → Answer
 position_answer direction stated position = lookup_answer direction (position.line - 1) (position.column - 1) stated
 
--- the line for a position, as text, or as JSON with the URL that was asked for, where one was
+-- the line for a position, as text, or as JSON with the lines around it, where they are asked for, and the URL that was, where one was
 abbrev pub asked_line : AnswerOptions → (url : Option (List ℕ)) → MapRecord → PrintedPosition → List ℕ
 asked_line options url stated position =
     let answer = position_answer options.direction stated position in
-    if is_json options.form then json_line (answer_value None url stated position answer) else answer_line stated answer
+    if is_json options.form then json_line (answer_value options.context None url stated position answer) else answer_line stated answer
 
 -- the same without one; and the line for what is no position
 abbrev pub position_line : AnswerOptions → MapRecord → Option PrintedPosition → List ℕ

@@ -1,6 +1,7 @@
 -- What contracts of private functions alone cite.
 pub mod Answerer
 pub mod GrowingText
+pub mod Lines
 pub mod ShortText
 pub mod GatheredLine
 pub mod Escapes

@@ -11,6 +11,7 @@ ghost use Rattle.smap_positions.specs.Mappings.{bare_value, mapped_value, mappin
 ghost use Rattle.smap_positions.specs.Private.Members.{excerpt_member, ignored_member};
 
 use crate::answer::{from_one, name_at};
+use crate::context_form::put_context;
 use crate::map_text::put_json_text;
 use crate::output::{Output, put_number};
 use smap_record::{Answer, MapFile, Mapping, Origin, SourceEntry, is_ignored, source_name};
@@ -29,18 +30,19 @@ pub fn put_bad_position<O: Output>(output: &mut O)
     output.put(b"{\"answer\":\"bad position\"}\n");
 }
 
-/// Puts the line for what a map answers for a position, with this excerpt of what was found, and with the URL that was asked
-/// for, where one was.
+/// Puts the line for what a map answers for a position, with so many lines around what was found, where they are asked for, with
+/// this excerpt of it, and with the URL that was asked for, where one was.
 pub fn put_answer_object<O: Output>(
     map: &MapFile,
     asked: AskedPosition,
     url: Option<&str>,
     answer: &Answer,
+    context: Option<u32>,
     excerpt: Option<&str>,
     output: &mut O,
 )
     ensures { O.Puts output.old output.new (json_line
-        (answer_value (option_map (λ excerpt. excerpt.now) excerpt.entry)
+        (answer_value context (option_map (λ excerpt. excerpt.now) excerpt.entry)
         (option_map (λ url. url.now) url.entry) map.now.stated
         (record { line = asked.line; column = asked.column }) answer.now)) }
 {
@@ -52,7 +54,16 @@ pub fn put_answer_object<O: Output>(
         Answer::Found {
             column: generated_column,
             origin,
-        } => put_found(map, asked, url, *generated_column, origin, excerpt, output),
+        } => put_found(
+            map,
+            asked,
+            url,
+            *generated_column,
+            origin,
+            context,
+            excerpt,
+            output,
+        ),
     }
     output.put(b"\n");
 }
@@ -111,11 +122,12 @@ fn put_found<O: Output>(
     url: Option<&str>,
     generated_column: u32,
     origin: &Origin,
+    context: Option<u32>,
     excerpt: Option<&str>,
     output: &mut O,
 )
     ensures { O.Puts output.old output.new (compact_text
-        (found_value (option_map (λ excerpt. excerpt.now) excerpt.entry)
+        (found_value context (option_map (λ excerpt. excerpt.now) excerpt.entry)
         (option_map (λ url. url.now) url.entry)
         (record { line = asked.line; column = asked.column }) generated_column origin.now
         (slice_get map.now.stated.sources origin.now.source)
@@ -123,6 +135,7 @@ fn put_found<O: Output>(
 {
     let entry = map.source(origin.source);
     put_number(b"{\"answer\":\"found\",\"column\":", asked.column, output);
+    put_context(entry, origin.line, context, output);
     put_excerpt(excerpt, output);
     put_number(b",\"generatedColumn\":", from_one(generated_column), output);
     put_ignored(entry, output);

@@ -5,7 +5,7 @@
 //! ```text
 //! let text = lookup_text(alloc, &map, 0, 5, Direction::AtOrBefore)?;
 //! let position = read_position(b"12:7")?;
-//! let options = AnswerOptions { direction: Direction::AtOrAfter, form: Form::Json };
+//! let options = AnswerOptions { direction: Direction::AtOrAfter, form: Form::Json, context: Some(2) };
 //! let summary = answer_positions(alloc, &mut input, &mut output, &map, options)?;
 //! let options = MappingsOptions { line: Some(0), form: Form::Text };
 //! print_mappings(alloc, &map, options, &mut output)?;
@@ -17,6 +17,7 @@
 mod answer;
 mod answerer;
 mod answering;
+mod context_form;
 mod gathered_line;
 mod generated;
 mod growing_text;

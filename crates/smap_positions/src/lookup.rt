@@ -52,6 +52,14 @@ pub fn lookup_as_json(
         line: from_one(line),
         column: from_one(column),
     };
-    put_answer_object(map, asked, None, &answer, excerpt.as_deref(), &mut text);
+    put_answer_object(
+        map,
+        asked,
+        None,
+        &answer,
+        None,
+        excerpt.as_deref(),
+        &mut text,
+    );
     text.text()
 }

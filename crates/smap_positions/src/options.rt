@@ -31,6 +31,8 @@ impl Direction {
 pub struct AnswerOptions {
     pub direction: Direction,
     pub form: Form,
+    /// How many lines of its source stand in JSON before and behind that of a place that is found, where they are to.
+    pub context: Option<u32>,
 }
 
 /// Which mappings of a map are reported, and how.

@@ -124,7 +124,7 @@ pub fn put_answer<O: Output>(
             line: u64::from(position.line),
             column: u64::from(position.column),
         };
-        put_answer_object(map, asked, url, &answer, None, output)
+        put_answer_object(map, asked, url, &answer, options.context, None, output)
     } else {
         put_answer_line(map, &answer, output)
     }

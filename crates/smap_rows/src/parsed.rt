@@ -273,6 +273,9 @@ fn locating_text(
     let mut text = format!(in alloc; "locate{base} every {interval} cache {cache_bytes}")?;
     text.push_str(flag_text(options.after, " after"))?;
     text.push_str(form_text(options.form))?;
+    if let Some(lines) = options.context {
+        text.push_str(&format!(in alloc; " with {lines}")?)?;
+    }
     text.push_str(flag_text(options.paths, " by paths"))?;
     with_pairs(alloc, text, options.list.as_deref(), maps)
 }

@@ -2,8 +2,8 @@ use Rattle.std.proofs.Common.{ap, rules}
 use Rattle.std.specs.Prelude.{option_copied}
 use Rattle.std.specs.Str.{chars}
 use Rattle.smap_text.specs.Lines.{lines_behind}
-use Rattle.smap_c.proofs.LineLaws.{ends_next, ends_there, ends_whole}
-use Rattle.smap_c.proofs.lines.rest_from.Goals as goal
+use Rattle.smap_context.proofs.EndLaws.{ends_next, ends_there, ends_whole}
+use Rattle.smap_context.proofs.rest.rest_from.Goals as goal
 
 pub loop-passed-init : goal.loop-passed-init
 loop-passed-init c = (search rules, ends_whole c.args.text.now)

@@ -1,7 +1,7 @@
 use denote.Text.{Utf8}
 use denote.Shadow.{shadow}
-use Rattle.smap_c.specs.Private.Lines.{IsEndFrom}
-use Rattle.smap_c.proofs.lines.rest_from.Given as goal
+use Rattle.smap_context.specs.Rest.{IsEndFrom}
+use Rattle.smap_context.proofs.rest.rest_from.Given as goal
 
 -- so many lines are passed
 abbrev pub invariant-loop-passed : goal.invariant-loop-passed
