@@ -1,5 +1,5 @@
 -- Laws of what is noted of URLs: with one naming more, the notes are those after it.
-use Rattle.std.specs.Prelude.{◌≡◌, ◌+◌, ◌||◌, ℕ, Bool, true, false, List, [], ◌∷◌, ◌++◌, Some, cond, filter, fold, length, map, nat_le, ⊤}
+use Rattle.std.specs.Prelude.{◌≡◌, ◌+◌, ◌||◌, ℕ, Bool, true, false, List, [], ◌∷◌, ◌++◌, MatchBool, Some, cond, filter, fold, length, map, nat_le, ⊤}
 use Rattle.std.specs.List.{list_any}
 use Rattle.std.specs.Option.{option_or}
 use Rattle.std.specs.Str.{bytes_eq}
@@ -9,8 +9,9 @@ use Rattle.std.proofs.lemmas.List.Elements.{filter-append}
 use Rattle.std.proofs.lemmas.List.Folds.{list_any-append}
 use Rattle.std.proofs.lemmas.List.Sums.{fold-append}
 use Rattle.std.proofs.lemmas.Slice.Eq.{bytes_eq-Decides}
-use Rattle.smap_trace.specs.UrlNotes.{NamingSeen, UrlNoteSeen, as_counted, first_unmapped, first_urls, names, note_of, note_with, noted, with_url}
-use Rattle.smap_trace.specs.Private.Noting.{first_note, is_of, noting, place_where, with_naming, with_one}
+use Rattle.smap_trace.specs.Noted.{AreNotesOf}
+use Rattle.smap_trace.specs.UrlNotes.{NamingSeen, NotesSeen, UrlNoteSeen, as_counted, first_unmapped, first_urls, names, note_of, note_with, noted, with_url}
+use Rattle.smap_trace.specs.Private.Noting.{IsNoted, first_note, is_of, noting, place_where, with_naming, with_one}
 
 -- ---- texts
 
@@ -220,13 +221,13 @@ module _ (naming : NamingSeen) (namings : List NamingSeen) where
         unmapped = place_where naming.unmapped naming.line naming.column;
       })
 
-  noted_at : (urls : List (List ℕ)) (any full : Bool) → list_any (bytes_eq naming.url) urls ≡ any → AllDiffer urls
+  noted_in : (urls : List (List ℕ)) (any full : Bool) → list_any (bytes_eq naming.url) urls ≡ any → AllDiffer urls
       → (any ≡ false → full ≡ false → filter (names naming.url) namings ≡ [])
       → cond any (with_one naming (Now naming namings urls)) (cond full (Now naming namings urls) (Now naming namings urls ++ first_note naming ∷ []))
       ≡ More naming namings (cond (any || full) urls (urls ++ naming.url ∷ []))
-  noted_at urls true full e differ none = one_more naming namings urls differ e
-  noted_at urls false true e differ none = same_others naming namings urls e
-  noted_at urls false false e differ none =
+  noted_in urls true full e differ none = one_more naming namings urls differ e
+  noted_in urls false true e differ none = same_others naming namings urls e
+  noted_in urls false false e differ none =
       (λ i. same_others naming namings urls e i ++ sym (first_is (none refl refl)) i ∷ [])
       ∙ sym (map-append (note_of (namings ++ naming ∷ [])) urls (naming.url ∷ []))
 
@@ -241,5 +242,17 @@ module _ (naming : NamingSeen) (namings : List NamingSeen) where
       (there naming namings urls)
       ∙ ap (λ n. cond (list_any (bytes_eq naming.url) urls) (with_one naming (noted namings)) (cond (nat_le 100 n) (noted namings) (noted namings ++ first_note naming ∷ [])))
       (length-map urls (note_of namings))
-      ∙ noted_at urls (list_any (bytes_eq naming.url) urls) (nat_le 100 (length urls)) refl (all_differ namings [] tt) (none_named naming.url namings [])
+      ∙ noted_in urls (list_any (bytes_eq naming.url) urls) (nat_le 100 (length urls)) refl (all_differ namings [] tt) (none_named naming.url namings [])
       ∙ ap (map (note_of (namings ++ naming ∷ []))) (sym urls_more)
+
+-- the notes of some namings, after one more
+noted_at : (namings : List NamingSeen) (naming : NamingSeen) (old new : NotesSeen) (was short : Bool) → old.is_short ≡ was → new.is_short ≡ short
+    → MatchBool was ⊤ (old.notes ≡ noted namings) → MatchBool short ⊤ ((old.is_short ≡ false) × (new.notes ≡ noting old.notes naming))
+    → MatchBool short ⊤ (new.notes ≡ noted (namings ++ naming ∷ []))
+noted_at namings naming old new was true e f are is = tt
+noted_at namings naming old new true false e f are is = absurd (let both = sym e ∙ is.0 in cc)
+noted_at namings naming old new false false e f are is = is.1 ∙ ap (λ l. noting l naming) are ∙ noted_more naming namings
+
+pub noted_after : (namings : List NamingSeen) (naming : NamingSeen) (old new : NotesSeen) → AreNotesOf namings old → IsNoted old naming new
+    → AreNotesOf (namings ++ naming ∷ []) new
+noted_after namings naming old new are is = noted_at namings naming old new old.is_short new.is_short refl refl are is

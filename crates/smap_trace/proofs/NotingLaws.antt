@@ -1,5 +1,5 @@
 -- Laws of the editor that notes frames: its steps are those of a trace whose namings are kept, and its notes are theirs.
-use Rattle.std.specs.Prelude.{◌≡◌, ◌+◌, ℕ, Bool, true, false, List, [], ◌∷◌, ◌++◌, Option, Some, None, MatchBool, ⊤}
+use Rattle.std.specs.Prelude.{◌≡◌, ◌+◌, ℕ, Bool, true, false, List, [], ◌∷◌, ◌++◌, Option, Some, None, MatchBool}
 use Rattle.std.proofs.Common.{ap, refl, subst, sym, ◌∙◌}
 use Rattle.std.proofs.lemmas.List.{append-nil}
 use Rattle.smap_lines.specs.Edited.{StepsLines, is_short}
@@ -13,13 +13,11 @@ use Rattle.smap_trace.specs.Hiding.{HidingSeen, hiding_seen}
 use Rattle.smap_trace.specs.Noted.{AreNotesOf, NamedNow, NamedStep, RewritesNoted, named_start, namings_in}
 use Rattle.smap_trace.specs.NotesSeen.{notes_seen}
 use Rattle.smap_trace.specs.Rewriting.{TraceStep}
-use Rattle.smap_trace.specs.UrlNotes.{NamingSeen, NotesSeen, noted}
+use Rattle.smap_trace.specs.UrlNotes.{NamingSeen, NotesSeen}
 use Rattle.smap_trace.specs.Private.FrameRewriter.{trace_now}
-use Rattle.smap_trace.specs.Private.Noting.{noting}
 use Rattle.smap_trace.specs.Private.NotingRewriter.{IsLineNoted, NotingSteps}
 use Rattle.smap_trace.specs.Laws.Rewriter.{step_seen}
 use Rattle.smap_trace.specs.declared.noting_rewriter.NotingRewriter.{NotingRewriter}
-use Rattle.smap_trace.proofs.NotesLaws.{noted_more}
 
 -- ---- an editor that goes on as another, which it does not determine
 
@@ -61,19 +59,11 @@ module _ {E F : Type 0} (Steps : E → Line → List ℕ → E → Type 0) (More
 
 -- ---- a line
 
-noted_after : (namings : List NamingSeen) (naming : NamingSeen) (old new : NotesSeen) (was short : Bool) → old.is_short ≡ was → new.is_short ≡ short
-    → MatchBool was ⊤ (old.notes ≡ noted namings) → MatchBool short ⊤ ((old.is_short ≡ false) × (new.notes ≡ noting old.notes naming))
-    → MatchBool short ⊤ (new.notes ≡ noted (namings ++ naming ∷ []))
-noted_after namings naming old new was true e f are is = tt
-noted_after namings naming old new true false e f are is = absurd (let both = sym e ∙ is.0 in cc)
-noted_after namings naming old new false false e f are is = is.1 ∙ ap (λ l. noting l naming) are ∙ noted_more naming namings
-
 line_noted : (hide : HidingSeen) (found : (url : List ℕ) → Option MapRecord) (parts : Option FrameParts) (namings : List NamingSeen) (old new : NotesSeen)
     → AreNotesOf namings old → IsLineNoted hide found parts old new → AreNotesOf (namings ++ namings_in hide found parts) new
 line_noted hide found None namings old new are is =
     subst (λ n. AreNotesOf (namings ++ []) n) (sym is) (subst (λ l. AreNotesOf l old) (sym (append-nil namings)) are)
-line_noted hide found (Some parts) namings old new are is =
-    noted_after namings _ old new old.is_short new.is_short refl refl are is
+line_noted hide found (Some parts) namings old new are is = is namings are
 
 -- ---- the editor
 

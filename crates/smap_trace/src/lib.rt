@@ -41,4 +41,4 @@ pub use printed::{MOST_PRINTED_BYTES, print_place};
 pub use refusal::TableRefusal;
 pub use rewriting::{NotingOptions, RewriteOptions, rewrite, rewrite_noting, rewrite_over};
 pub use table::{Table, is_bad_url};
-pub use url_notes::{UrlNote, UrlNotes};
+pub use url_notes::{Naming, UrlNote, UrlNotes};

@@ -1,24 +1,26 @@
 //! What a trace came to, URL by URL.
-ghost use Rattle.std.specs.Prelude.{◌≡◌, ◌++◌, ◌∷◌, [], false, ⊤, IfOk, MatchBool, map, position};
+ghost use Rattle.std.specs.Prelude.{◌≡◌, ◌++◌, ◌∷◌, [], List, false, ⊤, IfOk, MatchBool, map, position};
+ghost use Rattle.smap_trace.specs.Noted.{AreNotesOf};
 ghost use Rattle.smap_trace.specs.Private.Noting.{IsNoted, first_note, is_of, place_where, with_naming, with_one};
 ghost use Rattle.smap_trace.specs.NotesSeen.{naming_seen, note_seen, notes_seen};
+ghost use Rattle.smap_trace.specs.UrlNotes.{NamingSeen};
 
 use std::alloc::{AllocError, Global};
 
 // How many URLs are noted.
 const MOST_URLS: usize = 100;
 
-// A frame that names a URL, and what became of it.
+/// A frame, or a place, that names a URL, and what became of it. Its line and its column count from 1.
 #[derive(Clone, Copy)]
 pub struct Naming<'a> {
     pub url: &'a [u8],
     pub line: u32,
     pub column: u32,
-    // Whether a map was found for the URL.
+    /// Whether a map was found for the URL.
     pub found: bool,
-    // Whether the frame was replaced.
+    /// Whether it was replaced.
     pub mapped: bool,
-    // Whether the frame stays though there is a map.
+    /// Whether it stays though there is a map.
     pub unmapped: bool,
 }
 
@@ -26,18 +28,18 @@ pub struct Naming<'a> {
 #[derive(Drop)]
 pub struct UrlNote {
     pub url: Vec<u8>,
-    /// How many frames name it, up to 18,446,744,073,709,551,615.
+    /// How many frames or places name it, up to 18,446,744,073,709,551,615.
     pub frames: u64,
     /// How many of these were replaced.
     pub mapped: u64,
     /// Whether a map was found for it.
     pub found: bool,
-    /// The line and the column of the first of these frames that stays though there is a map: this has no mapping there, or
-    /// one without a source whose name can be printed. They count from 1.
+    /// The line and the column of the first of these that stays though there is a map: this has no mapping there, or one
+    /// without a source whose name can be put there. They count from 1.
     pub unmapped: Option<(u32, u32)>,
 }
 
-/// What is noted of the first 100 different URLs that frames name, in the order in which they do so first.
+/// What is noted of the first 100 different URLs that frames or places name, in the order in which they do so first.
 #[derive(Drop)]
 pub struct UrlNotes {
     alloc: Global,
@@ -58,8 +60,16 @@ impl UrlNotes {
         }
     }
 
-    // Notes one naming more.
-    pub(crate) fn note(&mut self, naming: &Naming<'_>)
+    /// Notes one naming more.
+    pub fn note(&mut self, naming: &Naming<'_>)
+        ensures { (namings : List NamingSeen) → AreNotesOf namings (notes_seen self.old) →
+            AreNotesOf (namings ++ naming_seen naming.now ∷ []) (notes_seen self.new) }
+    {
+        self.note_one(naming);
+    }
+
+    // The same, from the notes alone.
+    fn note_one(&mut self, naming: &Naming<'_>)
         ensures { IsNoted (notes_seen self.old) (naming_seen naming.now) (notes_seen self.new) }
     {
         if let Some(place) = place_of(&self.notes, naming.url) {

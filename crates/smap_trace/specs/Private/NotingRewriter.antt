@@ -1,22 +1,23 @@
 -- The editor that rewrites the frames of a trace, notes what became of them, and counts the places of other lines.
-use Rattle.std.specs.Prelude.{◌≡◌, ℕ, List, Option, Some, None, true}
+use Rattle.std.specs.Prelude.{◌≡◌, ℕ, List, [], ◌∷◌, ◌++◌, Option, Some, None, true}
 use Rattle.smap_lines.specs.Lines.{Line}
 use Rattle.smap_record.specs.Record.{MapRecord}
 use Rattle.smap_trace.specs.Frame.{FrameParts}
 use Rattle.smap_trace.specs.FrameOf.{frame_of}
 use Rattle.smap_trace.specs.Hiding.{HidingSeen, hiding_seen}
+use Rattle.smap_trace.specs.Noted.{AreNotesOf}
 use Rattle.smap_trace.specs.NotesSeen.{notes_seen}
-use Rattle.smap_trace.specs.UrlNotes.{NotesSeen, naming_in}
+use Rattle.smap_trace.specs.UrlNotes.{NamingSeen, NotesSeen, naming_in}
 use Rattle.smap_trace.specs.Passed.{passed_in}
 use Rattle.smap_trace.specs.Private.FrameRewriter.{RewriterBecomes, RewriterReaches, RewriterSteps, room_of}
-use Rattle.smap_trace.specs.Private.Noting.{IsNoted}
 use Rattle.smap_trace.specs.Private.Passing.{passed_after}
 use Rattle.smap_trace.specs.declared.noting_rewriter.NotingRewriter.{NotingRewriter}
 
 -- a line was noted, where it is a frame, over what is found for its URL
 abbrev pub IsLineNoted : (hide : HidingSeen) → (found : (url : List ℕ) → Option MapRecord) → Option FrameParts → (old new : NotesSeen) → Type 0
 IsLineNoted hide found None old new = new ≡ old
-IsLineNoted hide found (Some parts) old new = IsNoted old (naming_in hide parts (found parts.url)) new
+IsLineNoted hide found (Some parts) old new =
+    (namings : List NamingSeen) → AreNotesOf namings old → AreNotesOf (namings ++ naming_in hide parts (found parts.url) ∷ []) new
 
 -- what a line may become
 abbrev pub NotingBecomes : {M P : Type 0} → (Gives : M → (url : List ℕ) → Option MapRecord → Type 0) → NotingRewriter M P → Line → (text : List ℕ) → Type 0
