@@ -20,6 +20,7 @@ pub mod PatternExamples
 pub mod PatternUrlLaws
 pub mod PatternLaws
 pub mod PatternFindLaws
+pub mod SeemingLaws
 pub mod CutLaws
 pub mod ThroughLaws
 pub mod RewritingLaws

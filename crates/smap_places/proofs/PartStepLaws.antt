@@ -4,8 +4,9 @@ use Rattle.std.specs.List.{FoldsTo}
 use Rattle.smap_record.specs.Record.{MapRecord}
 use Rattle.smap_trace.specs.Laws.Looked.{looked_both, looked_none, looked_one}
 use Rattle.smap_trace.specs.Rewriting.{Looked}
+use Rattle.smap_trace.specs.UrlNotes.{NamingSeen}
 use Rattle.smap_places.specs.Places.{Part, found, other}
-use Rattle.smap_places.specs.PlacesOver.{MayBe, MayBecome, PartStep, PlacesNow}
+use Rattle.smap_places.specs.PlacesOver.{MayBe, MayBecome, PartStep, PlacesNow, naming_of}
 use Rattle.smap_places.specs.PlacesRewritten.{replacement}
 
 -- ---- what parts may become
@@ -70,7 +71,7 @@ module _ {M : Type 0} (Finds : M → (url : List ℕ) → M → Type 0) (under :
   steps_both old mid new (part ∷ parts) more one two = (one.0, one.1, steps_both one.0 mid new parts more one.2 two)
 
   abbrev pub with_text : PlacesNow M → (text : List ℕ) → PlacesNow M
-  with_text now text = record { maps = now.maps; text = text; places = now.places; mapped = now.mapped }
+  with_text now text = record { maps = now.maps; text = text; places = now.places; mapped = now.mapped; namings = now.namings }
 
   -- bytes that belong to no place
   pub steps_others : (bytes : List ℕ) (old : PlacesNow M) → Steps old (map other bytes) (with_text old (old.text ++ bytes))
@@ -79,25 +80,29 @@ module _ {M : Type 0} (Finds : M → (url : List ℕ) → M → Type 0) (under :
       let mid : PlacesNow M = with_text old (old.text ++ byte ∷ []) in
       (mid, refl, subst (λ l. Steps mid (map other bytes) (with_text old l)) (append_assoc old.text (byte ∷ []) bytes) (steps_others bytes mid))
 
-  -- the same behind another text
-  abbrev behind : (front : List ℕ) → PlacesNow M → PlacesNow M
-  behind front now = with_text now (front ++ now.text)
+  -- the same behind another text and other namings
+  abbrev behind : (front : List ℕ) → (first : List NamingSeen) → PlacesNow M → PlacesNow M
+  behind front first now =
+      record { maps = now.maps; text = front ++ now.text; places = now.places; mapped = now.mapped; namings = first ++ now.namings }
 
-  part_behind : (front : List ℕ) (old new : PlacesNow M) (part : Part) → PartStep Finds under old part new
-      → PartStep Finds under (behind front old) part (behind front new)
-  part_behind front old new (other byte) is = ap (behind front) is ∙ ap (with_text old) (sym (append_assoc front old.text (byte ∷ [])))
-  part_behind front old new (found place bytes) is = record {
+  part_behind : (front : List ℕ) (first : List NamingSeen) (old new : PlacesNow M) (part : Part) → PartStep Finds under old part new
+      → PartStep Finds under (behind front first old) part (behind front first new)
+  part_behind front first old new (other byte) is =
+      ap (behind front first) is ∙ ap (with_text (behind front first old)) (sym (append_assoc front old.text (byte ∷ [])))
+  part_behind front first old new (found place bytes) is = record {
     finds = is.finds;
     text_is = ap (λ l. front ++ l) is.text_is
         ∙ sym (append_assoc front old.text (unwrap_or (replacement (under new.maps place.url) place) bytes));
     places = is.places;
     mapped = is.mapped;
+    named = ap (λ l. first ++ l) is.named ∙ sym (append_assoc first old.namings (naming_of place (under new.maps place.url) ∷ []));
   }
 
-  pub steps_behind : (front : List ℕ) (old new : PlacesNow M) (parts : List Part) → Steps old parts new → Steps (behind front old) parts (behind front new)
-  steps_behind front old new [] is = ap (behind front) is
-  steps_behind front old new (part ∷ parts) is =
-      (behind front is.0, part_behind front old is.0 part is.1, steps_behind front is.0 new parts is.2)
+  pub steps_behind : (front : List ℕ) (first : List NamingSeen) (old new : PlacesNow M) (parts : List Part) → Steps old parts new
+      → Steps (behind front first old) parts (behind front first new)
+  steps_behind front first old new [] is = ap (behind front first) is
+  steps_behind front first old new (part ∷ parts) is =
+      (behind front first is.0, part_behind front first old is.0 part is.1, steps_behind front first is.0 new parts is.2)
 
   -- the maps after it
   part_looked : (old new : PlacesNow M) (part : Part) → PartStep Finds under old part new → Looked Finds old.maps new.maps
@@ -153,7 +158,8 @@ module _ {M : Type 0} (Gives : M → (url : List ℕ) → Option MapRecord → T
 
     -- from the beginning of a text on
     pub became_may : (old : M) (new : PlacesNow M) (parts : List Part) (places mapped : ℕ)
-        → FoldsTo (PartStep Finds under) (record { maps = old; text = []; places = places; mapped = mapped }) parts new → MayBecome (Gives old) parts new.text
+        → FoldsTo (PartStep Finds under) (record { maps = old; text = []; places = places; mapped = mapped; namings = [] }) parts new
+        → MayBecome (Gives old) parts new.text
     became_may old new parts places mapped is =
-        let all = steps_may (record { maps = old; text = []; places = places; mapped = mapped }) new parts is in
+        let all = steps_may (record { maps = old; text = []; places = places; mapped = mapped; namings = [] }) new parts is in
         subst (MayBecome (Gives old) parts) (sym all.2) all.1

@@ -1,7 +1,7 @@
 -- A window of a text, passed place by place.
-use Rattle.std.proofs.Common.{◌≡◌, ◌+◌, ◌-◌, ◌<◌, ◌≤◌, ℕ, cond, List, [], ◌∷◌, ◌++◌, length, take, drop, map, max, Option, Some}
+use Rattle.std.proofs.Common.{◌≡◌, ◌+◌, ◌-◌, ◌<◌, ◌≤◌, ℕ, Bool, cond, List, [], ◌∷◌, ◌++◌, length, take, drop, map, max, Option, Some}
 use Rattle.std.proofs.Common.{None, is_some, unwrap_or}
-use Rattle.std.proofs.Common.{refl, sym, ap, subst, ◌∙◌, arith, append_assoc, length-append, length-drop}
+use Rattle.std.proofs.Common.{refl, sym, ap, subst, ◌∙◌, arith, append_assoc, append-nil, length-append, length-drop}
 use Rattle.std.specs.Prelude.{slice_range}
 use Rattle.std.proofs.Math.Seq.{drop-append-add}
 use Rattle.std.proofs.lemmas.List.{drop-append-le, take-append-le}
@@ -10,12 +10,15 @@ use Rattle.smap_lines.specs.LineOutput.{FailsToPut, Puts}
 use Rattle.smap_lines.specs.Laws.Put.{fails_second, puts_both, puts_none, takes_both}
 use Rattle.smap_lines.specs.declared.line_output.LineOutput.{LineOutput}
 use Rattle.smap_record.specs.Record.{MapRecord}
+use Rattle.smap_trace.specs.Noted.{AreNotesOf}
+use Rattle.smap_trace.specs.NotesSeen.{notes_seen}
 use Rattle.smap_trace.specs.Rewriting.{Looked}
+use Rattle.smap_trace.specs.UrlNotes.{NamingSeen, NotesSeen}
 use Rattle.smap_places.specs.PlaceSeen.{IsNext, NoneBetween, place_seen}
 use Rattle.smap_places.specs.Places.{Part, PlaceUrl, begun_at, found, other}
-use Rattle.smap_places.specs.PlacesOver.{PlacesNow}
+use Rattle.smap_places.specs.PlacesOver.{PlacesNow, naming_of}
 use Rattle.smap_places.specs.PlacesRewritten.{replacement}
-use Rattle.smap_places.specs.Private.PlaceRewriter.{FailsToWrite, IsPassed, IsSameRewriter, Shows, Writes, parts_at, places_now}
+use Rattle.smap_places.specs.Private.PlaceRewriter.{AreNoted, FailsToWrite, IsPassed, IsSameRewriter, Shows, Writes, parts_at, places_now}
 use Rattle.smap_places.specs.declared.place.FoundPlace.{FoundPlace}
 use Rattle.smap_places.specs.declared.place_rewriter.PlaceRewriter.{PlaceRewriter}
 use Rattle.smap_places.proofs.CountLaws.{bit}
@@ -103,6 +106,16 @@ module _ (begins : List ℕ → List ℕ → Option PlaceUrl) (window : List ℕ
         (parts_at begins (before ++ (window ++ later)) (length before + place.end)));
   }
 
+-- ---- what was noted so far
+
+noted_none : (on : Bool) (notes : NotesSeen) → AreNoted on [] notes notes
+noted_none on notes before are is = subst (λ l. AreNotesOf l notes) (sym (append-nil before)) (are is)
+
+noted_both : (on : Bool) (first second : List NamingSeen) (old mid new : NotesSeen) → AreNoted on first old mid → AreNoted on second mid new
+    → AreNoted on (first ++ second) old new
+noted_both on first second old mid new one two before are is =
+    subst (λ l. AreNotesOf l new) (append_assoc before first second) (two (before ++ first) (one before are) is)
+
 -- ---- what was put so far
 
 -- the bytes of a window up to a place, and what stands in its stead
@@ -115,8 +128,10 @@ module _ {M W : Type 0} (begins : List ℕ → List ℕ → Option PlaceUrl) (Fi
   pub record IsDone (new : PlaceRewriter M) (after : LineOutput W) (to : ℕ) : Type 0 where
     pub parts : List Part
     pub text : List ℕ
+    pub namings : List NamingSeen
     pub passed : IsPassed begins window from high to parts
-    pub steps : Steps Finds under (places_now old []) parts (places_now new text)
+    pub steps : Steps Finds under (places_now old [] []) parts (places_now new text namings)
+    pub noted : AreNoted old.is_noted namings (notes_seen old.notes.now) (notes_seen new.notes.now)
     pub puts : Puts seen before after text
     pub same : IsSameRewriter old new
     pub few_places : new.places + from ≤ old.places + to
@@ -126,17 +141,19 @@ module _ {M W : Type 0} (begins : List ℕ → List ℕ → Option PlaceUrl) (Fi
   done_none within = record {
     parts = [];
     text = [];
+    namings = [];
     passed = passed_none begins window high from within;
     steps = refl;
+    noted = noted_none old.is_noted (notes_seen old.notes.now);
     puts = puts_none before;
-    same = (refl, refl);
+    same = (refl, refl, refl, refl);
     few_places = omega arith;
     few_mapped = omega arith;
   }
 
   module _ (now : PlaceRewriter M) (mid : LineOutput W) (to : ℕ) (is : IsDone now mid to) where
     pub done_looked : Looked Finds old.maps.now now.maps.now
-    done_looked = steps_looked Finds under (places_now old []) (places_now now is.text) is.parts is.steps
+    done_looked = steps_looked Finds under (places_now old [] []) (places_now now is.text is.namings) is.parts is.steps
 
     -- the place after it
     module _ (place : FoundPlace) (maps : M) (finds : Finds now.maps.now place.url.now maps) where
@@ -152,20 +169,22 @@ module _ {M W : Type 0} (begins : List ℕ → List ℕ → Option PlaceUrl) (Fi
         text = is.text ++ place_text window to place stated;
         places = now.places + 1;
         mapped = now.mapped + cond (is_some (replacement stated (place_seen place))) 1 0;
+        namings = is.namings ++ naming_of (place_seen place) stated ∷ [];
       }
 
-      place_steps : Steps Finds under (places_now old []) (is.parts ++ more) then_now
+      place_steps : Steps Finds under (places_now old [] []) (is.parts ++ more) then_now
       place_steps =
           let slice : List ℕ = slice_range window to place.start in
-          steps_both Finds under (places_now old []) (places_now now is.text) then_now is.parts more is.steps
-          (steps_both Finds under (places_now now is.text) (places_now now (is.text ++ slice)) then_now (map other slice)
-          (found (place_seen place) (slice_range window place.start place.end) ∷ []) (steps_others Finds under slice (places_now now is.text)) (
+          steps_both Finds under (places_now old [] []) (places_now now is.text is.namings) then_now is.parts more is.steps
+          (steps_both Finds under (places_now now is.text is.namings) (places_now now (is.text ++ slice) is.namings) then_now (map other slice)
+          (found (place_seen place) (slice_range window place.start place.end) ∷ []) (steps_others Finds under slice (places_now now is.text is.namings)) (
             then_now,
             record {
               finds = finds;
               text_is = sym (append_assoc is.text slice (unwrap_or (replacement stated (place_seen place)) (slice_range window place.start place.end)));
               places = refl;
               mapped = refl;
+              named = refl;
             },
             refl,
           ))
@@ -177,17 +196,23 @@ module _ {M W : Type 0} (begins : List ℕ → List ℕ → Option PlaceUrl) (Fi
 
         -- it was put
         pub done_place : (new : PlaceRewriter M) → Puts seen mid after (place_text window to place stated) → maps ≡ new.maps.now → IsSameRewriter now new →
-            new.places ≡ now.places + 1 → new.mapped ≡ now.mapped + cond (is_some (replacement stated (place_seen place))) 1 0 → IsDone new after place.end
-        done_place new put maps_are same places mapped =
+            new.places ≡ now.places + 1 → new.mapped ≡ now.mapped + cond (is_some (replacement stated (place_seen place))) 1 0
+            → AreNoted now.is_noted (naming_of (place_seen place) stated ∷ []) (notes_seen now.notes.now) (notes_seen new.notes.now) → IsDone new after place.end
+        done_place new put maps_are same places mapped noted =
             let text : List ℕ = is.text ++ place_text window to place stated in
-            let state : then_now ≡ places_now new text = λ i. record { maps = maps_are i; text = text; places = sym places i; mapped = sym mapped i } in
+            let one : List NamingSeen = naming_of (place_seen place) stated ∷ [] in
+            let state : then_now ≡ places_now new text (is.namings ++ one) =
+            λ i. record { maps = maps_are i; text = text; places = sym places i; mapped = sym mapped i; namings = is.namings ++ one } in
             record {
               parts = is.parts ++ more;
               text = text;
+              namings = is.namings ++ one;
               passed = place_passed;
-              steps = subst (Steps Finds under (places_now old []) (is.parts ++ more)) state place_steps;
+              steps = subst (Steps Finds under (places_now old [] []) (is.parts ++ more)) state place_steps;
+              noted = noted_both old.is_noted is.namings one (notes_seen old.notes.now) (notes_seen now.notes.now) (notes_seen new.notes.now) is.noted
+                  (subst (λ on. AreNoted on one (notes_seen now.notes.now) (notes_seen new.notes.now)) is.same.3 noted);
               puts = puts_both is.puts put;
-              same = (same.0 ∙ is.same.0, same.1 ∙ is.same.1);
+              same = (same.0 ∙ is.same.0, same.1 ∙ is.same.1, same.2 ∙ is.same.2, same.3 ∙ is.same.3);
               few_places = omega (arith, places, is.few_places, next.after, next.some);
               few_mapped = omega (arith, mapped, bit (is_some (replacement stated (place_seen place))), is.few_mapped, next.after, next.some);
             }
@@ -214,17 +239,19 @@ module _ {M W : Type 0} (begins : List ℕ → List ℕ → Option PlaceUrl) (Fi
       bytes_passed =
           passed_then begins window high from to end is.parts (map other slice) is.passed (passed_bytes begins window high to end end_is within none)
 
-      bytes_steps : Steps Finds under (places_now old []) (is.parts ++ map other slice) (places_now now (is.text ++ slice))
+      bytes_steps : Steps Finds under (places_now old [] []) (is.parts ++ map other slice) (places_now now (is.text ++ slice) is.namings)
       bytes_steps =
-          steps_both Finds under (places_now old []) (places_now now is.text) (places_now now (is.text ++ slice)) is.parts (map other slice) is.steps
-          (steps_others Finds under slice (places_now now is.text))
+          steps_both Finds under (places_now old [] []) (places_now now is.text is.namings) (places_now now (is.text ++ slice) is.namings) is.parts (map other slice) is.steps
+          (steps_others Finds under slice (places_now now is.text is.namings))
 
       pub done_bytes : Puts seen mid after slice → IsDone now after end
       done_bytes put = record {
         parts = is.parts ++ map other slice;
         text = is.text ++ slice;
+        namings = is.namings;
         passed = bytes_passed;
         steps = bytes_steps;
+        noted = is.noted;
         puts = puts_both is.puts put;
         same = is.same;
         few_places = omega (arith, is.few_places, end_is);
@@ -238,7 +265,7 @@ module _ {M W : Type 0} (begins : List ℕ → List ℕ → Option PlaceUrl) (Fi
           parts = is.parts ++ map other slice;
           text = is.text ++ slice;
           passed = bytes_passed;
-          may = became_may Gives Finds same under given old.maps.now (places_now now (is.text ++ slice)) (is.parts ++ map other slice) old.places old.mapped
+          may = became_may Gives Finds same under given old.maps.now (places_now now (is.text ++ slice) is.namings) (is.parts ++ map other slice) old.places old.mapped
               bytes_steps;
           front = let both = fails_second is.puts fails in both.front;
         }
@@ -249,8 +276,10 @@ module _ {M W : Type 0} (begins : List ℕ → List ℕ → Option PlaceUrl) (Fi
     done_written after took = record {
       parts = is.parts;
       text = is.text;
+      namings = is.namings;
       passed = is.passed;
       steps = is.steps;
+      noted = is.noted;
       taken = subst (λ l. Takes (seen before.sink.now).taken (seen after.sink.now).taken l) (sym is.puts.put.2)
           (takes_both _ _ _ is.puts.put.0 mid.gathered.now is.puts.put.1 took);
       few_places = is.few_places;
@@ -266,7 +295,7 @@ module _ {M W : Type 0} (begins : List ℕ → List ℕ → Option PlaceUrl) (Fi
         parts = is.parts;
         text = is.text;
         passed = is.passed;
-        may = became_may Gives Finds same under given old.maps.now (places_now now is.text) is.parts old.places old.mapped is.steps;
+        may = became_may Gives Finds same under given old.maps.now (places_now now is.text is.namings) is.parts old.places old.mapped is.steps;
         front = (
           is.puts.put.0 ++ took.0,
           took.1,

@@ -177,7 +177,7 @@ back_known before front long =
     url_same (before ++ front) before (back_more 2048 before front (omega (arith, long)))
     (take-append-le (run_back 2048 before) before front (back_few 2048 before).1)
 
-back_within : (before : List ℕ) → url_back before ≤ run_back 2048 before
+pub back_within : (before : List ℕ) → url_back before ≤ run_back 2048 before
 unfolding url_back
 back_within before = omega arith
 
@@ -210,7 +210,7 @@ url_bytes url before is =
 -- ---- in a text
 
 -- the bytes up to one, read back from it
-run_text : (text : List ℕ) (low end : ℕ) → low ≤ end → end ≤ length text
+pub run_text : (text : List ℕ) (low end : ℕ) → low ≤ end → end ≤ length text
     → reverse (take (end - low) (reverse (take end text))) ≡ slice_range text low end
 run_text text low end least within =
     let slice : List ℕ = slice_range text low end in

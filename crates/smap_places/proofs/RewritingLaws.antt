@@ -1,5 +1,5 @@
 -- What rewriting a text does, from what a window of it shows.
-use Rattle.std.proofs.Common.{◌≡◌, ◌==◌, ◌+◌, ◌-◌, ◌<◌, ◌≤◌, ℕ, zero, suc, false, cond, List, [], ◌∷◌, ◌++◌, length, take, drop, Option}
+use Rattle.std.proofs.Common.{◌≡◌, ◌==◌, ◌+◌, ◌-◌, ◌<◌, ◌≤◌, ℕ, zero, suc, Bool, true, false, cond, List, [], ◌∷◌, ◌++◌, length, take, drop, Option}
 use Rattle.std.proofs.Common.{Some, None, refl, sym, ap, subst, ◌∙◌, arith, append_assoc, length-append, count_by}
 use Rattle.std.specs.Io.KnownBytes.{IsAtEnd, prepend_known}
 use Rattle.std.proofs.lemmas.Bool.{or_parts}
@@ -10,14 +10,17 @@ use Rattle.smap_lines.specs.Editing.{DevicesSeen}
 use Rattle.smap_lines.specs.Lines.{has_line_end}
 use Rattle.smap_lines.specs.declared.fault.LineFault.TheVariants.{Read, TooMuch, Write}
 use Rattle.smap_record.specs.Record.{MapRecord}
+use Rattle.smap_trace.specs.Noted.{AreNotesOf}
 use Rattle.smap_trace.specs.Rewriting.{Looked}
+use Rattle.smap_trace.specs.UrlNotes.{NamingSeen, NotesSeen}
 use Rattle.smap_trace.specs.declared.outcome.Summary.{Summary}
 use Rattle.smap_places.specs.Places.{Part, PlaceUrl}
 use Rattle.smap_places.specs.PlacesNear.{EndsAtLines}
 use Rattle.smap_places.specs.PlacesOver.{MayBecome, RewritesPlacesFrontOver, RewritesPlacesOver, places_start}
 use Rattle.smap_places.specs.Private.LineEnds.{has_open_line}
 use Rattle.smap_places.specs.Private.Passage.{IsThrough, Passage}
-use Rattle.smap_places.specs.Private.PlaceRewriter.{IsPassed, Shows}
+use Rattle.smap_places.specs.Seeming.{unknown_namings}
+use Rattle.smap_places.specs.Private.PlaceRewriter.{AreNoted, IsPassed, Shows}
 use Rattle.smap_places.proofs.CountLaws.{ends_both, is_end}
 use Rattle.smap_places.proofs.PartStepLaws.{IsGiven, IsSame, Steps, steps_looked}
 use Rattle.smap_places.proofs.ThroughLaws.{through_end, through_fails, through_front, through_lines, through_read, through_shows_all, through_whole}
@@ -78,63 +81,78 @@ no_end_left now high to cut far within none =
 
 module _ {M : Type 0} (begins : List ℕ → List ℕ → Option PlaceUrl) (Finds : M → (url : List ℕ) → M → Type 0) (under : M → (url : List ℕ) → Option MapRecord)
     (old : M) (before : Option (List ℕ)) (front : List ℕ) where
-  abbrev pub Through : (window : List ℕ) (from : ℕ) (maps : M) (places mapped : ℕ) (taken : Option (List ℕ)) → Type 0
-  Through window from maps places mapped taken = IsThrough begins Finds under old before front (record {
+  abbrev pub Through : (window : List ℕ) (from : ℕ) (maps : M) (places mapped : ℕ) (on : Bool) (notes : NotesSeen) (taken : Option (List ℕ)) → Type 0
+  Through window from maps places mapped on notes taken = IsThrough begins Finds under old before front (record {
     window = window;
     from = from;
     maps = maps;
     places = places;
     mapped = mapped;
+    is_noted = on;
+    notes = notes;
     taken = taken;
   })
 
-  pub through_more : (window more now : List ℕ) (from : ℕ) (maps : M) (places mapped : ℕ) (taken : Option (List ℕ)) → now ≡ window ++ more →
-      Through window from maps places mapped taken → Through now from maps places mapped taken
-  through_more window more now from maps places mapped taken is through =
-      subst (λ l. Through l from maps places mapped taken) (sym is)
-      (through_read begins Finds under old before front
-      (record { window = window; from = from; maps = maps; places = places; mapped = mapped; taken = taken }) through more)
+  module _ (window : List ℕ) (from : ℕ) (maps : M) (places mapped : ℕ) (on : Bool) (notes : NotesSeen) (taken : Option (List ℕ))
+      (through : Through window from maps places mapped on notes taken) where
+    pub through_more : (more now : List ℕ) → now ≡ window ++ more → Through now from maps places mapped on notes taken
+    through_more more now is = subst (λ l. Through l from maps places mapped on notes taken) (sym is) (through_read begins Finds under old before front (record {
+      window = window;
+      from = from;
+      maps = maps;
+      places = places;
+      mapped = mapped;
+      is_noted = on;
+      notes = notes;
+      taken = taken;
+    }) through more)
 
-  pub maps_looked : (window : List ℕ) (from : ℕ) (maps : M) (places mapped : ℕ) (taken : Option (List ℕ)) → Through window from maps places mapped taken
-      → Looked Finds old maps
-  maps_looked window from maps places mapped taken is =
-      steps_looked Finds under (places_start old) (record { maps = maps; text = is.text; places = places; mapped = mapped }) is.parts is.steps
+    pub maps_looked : Looked Finds old maps
+    maps_looked =
+        steps_looked Finds under (places_start old)
+        (record { maps = maps; text = through.text; places = places; mapped = mapped; namings = through.namings }) through.parts through.steps
 
 -- ---- how it ends
 
 module _ {M : Type 0} (begins : List ℕ → List ℕ → Option PlaceUrl) (Finds : M → (url : List ℕ) → M → Type 0) (under : M → (url : List ℕ) → Option MapRecord)
-    (old : M) (most_bytes : ℕ) (before after : DevicesSeen) (front window : List ℕ) (from : ℕ) (maps : M) (places mapped : ℕ) (taken : Option (List ℕ))
-    (is : Through begins Finds under old before.output.taken front window from maps places mapped taken)
+    (old : M) (most_bytes : ℕ) (before after : DevicesSeen) (front window : List ℕ) (from : ℕ) (maps : M) (places mapped : ℕ) (on : Bool) (notes : NotesSeen)
+    (taken : Option (List ℕ)) (is : Through begins Finds under old before.output.taken front window from maps places mapped on notes taken)
     (read : Gives before.input.left after.input.left (front ++ window)) where
   abbrev now : Passage M
-  now = record { window = window; from = from; maps = maps; places = places; mapped = mapped; taken = taken }
+  now = record { window = window; from = from; maps = maps; places = places; mapped = mapped; is_noted = on; notes = notes; taken = taken }
 
   -- at the end of the input
-  pub rewrites : (to : ℕ) (parts : List Part) (text waiting : List ℕ) (new : M) (summary : Summary) (ends last : ℕ)
+  pub rewrites : (to : ℕ) (parts : List Part) (text : List ℕ) (namings : List NamingSeen) (waiting : List ℕ) (new : M) (summary : Summary) (ends last : ℕ)
       → IsPassed begins window from (length window) to parts
-      → Steps Finds under (record { maps = maps; text = []; places = places; mapped = mapped }) parts
-      (record { maps = new; text = text; places = summary.frames; mapped = summary.mapped }) → waiting ≡ []
+      → Steps Finds under (record { maps = maps; text = []; places = places; mapped = mapped; namings = [] }) parts
+      (record { maps = new; text = text; places = summary.frames; mapped = summary.mapped; namings = namings }) → waiting ≡ []
       → Takes taken after.output.taken (waiting ++ text) →
       length window ≤ to → IsAtEnd after.input.left → length (front ++ window) ≤ most_bytes → ends ≡ count_by is_end (front ++ window) →
       last ≡ cond (has_open_line window) 1 0 → summary.lines ≡ ends + last → summary.hidden ≡ 0
-      → RewritesPlacesOver Finds under begins most_bytes before after old new summary
-  rewrites to parts text waiting new summary ends last passed steps none took far ended fits ends_is last_is lines_are none_hidden =
+      → (later : NotesSeen) → AreNoted on namings notes later → (known : List ℕ → Bool) (others : NotesSeen)
+      → (on ≡ true → AreNotesOf (unknown_namings known (front ++ window)) others)
+      → (all : RewritesPlacesOver Finds under begins most_bytes before after old new summary)
+      × (on ≡ true → AreNotesOf all.last.namings later × AreNotesOf (unknown_namings known all.bytes) others)
+  rewrites to parts text namings waiting new summary ends last passed steps none took far ended fits ends_is last_is lines_are none_hidden later noted
+      known others seeming =
       let all = through_shows_all begins Finds under old before.output.taken front now is in
       let took_all = subst (λ l. Takes taken after.output.taken (l ++ text)) none took in
-      let lines = lines_are ∙ ap (λ n. ends + n) last_is ∙ through_lines begins Finds under old before.output.taken front now is ends ends_is in
-      record {
-        bytes = front ++ window;
-        last = record { maps = new; text = is.text ++ text; places = summary.frames; mapped = summary.mapped };
-        read = read;
-        ended = ended;
-        fits = fits;
-        steps = through_end begins Finds under old before.output.taken front now is (length window) to parts passed new summary.frames summary.mapped
-            after.output.taken text steps took_all far all;
-        maps = refl;
-        written = took_both begins Finds under old before.output.taken front now is (length window) to parts passed new summary.frames summary.mapped
-            after.output.taken text steps took_all;
-        counted = λ i. record { lines = lines i; frames = summary.frames; mapped = summary.mapped; hidden = none_hidden i };
-      }
+      let lines = lines_are ∙ ap (λ n. ends + n) last_is ∙ through_lines begins Finds under old before.output.taken front now is ends ends_is in (
+        record {
+          bytes = front ++ window;
+          last = record { maps = new; text = is.text ++ text; places = summary.frames; mapped = summary.mapped; namings = is.namings ++ namings };
+          read = read;
+          ended = ended;
+          fits = fits;
+          steps = through_end begins Finds under old before.output.taken front now is (length window) to parts passed new summary.frames summary.mapped
+              after.output.taken text namings steps took_all far all;
+          maps = refl;
+          written = took_both begins Finds under old before.output.taken front now is (length window) to parts passed new summary.frames summary.mapped
+              after.output.taken text namings steps took_all;
+          counted = λ i. record { lines = lines i; frames = summary.frames; mapped = summary.mapped; hidden = none_hidden i };
+        },
+        λ asked. (noted is.namings is.noted asked, seeming asked),
+      )
 
   module _ (May : M → (url : List ℕ) → Option MapRecord → Type 0)
       (some : (maps : M) (url : List ℕ) → (stated : Option MapRecord) × May maps url stated) (given : IsGiven May Finds under) (same : IsSame May Finds) where

@@ -12,12 +12,14 @@ use Rattle.smap_io.specs.Device.{Takes, TakesFront}
 use Rattle.smap_lines.specs.Lines.{IsWholeLines, has_line_end, lines_with_ends}
 use Rattle.smap_lines.specs.Laws.Put.{takes_both, takes_none}
 use Rattle.smap_record.specs.Record.{MapRecord}
+use Rattle.smap_trace.specs.Noted.{AreNotesOf}
+use Rattle.smap_trace.specs.UrlNotes.{NamingSeen, NotesSeen}
 use Rattle.smap_places.specs.Places.{Part, PlaceUrl, begun_at, found, other, parts_by, parts_from, parts_of}
 use Rattle.smap_places.specs.PlacesNear.{DecidedWithin, EndsAtLines, KnownWithin}
 use Rattle.smap_places.specs.PlacesOver.{MayBecome, PlacesNow, places_start}
 use Rattle.smap_places.specs.Private.LineEnds.{has_open_line}
 use Rattle.smap_places.specs.Private.Passage.{IsThrough, Passage, passage_now}
-use Rattle.smap_places.specs.Private.PlaceRewriter.{IsPassed, Shows, parts_at}
+use Rattle.smap_places.specs.Private.PlaceRewriter.{AreNoted, IsPassed, Shows, parts_at}
 use Rattle.smap_places.proofs.CountLaws.{is_end, lines_counted, open_later}
 use Rattle.smap_places.proofs.CutLaws.{no_parts, parts_cut}
 use Rattle.smap_places.proofs.NearLaws.{known_further, line_on, window_shows}
@@ -61,15 +63,26 @@ module _ {M : Type 0} (begins : List ℕ → List ℕ → Option PlaceUrl) (Find
     (under : M → (url : List ℕ) → Option MapRecord) (old : M) where
   -- ---- the beginning, and bytes that are read
 
-  pub through_start : (taken : Option (List ℕ)) →
-      IsThrough begins Finds under old taken [] (record { window = []; from = 0; maps = old; places = 0; mapped = 0; taken = taken })
-  through_start taken = record {
+  pub through_start : (taken : Option (List ℕ)) (on : Bool) (notes : NotesSeen) → AreNotesOf [] notes →
+      IsThrough begins Finds under old taken [] (record {
+        window = [];
+        from = 0;
+        maps = old;
+        places = 0;
+        mapped = 0;
+        is_noted = on;
+        notes = notes;
+        taken = taken;
+      })
+  through_start taken on notes none = record {
     parts = [];
     text = [];
+    namings = [];
     within = omega arith;
     known = inl refl;
     cut = λ later. from_start begins later;
     steps = refl;
+    noted = λ is. none;
     taken = takes_none taken;
     few_places = omega arith;
     few_mapped = omega arith;
@@ -82,16 +95,20 @@ module _ {M : Type 0} (begins : List ℕ → List ℕ → Option PlaceUrl) (Find
       maps = now.maps;
       places = now.places;
       mapped = now.mapped;
+      is_noted = now.is_noted;
+      notes = now.notes;
       taken = now.taken;
     })
     through_read more = record {
       parts = is.parts;
       text = is.text;
+      namings = is.namings;
       within = omega (arith, is.within, length-append now.window more);
       known = is.known;
       cut = λ later. let same = ap (λ l. front ++ l) (append_assoc now.window more later) in
           subst (λ t. parts_of begins t ≡ is.parts ++ parts_at begins t (length front + now.from)) (sym same) (is.cut (more ++ later));
       steps = is.steps;
+      noted = is.noted;
       taken = is.taken;
       few_places = is.few_places;
       few_mapped = is.few_mapped;
@@ -140,37 +157,45 @@ module _ {M : Type 0} (begins : List ℕ → List ℕ → Option PlaceUrl) (Find
 
       -- ---- and what became of it was written
 
-      module _ (maps : M) (places mapped : ℕ) (taken : Option (List ℕ)) (text : List ℕ)
-          (steps : Steps Finds under (passage_now now []) parts (record { maps = maps; text = text; places = places; mapped = mapped }))
+      module _ (maps : M) (places mapped : ℕ) (taken : Option (List ℕ)) (text : List ℕ) (namings : List NamingSeen)
+          (steps : Steps Finds under (passage_now now [] []) parts
+          (record { maps = maps; text = text; places = places; mapped = mapped; namings = namings }))
           (took : Takes now.taken taken text) where
-        abbrev then_now : PlacesNow M
-        then_now = record { maps = maps; text = is.text ++ text; places = places; mapped = mapped }
+        abbrev pub then_now : PlacesNow M
+        then_now = record { maps = maps; text = is.text ++ text; places = places; mapped = mapped; namings = is.namings ++ namings }
 
         both_steps : Steps Finds under (places_start old) (is.parts ++ parts) then_now
         both_steps =
-            steps_both Finds under (places_start old) (passage_now now is.text) then_now is.parts parts is.steps
-            (subst (λ l. Steps Finds under (passage_now now l) parts then_now) (append-nil is.text)
-            (steps_behind Finds under is.text (passage_now now []) (record { maps = maps; text = text; places = places; mapped = mapped }) parts steps))
+            steps_both Finds under (places_start old) (passage_now now is.text is.namings) then_now is.parts parts is.steps
+            (subst (λ l. Steps Finds under (passage_now now l is.namings) parts then_now) (append-nil is.text)
+            (subst (λ l. Steps Finds under (passage_now now (is.text ++ []) l) parts then_now) (append-nil is.namings)
+            (steps_behind Finds under is.text is.namings (passage_now now [] [])
+            (record { maps = maps; text = text; places = places; mapped = mapped; namings = namings }) parts steps)))
 
         pub took_both : Takes before taken (is.text ++ text)
         took_both = takes_both before now.taken taken is.text text is.taken took
 
         pub through_written : ((later : List ℕ) → Shows begins front now.window later now.from high) → places + now.from ≤ now.places + to →
-            mapped + now.from ≤ now.mapped + to → IsThrough begins Finds under old before front (record {
+            mapped + now.from ≤ now.mapped + to → (notes : NotesSeen) → AreNoted now.is_noted namings now.notes notes
+            → IsThrough begins Finds under old before front (record {
               window = now.window;
               from = to;
               maps = maps;
               places = places;
               mapped = mapped;
+              is_noted = now.is_noted;
+              notes = notes;
               taken = taken;
             })
-        through_written shows few_places few_mapped = record {
+        through_written shows few_places few_mapped notes noted = record {
           parts = is.parts ++ parts;
           text = is.text ++ text;
+          namings = is.namings ++ namings;
           within = passed.within;
           known = known_at to passed.least;
           cut = λ later. passed_on later (shows later);
           steps = both_steps;
+          noted = noted is.namings is.noted;
           taken = took_both;
           few_places = omega (arith, is.few_places, few_places);
           few_mapped = omega (arith, is.few_mapped, few_mapped);
@@ -192,12 +217,14 @@ module _ {M : Type 0} (begins : List ℕ → List ℕ → Option PlaceUrl) (Find
 
     -- ---- the bytes that nothing hangs on any more are let go
 
-    pub through_cut : (kept count : ℕ) → 0 < kept → KnownWithin begins kept → count ≡ now.from - kept → IsThrough begins Finds under old before (front ++ take count now.window) (record {
+    pub through_cut : (kept count : ℕ) → 0 < kept → KnownWithin begins kept → count ≤ now.from - kept → IsThrough begins Finds under old before (front ++ take count now.window) (record {
       window = drop count now.window;
       from = now.from - count;
       maps = now.maps;
       places = now.places;
       mapped = now.mapped;
+      is_noted = now.is_noted;
+      notes = now.notes;
       taken = now.taken;
     })
     through_cut kept count some known count_is =
@@ -207,6 +234,7 @@ module _ {M : Type 0} (begins : List ℕ → List ℕ → Option PlaceUrl) (Find
         record {
           parts = is.parts;
           text = is.text;
+          namings = is.namings;
           within = omega (arith, is.within, length-drop count now.window);
           known = known_then is.known (cases_lt now.from kept);
           cut = λ later.
@@ -217,6 +245,7 @@ module _ {M : Type 0} (begins : List ℕ → List ℕ → Option PlaceUrl) (Find
               subst (λ t. parts_of begins t ≡ is.parts ++ parts_at begins t (length (front ++ take count now.window) + (now.from - count))) (sym same)
               (is.cut later ∙ ap (λ n. is.parts ++ parts_at begins (front ++ (now.window ++ later)) n) (sym at));
           steps = is.steps;
+          noted = is.noted;
           taken = is.taken;
           few_places = omega (arith, is.few_places, at);
           few_mapped = omega (arith, is.few_mapped, at);
@@ -225,7 +254,8 @@ module _ {M : Type 0} (begins : List ℕ → List ℕ → Option PlaceUrl) (Find
         known_then : (front ≡ []) ⊎ ((0 < now.from) × KnownWithin begins now.from) → (now.from < kept) ⊎ (kept ≤ now.from)
             → (front ++ take count now.window ≡ []) ⊎ ((0 < now.from - count) × KnownWithin begins (now.from - count))
         known_then known_now (inr many) =
-            let same : kept ≡ now.from - count = omega (arith, many, count_is) in inr (omega (arith, same, some), subst (KnownWithin begins) same known)
+            let more : kept ≤ now.from - count = omega (arith, many, count_is) in
+            inr (omega (arith, more, some), known_further begins kept (now.from - count) more known)
         known_then (inl none) (inl few) =
             let zero_is : count ≡ 0 = omega (arith, count_is, few) in inl (ap (λ n. front ++ take n now.window) zero_is ∙ append-nil front ∙ none)
         known_then (inr known_now) (inl few) =
@@ -238,7 +268,7 @@ module _ {M : Type 0} (begins : List ℕ → List ℕ → Option PlaceUrl) (Find
         (some : (maps : M) (url : List ℕ) → (stated : Option MapRecord) × Gives maps url stated) (given : IsGiven Gives Finds under)
         (same : IsSame Gives Finds) where
       written_may : MayBecome (Gives old) is.parts is.text
-      written_may = became_may Gives Finds same under given old (passage_now now is.text) is.parts 0 0 is.steps
+      written_may = became_may Gives Finds same under given old (passage_now now is.text is.namings) is.parts 0 0 is.steps
 
       -- a read fails, or gives too much
       pub through_front : (later : List ℕ) × MayBecome (Gives old) (parts_of begins (front ++ now.window)) (is.text ++ later)
@@ -257,7 +287,7 @@ module _ {M : Type 0} (begins : List ℕ → List ℕ → Option PlaceUrl) (Find
       through_fails high to parts text taken passed may shows took =
           let rest : List Part = parts_at begins (front ++ (now.window ++ [])) (length front + to) in
           let more = some_text (Gives old) (some old) rest in
-          let looked = steps_looked Finds under (places_start old) (passage_now now is.text) is.parts is.steps in
+          let looked = steps_looked Finds under (places_start old) (passage_now now is.text is.namings) is.parts is.steps in
           let here = may_wider (Gives now.maps) (Gives old) (looked_before Gives Finds same old now.maps looked) parts text may in
           let whole : parts_of begins (front ++ now.window) ≡ (is.parts ++ parts) ++ rest =
           ap (λ l. parts_of begins (front ++ l)) (sym (append-nil now.window)) ∙ passed_on high to parts passed [] shows in

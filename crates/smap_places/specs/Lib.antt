@@ -3,6 +3,8 @@ pub mod Printed
 pub mod PlaceSeen
 pub mod PlacesNear
 pub mod PlacesOver
+pub mod Seeming
+pub mod PlacesNoted
 pub mod PlacesBeside
 pub mod Candidates
 pub mod PatternUrl

@@ -1,5 +1,6 @@
 pub mod Finder
 pub mod LineEnds
 pub mod Passage
+pub mod Seeming
 pub mod PlaceRewriter
 pub mod Window

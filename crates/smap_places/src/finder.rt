@@ -8,7 +8,8 @@ ghost use Rattle.smap_places.specs.PlaceSeen.{HasMap, IsNext, NoNext, NoneBetwee
 ghost use Rattle.smap_places.specs.Private.Finder.{HasOwnMap, HasOwnNumbers, IsBarred, IsLongest, IsOpen, IsUnqueried};
 
 mod patterns;
-mod reach;
+pub(crate) mod reach;
+mod seeming;
 
 use crate::begins::may_begin;
 use crate::lengths::Lengths;

@@ -27,4 +27,4 @@ mod window;
 
 pub use finder::PlaceFinder;
 pub use place::FoundPlace;
-pub use rewriting::{rewrite_places, rewrite_places_over};
+pub use rewriting::{rewrite_places, rewrite_places_noting, rewrite_places_over};

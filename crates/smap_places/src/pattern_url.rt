@@ -77,8 +77,8 @@ fn account_end(run: &[u8]) -> usize
     last_end(b"@", &run[..bytes])
 }
 
-// How many bytes of a text stand up to the end of a mark that stands in it last, 0 where none does.
-fn last_end(mark: &[u8], text: &[u8]) -> usize
+/// How many bytes of a text stand up to the end of a mark that stands in it last, 0 where none does.
+pub fn last_end(mark: &[u8], text: &[u8]) -> usize
     ensures end { result ≡ last_end mark.now text.now }
     ensures within { result ≤ length text.now }
 {

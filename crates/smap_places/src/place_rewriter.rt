@@ -1,5 +1,5 @@
 //! The places of a text, rewritten as it passes through a window.
-ghost use Rattle.std.specs.Prelude.{◌≡◌, ◌<◌, ◌≤◌, ◌+◌, ◌^◌, ◌++◌, [], false, true, is_some, length, map, option_map};
+ghost use Rattle.std.specs.Prelude.{◌≡◌, ◌<◌, ◌≤◌, ◌+◌, ◌^◌, ◌++◌, ◌∷◌, [], codes, false, true, is_some, length, map, option_map};
 ghost use Rattle.std.specs.Prelude.{slice_range, unwrap_or, IfOk, MatchOption, OnErr, OnOk};
 ghost use Rattle.std.specs.List.{concat};
 ghost use Rattle.std.specs.Option.{option_or};
@@ -7,8 +7,10 @@ ghost use Rattle.smap_lines.specs.LineOutput.{IsPut, IsSameOutput};
 ghost use Rattle.smap_places.specs.PlaceAt.{place_at};
 ghost use Rattle.smap_places.specs.PlacesBeside.{FindsBeside, GivesBeside, found_beside};
 ghost use Rattle.smap_places.specs.PlaceSeen.{place_seen};
+ghost use Rattle.smap_places.specs.PlacesOver.{naming_by};
 ghost use Rattle.smap_places.specs.PlacesRewritten.{replacement};
-ghost use Rattle.smap_places.specs.Private.PlaceRewriter.{FailsToWrite, IsSameRewriter, Writes};
+ghost use Rattle.smap_places.specs.Private.PlaceRewriter.{AreNoted, FailsToWrite, IsSameRewriter, Writes};
+ghost use Rattle.smap_trace.specs.NotesSeen.{notes_seen};
 ghost use Rattle.smap_trace.specs.Rewriting.{Looked};
 
 use crate::finder::PlaceFinder;
@@ -17,20 +19,22 @@ use crate::replacement::find_replacement;
 use smap_io::{ByteSink, DeviceFault};
 use smap_lines::LineOutput;
 use smap_record::MapFile;
-use smap_trace::{MOST_PRINTED_BYTES, Maps, print_place};
+use smap_trace::{MOST_PRINTED_BYTES, Maps, Naming, UrlNotes, print_place};
 use std::alloc::Global;
 
-/// Rewrites the places of a text, and counts them and those that are replaced.
+/// Rewrites the places of a text, counts them and those that are replaced, and notes what they name where that is asked.
 #[derive(Drop)]
-pub struct PlaceRewriter<'f, 't, 'm, M: Maps> {
+pub struct PlaceRewriter<'f, 't, 'm, 'n, M: Maps> {
     pub alloc: Global,
     pub finder: &'f PlaceFinder<'t>,
     pub maps: &'m mut M,
     pub places: u64,
     pub mapped: u64,
+    pub is_noted: bool,
+    pub notes: &'n mut UrlNotes,
 }
 
-impl<M: Maps> PlaceRewriter<'_, '_, '_, M> {
+impl<M: Maps> PlaceRewriter<'_, '_, '_, '_, M> {
     /// Writes what becomes of a window from byte `from` on: of the places that begin before byte `high`, which the caller
     /// knows to be decided, and of the bytes before it that belong to none. The map of each place's URL that does not come
     /// with it is looked for when the place is met. The result is the byte after all these: `high`, or the end of a place that
@@ -71,6 +75,7 @@ impl<M: Maps> PlaceRewriter<'_, '_, '_, M> {
             let is_mapped = put_place(self.alloc, map, window, to, &place, output)?;
             self.places += 1;
             self.mapped += u64::from(is_mapped);
+            note_place(self.is_noted, self.notes, map, &place, is_mapped);
             to = place.end;
         }
         let end = high.max(to);
@@ -103,6 +108,33 @@ fn map_of<'m, 't: 'm, M: Maps>(maps: &'m M, place: &FoundPlace<'_, 't>) -> Optio
         Some(map) => Some(map),
         None => maps.map_for(place.url),
     }
+}
+
+// Notes a place, where that is asked: whether its URL has a map, and whether it was replaced.
+fn note_place(
+    is_noted: bool,
+    notes: &mut UrlNotes,
+    map: Option<&MapFile>,
+    place: &FoundPlace<'_, '_>,
+    mapped: bool,
+)
+    ensures { AreNoted is_noted (naming_by (place_seen place.now)
+        (is_some (option_map (λ file. file.now.stated) map.entry)) mapped ∷ [])
+        (notes_seen notes.old) (notes_seen notes.new) }
+{
+    if !is_noted {
+        return;
+    }
+    let found = map.is_some();
+    let naming = Naming {
+        url: place.url,
+        line: place.line,
+        column: place.column,
+        found,
+        mapped,
+        unmapped: found && !mapped,
+    };
+    notes.note(&naming);
 }
 
 // Puts the bytes of a text from byte `from` on that stand before a place, and what becomes of it where its URL has this

@@ -1,22 +1,26 @@
 //! Rewriting the places of a text.
-ghost use Rattle.std.specs.Prelude.{◌≡◌, ◌<◌, ◌+◌, ◌^◌, false, IfErr, IfOk, IfSome};
+ghost use Rattle.std.specs.Prelude.{◌≡◌, ◌<◌, ◌≤◌, ◌+◌, ◌^◌, [], false, true, IfErr, IfOk, IfSome};
 ghost use Rattle.smap_lines.specs.Editing.{devices_seen, is_read_fault, is_write_fault};
 ghost use Rattle.smap_lines.specs.declared.fault.LineFault.TheVariants.{Memory};
 ghost use Rattle.smap_places.specs.PlaceAt.{place_at};
 ghost use Rattle.smap_places.specs.PlacesBeside.{FindsBeside, GivesBeside, found_beside};
 ghost use Rattle.smap_places.specs.PlacesNear.{DecidedWithin, EndsAtLines, KnownWithin};
+ghost use Rattle.smap_places.specs.PlacesNoted.{RewritesPlacesNoted};
 ghost use Rattle.smap_places.specs.PlacesOver.{RewritesPlacesFrontOver, RewritesPlacesOver};
 ghost use Rattle.smap_places.specs.PlacesRewriting.{RewritesPlaces, RewritesPlacesFront};
+ghost use Rattle.smap_places.specs.Seeming.{knows, seeming_at};
+ghost use Rattle.smap_trace.specs.NotesSeen.{notes_seen};
 ghost use Rattle.smap_trace.specs.Rewriting.{Looked};
 
 use crate::finder::PlaceFinder;
+use crate::finder::reach::MOST_KEPT;
 use crate::line_ends::{count_ends, decided_end, has_open_line};
 use crate::place_rewriter::PlaceRewriter;
 use crate::window::Window;
 use smap_io::{ByteSink, ByteSource};
 use smap_lines::{Gathered, LineOutput};
 use smap_locations::Locations;
-use smap_trace::{Maps, RewriteFault, Summary, Table, TableMaps};
+use smap_trace::{Maps, RewriteFault, Summary, Table, TableMaps, UrlNotes};
 use std::alloc::Global;
 
 // How many bytes are read at once, at least.
@@ -91,7 +95,62 @@ pub fn rewrite_places_over<R: ByteSource, W: ByteSink, M: Maps>(
     ensures memory_output { IfErr result (λ fault. fault ≡ Memory → output.new ≡ output.old) }
     ensures memory_maps { IfErr result (λ fault. fault ≡ Memory → maps.new ≡ maps.old) }
 {
-    let Some((reach, kept, size)) = room_of(finder) else {
+    let mut notes = UrlNotes::new(alloc);
+    let mut others = UrlNotes::new(alloc);
+    rewrite_places_noting(
+        alloc,
+        input,
+        output,
+        finder,
+        maps,
+        most_bytes,
+        false,
+        &mut notes,
+        &mut others,
+    )
+}
+
+/// The same, where it is noted too, if that is asked, what became of the first 100 different URLs that places name; and
+/// beside them which are the first 100 that look like one and for which nothing is named: those right before numbers that
+/// hold `://`, or end in `.js`, `.mjs`, `.cjs` or `.bundle`. The caller gives notes without any.
+pub fn rewrite_places_noting<R: ByteSource, W: ByteSink, M: Maps>(
+    alloc: Global,
+    input: &mut R,
+    output: &mut W,
+    finder: &PlaceFinder<'_>,
+    maps: &mut M,
+    most_bytes: u64,
+    is_noted: bool,
+    notes: &mut UrlNotes,
+    others: &mut UrlNotes,
+) -> Result<Summary, RewriteFault>
+    requires input_works { (R.seen input.old).failed ≡ false }
+    requires output_works { (W.seen output.old).failed ≡ false }
+    requires most_bytes { most_bytes < 2 ^ 63 }
+    requires unnoted { notes_seen notes.old ≡ record { notes = []; is_short = false } }
+    requires no_others { notes_seen others.old ≡ record { notes = []; is_short = false } }
+    ensures rewrites { IfOk result (RewritesPlacesOver (FindsBeside finder.now.table M.Finds)
+        (found_beside finder.now.table M.found) (place_at finder.now) most_bytes
+        (devices_seen (R.seen input.old) (W.seen output.old))
+        (devices_seen (R.seen input.new) (W.seen output.new)) maps.old maps.new) }
+    ensures noted { is_noted ≡ true → IfOk result (λ summary. RewritesPlacesNoted
+        (FindsBeside finder.now.table M.Finds)
+        (found_beside finder.now.table M.found) (place_at finder.now) (knows finder.now) most_bytes
+        (devices_seen (R.seen input.old) (W.seen output.old))
+        (devices_seen (R.seen input.new) (W.seen output.new)) maps.old maps.new summary
+        (notes_seen notes.new) (notes_seen others.new)) }
+    ensures front { IfErr result (RewritesPlacesFrontOver
+        (GivesBeside finder.now.table M.Gives maps.old) (place_at finder.now) most_bytes
+        (devices_seen (R.seen input.old) (W.seen output.old))
+        (devices_seen (R.seen input.new) (W.seen output.new))) }
+    ensures looked { Looked (FindsBeside finder.now.table M.Finds) maps.old maps.new }
+    ensures input_failure { (R.seen input.new).failed ≡ is_read_fault result }
+    ensures output_failure { (W.seen output.new).failed ≡ is_write_fault result }
+    ensures memory_input { IfErr result (λ fault. fault ≡ Memory → input.new ≡ input.old) }
+    ensures memory_output { IfErr result (λ fault. fault ≡ Memory → output.new ≡ output.old) }
+    ensures memory_maps { IfErr result (λ fault. fault ≡ Memory → maps.new ≡ maps.old) }
+{
+    let Some((reach, kept, size)) = room_of(finder, is_noted) else {
         return Err(RewriteFault::Memory);
     };
     let (Ok(mut window), Ok(mut gathered)) = (Window::new(alloc, size), Gathered::new(alloc)) else {
@@ -103,8 +162,11 @@ pub fn rewrite_places_over<R: ByteSource, W: ByteSink, M: Maps>(
         maps,
         places: 0,
         mapped: 0,
+        is_noted,
+        notes,
     };
     let mut from = 0;
+    let mut sighted = 0;
     let mut total: u64 = 0;
     let mut ends: u64 = 0;
     loop {
@@ -117,7 +179,8 @@ pub fn rewrite_places_over<R: ByteSource, W: ByteSink, M: Maps>(
         total += count as u64;
         let bytes = window.bytes();
         ends += count_ends(&bytes[bytes.len() - count..]) as u64;
-        let high = decided_end(bytes, from, reach, count == 0);
+        let decided = decided_end(bytes, sighted, reach, count == 0);
+        let high = decided.max(from);
         let mut lent = LineOutput {
             gathered: &mut gathered,
             sink: output,
@@ -125,6 +188,7 @@ pub fn rewrite_places_over<R: ByteSource, W: ByteSink, M: Maps>(
         let Ok(to) = rewriter.write_places(bytes, from, high, &mut lent) else {
             return Err(RewriteFault::Write);
         };
+        finder.note_unknown(is_noted, bytes, sighted, decided, others);
         if count == 0 {
             return Ok(Summary {
                 lines: ends + u64::from(has_open_line(bytes)),
@@ -133,24 +197,38 @@ pub fn rewrite_places_over<R: ByteSource, W: ByteSink, M: Maps>(
                 hidden: 0,
             });
         }
-        let cut = to.saturating_sub(kept);
+        let cut = decided.saturating_sub(kept);
         window.cut(cut);
         from = to - cut;
+        sighted = decided - cut;
     }
 }
 
-// How many bytes decide which place begins at one, of those behind it and of those before it; and how many the window has room
-// for: both, and those that are read.
-fn room_of(finder: &PlaceFinder<'_>) -> Option<(usize, usize, usize)>
+// How many bytes decide which place begins at one, of those behind it and of those before it, and which URL ends there, if
+// that is noted; and how many the window has room for: both, and those that are read.
+fn room_of(finder: &PlaceFinder<'_>, is_noted: bool) -> Option<(usize, usize, usize)>
     ensures ends { EndsAtLines (place_at finder.now) }
     ensures reach { IfSome result (λ rooms. DecidedWithin (place_at finder.now) rooms.0) }
-    ensures some { IfSome result (λ rooms. 0 < rooms.0) }
+    ensures enough { IfSome result (λ rooms. 23 ≤ rooms.0) }
     ensures kept { IfSome result (λ rooms. KnownWithin (place_at finder.now) rooms.1) }
+    ensures seeming { is_noted ≡ true →
+        IfSome result (λ rooms. KnownWithin seeming_at rooms.1) }
     ensures kept_some { IfSome result (λ rooms. 0 < rooms.1) }
     ensures size { IfSome result (λ rooms. rooms.0 + rooms.1 < rooms.2) }
 {
     let reach = finder.reach()?;
-    let kept = finder.kept();
+    let kept = kept_of(finder, is_noted);
     let size = reach.checked_add(kept + READ_BYTES)?;
     Some((reach, kept, size))
+}
+
+// How many bytes before one decide which place begins there, and which URL ends there, if that is noted.
+fn kept_of(finder: &PlaceFinder<'_>, is_noted: bool) -> usize
+    ensures kept { KnownWithin (place_at finder.now) result }
+    ensures seeming { is_noted ≡ true → KnownWithin seeming_at result }
+    ensures some { 0 < result }
+    ensures few { result ≤ 2082 }
+{
+    let kept = finder.kept();
+    if is_noted { MOST_KEPT } else { kept }
 }

@@ -1,5 +1,5 @@
 -- Laws of rewriting places over maps of which only some is seen: what is seen goes the same way, if looking for a map is seen so.
-use Rattle.std.specs.Prelude.{◌≡◌, ◌+◌, ◌++◌, ℕ, List, [], ◌∷◌, Option, Some, None, is_some, if◌then◌else◌, unwrap_or}
+use Rattle.std.specs.Prelude.{◌≡◌, ◌+◌, ◌++◌, ℕ, Bool, List, [], ◌∷◌, Option, Some, None, is_some, if◌then◌else◌, unwrap_or}
 use Rattle.std.specs.List.{FoldsTo}
 use Rattle.std.proofs.Common.{ap, arith, refl, subst, sym, ◌∙◌}
 use Rattle.smap_io.specs.Device.{Gives}
@@ -8,9 +8,12 @@ use Rattle.smap_lines.specs.Laws.Put.{takes_none}
 use Rattle.smap_lines.specs.declared.fault.LineFault.{LineFault}
 use Rattle.smap_lines.specs.declared.fault.LineFault.TheVariants.{Memory}
 use Rattle.smap_record.specs.Record.{MapRecord}
+use Rattle.smap_trace.specs.UrlNotes.{NotesSeen}
 use Rattle.smap_trace.specs.declared.outcome.Summary.{Summary}
 use Rattle.smap_places.specs.Places.{Part, PlaceUrl, found, other, parts_of}
-use Rattle.smap_places.specs.PlacesOver.{MayBe, MayBecome, PartStep, PlaceStep, PlacesNow, RewritesPlacesFrontOver, RewritesPlacesOver, places_start}
+use Rattle.smap_places.specs.PlacesNoted.{RewritesPlacesNoted}
+use Rattle.smap_places.specs.PlacesOver.{MayBe, MayBecome, PartStep, PlaceStep, PlacesNow, RewritesPlacesFrontOver, RewritesPlacesOver, naming_of}
+use Rattle.smap_places.specs.PlacesOver.{places_start}
 use Rattle.smap_places.specs.PlacesRewritten.{replacement}
 
 module _ {M N : Type 0} (Finds : M → (url : List ℕ) → M → Type 0) (under : M → (url : List ℕ) → Option MapRecord)
@@ -18,7 +21,7 @@ module _ {M N : Type 0} (Finds : M → (url : List ℕ) → M → Type 0) (under
     (finds : (old new : M) (url : List ℕ) → Is old → Finds old url new → Seen (see old) url (see new) × Is new)
     (same : (maps : M) (url : List ℕ) → Is maps → under maps url ≡ under_seen (see maps) url) where
   abbrev see_places : PlacesNow M → PlacesNow N
-  see_places now = record { maps = see now.maps; text = now.text; places = now.places; mapped = now.mapped }
+  see_places now = record { maps = see now.maps; text = now.text; places = now.places; mapped = now.mapped; namings = now.namings }
 
   place_goes : (old new : PlacesNow M) (place : PlaceUrl) (bytes : List ℕ) → Is old.maps → PlaceStep Finds under old place bytes new
       → PlaceStep Seen under_seen (see_places old) place bytes (see_places new) × Is new.maps
@@ -30,6 +33,7 @@ module _ {M N : Type 0} (Finds : M → (url : List ℕ) → M → Type 0) (under
           text_is = step.text_is ∙ ap (λ f. old.text ++ unwrap_or (replacement f place) bytes) found_so;
           places = step.places;
           mapped = step.mapped ∙ ap (λ f. old.mapped + (if is_some (replacement f place) then 1 else 0)) found_so;
+          named = step.named ∙ ap (λ f. old.namings ++ naming_of place f ∷ []) found_so;
         },
         one.1,
       )
@@ -47,20 +51,30 @@ module _ {M N : Type 0} (Finds : M → (url : List ℕ) → M → Type 0) (under
       let more = parts_go parts folds.0 new one.1 folds.2 in
       ((see_places folds.0, one.0, more.0), more.1)
 
-  pub places_seen : (begins : List ℕ → List ℕ → Option PlaceUrl) (most : ℕ) (before after : DevicesSeen) (old new : M) (summary : Summary) → Is old
-      → RewritesPlacesOver Finds under begins most before after old new summary
-      → RewritesPlacesOver Seen under_seen begins most before after (see old) (see new) summary
-  places_seen begins most before after old new summary is_old is = record {
-    bytes = is.bytes;
-    last = see_places is.last;
-    read = is.read;
-    ended = is.ended;
-    fits = is.fits;
-    steps = (parts_go (parts_of begins is.bytes) (places_start old) is.last is_old is.steps).0;
-    maps = ap see is.maps;
-    written = is.written;
-    counted = is.counted;
-  }
+  module _ (begins : List ℕ → List ℕ → Option PlaceUrl) (most : ℕ) (before after : DevicesSeen) (old new : M) (summary : Summary) where
+    abbrev over_seen : Is old → RewritesPlacesOver Finds under begins most before after old new summary
+        → RewritesPlacesOver Seen under_seen begins most before after (see old) (see new) summary
+    over_seen is_old is = record {
+      bytes = is.bytes;
+      last = see_places is.last;
+      read = is.read;
+      ended = is.ended;
+      fits = is.fits;
+      steps = (parts_go (parts_of begins is.bytes) (places_start old) is.last is_old is.steps).0;
+      maps = ap see is.maps;
+      written = is.written;
+      counted = is.counted;
+    }
+
+    pub places_seen : Is old → RewritesPlacesOver Finds under begins most before after old new summary
+        → RewritesPlacesOver Seen under_seen begins most before after (see old) (see new) summary
+    places_seen is_old is = over_seen is_old is
+
+    -- and with what is noted of it
+    pub places_noted_seen : (known : List ℕ → Bool) (notes others : NotesSeen) → Is old
+        → RewritesPlacesNoted Finds under begins known most before after old new summary notes others
+        → RewritesPlacesNoted Seen under_seen begins known most before after (see old) (see new) summary notes others
+    places_noted_seen known notes others is_old is = (over_seen is_old is.0, is.1, is.2)
 
 -- what may be found may be found by more
 module _ (Gives More : (url : List ℕ) → Option MapRecord → Type 0) (gives : (url : List ℕ) (found : Option MapRecord) → Gives url found → More url found) where

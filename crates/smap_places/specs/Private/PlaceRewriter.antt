@@ -1,9 +1,12 @@
 -- Of private contracts only: the parts of a text that is seen through a window, and what rewriting them does.
-use Rattle.std.specs.Prelude.{◌≡◌, ◌<◌, ◌≤◌, ◌+◌, ℕ, List, [], ◌++◌, Option, drop, length}
+use Rattle.std.specs.Prelude.{◌≡◌, ◌<◌, ◌≤◌, ◌+◌, ℕ, Bool, true, List, [], ◌++◌, Option, drop, length}
 use Rattle.std.specs.List.{FoldsTo}
 use Rattle.smap_io.specs.Device.{SinkSeen, Takes, TakesFront}
 use Rattle.smap_lines.specs.declared.line_output.LineOutput.{LineOutput}
 use Rattle.smap_record.specs.Record.{MapRecord}
+use Rattle.smap_trace.specs.Noted.{AreNotesOf}
+use Rattle.smap_trace.specs.NotesSeen.{notes_seen}
+use Rattle.smap_trace.specs.UrlNotes.{NamingSeen, NotesSeen}
 use Rattle.smap_places.specs.Places.{Part, PlaceUrl, begun_at, parts_from}
 use Rattle.smap_places.specs.PlacesOver.{MayBecome, PartStep, PlacesNow}
 use Rattle.smap_places.specs.declared.place_rewriter.PlaceRewriter.{PlaceRewriter}
@@ -25,22 +28,32 @@ pub record IsPassed (begins : List ℕ → List ℕ → Option PlaceUrl) (window
   pub passed : (before later : List ℕ) → Shows begins before window later from high → parts_at begins (before ++ (window ++ later)) (length before + from)
       ≡ parts ++ parts_at begins (before ++ (window ++ later)) (length before + to)
 
--- the maps, what became of some parts, and what was counted
-abbrev pub places_now : {M : Type 0} → PlaceRewriter M → (text : List ℕ) → PlacesNow M
-places_now rewriter text = record { maps = rewriter.maps.now; text = text; places = rewriter.places; mapped = rewriter.mapped }
+-- the maps, what became of some parts, what was counted, and what they named
+abbrev pub places_now : {M : Type 0} → PlaceRewriter M → (text : List ℕ) → (namings : List NamingSeen) → PlacesNow M
+places_now rewriter text namings =
+    record { maps = rewriter.maps.now; text = text; places = rewriter.places; mapped = rewriter.mapped; namings = namings }
 
--- it stays over the same finder and the same maps
+-- it stays over the same finder, the same maps and the same notes
 abbrev pub IsSameRewriter : {M : Type 0} → (old new : PlaceRewriter M) → Type 0
-IsSameRewriter old new = (new.finder ≡ old.finder) × (new.maps.ghost_name ≡ old.maps.ghost_name)
+IsSameRewriter old new =
+    (new.finder ≡ old.finder) × (new.maps.ghost_name ≡ old.maps.ghost_name) × (new.notes.ghost_name ≡ old.notes.ghost_name)
+    × (new.is_noted ≡ old.is_noted)
 
--- what became of these parts, one after another, was written behind what waited, and they were counted
+-- these namings were noted behind others, where that is asked
+abbrev pub AreNoted : (is_noted : Bool) → (namings : List NamingSeen) → (old new : NotesSeen) → Type 0
+AreNoted is_noted namings old new =
+    (before : List NamingSeen) → (is_noted ≡ true → AreNotesOf before old) → is_noted ≡ true → AreNotesOf (before ++ namings) new
+
+-- what became of these parts, one after another, was written behind what waited, and they were counted and noted
 pub record Writes {M W : Type 0} (begins : List ℕ → List ℕ → Option PlaceUrl) (Finds : M → (url : List ℕ) → M → Type 0)
     (under : M → (url : List ℕ) → Option MapRecord) (seen : W → SinkSeen) (old new : PlaceRewriter M) (before after : LineOutput W) (window : List ℕ)
     (from high to : ℕ) : Type 0 where
   pub parts : List Part
   pub text : List ℕ
+  pub namings : List NamingSeen
   pub passed : IsPassed begins window from high to parts
-  pub steps : FoldsTo (PartStep Finds under) (places_now old []) parts (places_now new text)
+  pub steps : FoldsTo (PartStep Finds under) (places_now old [] []) parts (places_now new text namings)
+  pub noted : AreNoted old.is_noted namings (notes_seen old.notes.now) (notes_seen new.notes.now)
   pub taken : Takes (seen before.sink.now).taken (seen after.sink.now).taken (before.gathered.now ++ text)
   pub few_places : new.places + from ≤ old.places + to
   pub few_mapped : new.mapped + from ≤ old.mapped + to

@@ -8,13 +8,16 @@ use crate::begins::MOST_COLOUR;
 use crate::numbers::MOST_NUMBERS;
 use crate::runs::MOST_RUN;
 
+/// How many bytes before the numbers of a place decide which URL stands right before them, at most.
+pub(crate) const MOST_KEPT: usize = MOST_RUN + MOST_COLOUR;
+
 impl<'t> PlaceFinder<'t> {
     /// How many bytes from the beginning of a place on decide which it is, at most; an LF and what stands behind it decides
     /// nothing. `None` where they are too many to count.
     pub(crate) fn reach(&self) -> Option<usize>
         ensures ends { EndsAtLines (place_at self.now) }
         ensures reaches { IfSome result (DecidedWithin (place_at self.now)) }
-        ensures some { IfSome result (λ reach. 0 < reach) }
+        ensures enough { IfSome result (λ reach. 23 ≤ reach) }
     {
         let bytes = self.longest?.checked_add(MOST_NUMBERS + 1)?;
         if self.locations.has_patterns() {
@@ -31,7 +34,7 @@ impl<'t> PlaceFinder<'t> {
         ensures few { result ≤ 2082 }
     {
         if self.locations.has_patterns() {
-            MOST_RUN + MOST_COLOUR
+            MOST_KEPT
         } else {
             MOST_COLOUR + 1
         }

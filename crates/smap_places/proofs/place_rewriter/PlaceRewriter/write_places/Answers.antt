@@ -1,13 +1,16 @@
-use Rattle.std.proofs.Common.{◌≡◌, ◌+◌, ℕ, Option, refl, arith, ap, cond, is_some, subst, ◌∙◌}
+use Rattle.std.proofs.Common.{◌≡◌, ◌+◌, ◌∷◌, [], ℕ, Option, refl, arith, ap, cond, is_some, subst, ◌∙◌}
 use Rattle.std.specs.Option.{option_or}
 use Rattle.std.proofs.lemmas.Result.{err_from_is_err_and}
 use Rattle.smap_lines.specs.LineOutput.{FailsToPut, Puts}
 use Rattle.smap_record.specs.Record.{MapRecord}
 use Rattle.smap_trace.specs.Laws.Looked.{looked_both, looked_one}
+use Rattle.smap_trace.specs.NotesSeen.{notes_seen}
 use Rattle.smap_places.specs.PlaceAt.{place_at}
 use Rattle.smap_places.specs.PlaceSeen.{HasMap, IsNext, NoneBetween, place_seen}
 use Rattle.smap_places.specs.PlacesBeside.{FindsBeside, GivesBeside, found_beside}
+use Rattle.smap_places.specs.PlacesOver.{naming_by}
 use Rattle.smap_places.specs.PlacesRewritten.{replacement}
+use Rattle.smap_places.specs.Private.PlaceRewriter.{AreNoted}
 use Rattle.smap_places.proofs.BesideLaws.{finds_of, given_beside, same_beside}
 use Rattle.smap_places.proofs.CountLaws.{byte_is}
 use Rattle.smap_places.proofs.PassageLaws.{bytes_fail, done_bytes, done_looked, done_none, done_place, done_written, place_fails, place_text, written_fails}
@@ -60,10 +63,19 @@ loop-place-preserved g c =
     c.from.ensures ∙ byte_is c.in_ok-is_mapped.is_mapped
     ∙ ap (λ b. cond b 1 0) (c.in_ok-is_mapped.ensures.mapped
     ∙ ap (λ (stated : Option MapRecord). is_some (replacement stated (place_seen c.in-Some.place))) found) in
+    let mapped : c.in_ok-is_mapped.is_mapped
+    ≡ is_some (replacement (found_beside table g.M.Maps.found c.look_for.new.maps c.in-Some.place.url.now) (place_seen c.in-Some.place)) =
+    c.in_ok-is_mapped.ensures.mapped ∙ ap (λ (stated : Option MapRecord). is_some (replacement stated (place_seen c.in-Some.place))) found in
+    let named = subst (λ (stated : Option MapRecord). AreNoted c.loop-place.self.is_noted
+    (naming_by (place_seen c.in-Some.place) (is_some stated) c.in_ok-is_mapped.is_mapped ∷ []) (notes_seen c.loop-place.self.notes.now)
+    (notes_seen c.note_place.new.notes)) found c.note_place.ensures in
+    let noted = subst (λ is_mapped. AreNoted c.loop-place.self.is_noted
+    (naming_by (place_seen c.in-Some.place) (is_some (found_beside table g.M.Maps.found c.look_for.new.maps c.in-Some.place.url.now)) is_mapped ∷ [])
+    (notes_seen c.loop-place.self.notes.now) (notes_seen c.note_place.new.notes)) mapped named in
     record {
       within = next.within;
       done = done_place _ _ _ _ _ _ _ _ _ _ _ _ is c.in-Some.place c.look_for.new.maps finds next c.in-Some.ensures.1 c.put_place.new.output _ put refl
-          (refl, refl) refl (ap (λ n. c.loop-place.self.mapped + n) one);
+          (refl, refl, refl, refl) refl (ap (λ n. c.loop-place.self.mapped + n) one) noted;
     }
 
 pub returns-in_err-put-clause-looked : goal.returns-in_err-put-clause-looked
