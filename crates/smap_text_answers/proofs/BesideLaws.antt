@@ -7,8 +7,9 @@ use Rattle.smap_lines.specs.declared.fault.LineFault.TheVariants.{Memory}
 use Rattle.smap_locations.specs.Locations.{key_for, path_for}
 use Rattle.smap_places.specs.Places.{PlaceUrl}
 use Rattle.smap_places.specs.PlacesBeside.{FindsBeside, found_beside}
+use Rattle.smap_places.specs.PlacesNoted.{RewritesPlacesNoted}
 use Rattle.smap_places.specs.PlacesOver.{RewritesPlacesOver}
-use Rattle.smap_places.specs.Laws.PlacesSeen.{front_of_none, places_seen}
+use Rattle.smap_places.specs.Laws.PlacesSeen.{front_of_none, places_noted_seen, places_seen}
 use Rattle.smap_record.specs.Record.{MapRecord}
 use Rattle.smap_by_text.specs.ByText.{value_under}
 use Rattle.smap_store.specs.Cache.{CacheSeen, Kept, kept_record}
@@ -20,6 +21,7 @@ use Rattle.smap_trace.specs.Hiding.{HidingSeen}
 use Rattle.smap_trace.specs.Laws.Seen.{looked_seen}
 use Rattle.smap_trace.specs.Laws.Unread as unread
 use Rattle.smap_trace.specs.Rewriting.{Looked}
+use Rattle.smap_trace.specs.UrlNotes.{NotesSeen}
 use Rattle.smap_trace.specs.declared.outcome.Summary.{Summary}
 use Rattle.smap_text_answers.specs.RewriteFrom.{RewritesTextFront}
 
@@ -137,6 +139,15 @@ module _ {L : Type 0} (words : List (List ℕ × MapRecord)) (first : StoredMaps
       places_both begins most before after summary is =
           places_seen (FindsBeside words StoreFinds) (found_beside words (λ maps. found_in (stored_seen maps))) (FindsIn Loads) found_in with_words IsBeside
           finds_both found_both begins most before after first new summary (same_store_self first, none) is
+
+      pub noted_both : (begins : List ℕ → List ℕ → Option PlaceUrl) (known : List ℕ → Bool) (most : ℕ) (before after : DevicesSeen) (summary : Summary)
+          (notes others : NotesSeen)
+          → RewritesPlacesNoted (FindsBeside words StoreFinds) (found_beside words (λ maps. found_in (stored_seen maps))) begins known most before after first
+          new summary notes others
+          → RewritesPlacesNoted (FindsIn Loads) found_in begins known most before after (with_words first) (with_words new) summary notes others
+      noted_both begins known most before after summary notes others is =
+          places_noted_seen (FindsBeside words StoreFinds) (found_beside words (λ maps. found_in (stored_seen maps))) (FindsIn Loads) found_in with_words IsBeside
+          finds_both found_both begins most before after first new summary known notes others (same_store_self first, none) is
 
 -- what a URL may have in it
 module _ {L : Type 0} (MayLoad : LoadsMay L) (words : List (List ℕ × MapRecord)) (others : StoredSeen L) (none : others.words ≡ []) (url : List ℕ)

@@ -8,7 +8,7 @@ use Rattle.smap_lines.specs.declared.fault.LineFault.TheVariants.{Memory}
 use Rattle.smap_locations.specs.Locations.{key_for, path_for}
 use Rattle.smap_places.specs.Places.{PlaceUrl}
 use Rattle.smap_places.specs.PlacesRewritten.{places_in}
-use Rattle.smap_places.specs.Laws.PlacesSeen.{places_front_seen, places_seen}
+use Rattle.smap_places.specs.Laws.PlacesSeen.{places_front_seen, places_noted_seen, places_seen}
 use Rattle.smap_record.specs.Record.{MapRecord}
 use Rattle.smap_by_text.specs.ByText.{value_under}
 use Rattle.smap_store.specs.Cache.{Kept}
@@ -18,7 +18,6 @@ use Rattle.smap_store.specs.Laws.Seen.{finds_seen, gives_seen, see_store}
 use Rattle.smap_store.specs.Stored.{Asks, Comes, FindsIn, GivesIn, LoadsMay, LoadsStep, Recalls, StoredSeen, Untouched, found_in}
 use Rattle.smap_trace.specs.Hiding.{HidingSeen}
 use Rattle.smap_trace.specs.Rewriting.{Looked}
-use Rattle.smap_trace.specs.Noted.{RewritesNoted}
 use Rattle.smap_trace.specs.UrlNotes.{NotesSeen}
 use Rattle.smap_trace.specs.Laws.Noted.{noted_seen}
 use Rattle.smap_trace.specs.Laws.Passed.{passing_seen}
@@ -26,7 +25,7 @@ use Rattle.smap_trace.specs.Laws.Seen.{front_seen, looked_seen}
 use Rattle.smap_trace.specs.declared.outcome.RewriteCounts.{RewriteCounts}
 use Rattle.smap_replies.specs.Files.{MayRead}
 use Rattle.smap_text_answers.specs.Loader.{IsSameLoader, LoaderSeen, Loads, MayLoad, loader_seen}
-use Rattle.smap_text_answers.specs.RewriteFrom.{IsStoredRewritten, RewritesText, RewritesTextFront, places_of}
+use Rattle.smap_text_answers.specs.RewriteFrom.{IsStoredRewritten, RewritesText, RewritesTextFront, RewritesTextNoted, places_of}
 use Rattle.smap_text_answers.specs.declared.loader.FileLoader.{FileLoader}
 use Rattle.smap_text_answers.specs.declared.sources.MapSources.{MapSources}
 
@@ -138,12 +137,18 @@ module _ {F E : Type 0} (gives : F → MayRead) (seen : E → SinkSeen) where
         front_from false fault is =
             front_seen (GivesIn May old) (GivesIn MaySeen (see old)) (gives_seen (loader_seen seen) May MaySeen old may_first) hide most before after fault is
 
-      pub noted_from : (hide : HidingSeen) (most : ℕ) (before after : DevicesSeen) (counts : RewriteCounts) (notes : NotesSeen)
-          → RewritesNoted (FindsIn Steps) found_in hide most before after old new counts notes
-          → RewritesNoted (FindsIn Seen) found_in hide most before after (see old) (see new) counts notes
-      noted_from hide most before after counts notes is =
-          noted_seen (FindsIn Steps) found_in (FindsIn Seen) found_in see (λ maps. IsSameLoader first maps.loader) finds_so (λ maps url. refl)
-          hide most before after old new counts notes at_first is
+      pub noted_from : (anywhere : Bool) (begins : List ℕ → List ℕ → Option PlaceUrl) (known : List ℕ → Bool) (hide : HidingSeen) (most : ℕ)
+          (before after : DevicesSeen) (counts : RewriteCounts) (notes others : NotesSeen)
+          → RewritesTextNoted anywhere (FindsIn Steps) begins known hide most before after old new counts notes others
+          → RewritesTextNoted anywhere (FindsIn Seen) begins known hide most before after (see old) (see new) counts notes others
+      noted_from true begins known hide most before after counts notes others is =
+          places_noted_seen (FindsIn Steps) found_in (FindsIn Seen) found_in see (λ maps. IsSameLoader first maps.loader) finds_so (λ maps url same. refl)
+          begins most before after old new counts.summary known notes others at_first is
+      noted_from false begins known hide most before after counts notes others is = (
+        noted_seen (FindsIn Steps) found_in (FindsIn Seen) found_in see (λ maps. IsSameLoader first maps.loader) finds_so (λ maps url. refl)
+            hide most before after old new counts notes at_first is.0,
+        is.1,
+      )
 
       pub rewritten_from : (sources : MapSources) (anywhere : Bool) (most_passed : ℕ) (hide : HidingSeen) (most : ℕ) (before after : DevicesSeen) (result : Result RewriteCounts LineFault)
           → IfOk result (RewritesText anywhere (FindsIn Steps) (places_of sources) most_passed hide most before after old new)

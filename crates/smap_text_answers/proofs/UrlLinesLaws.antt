@@ -2,27 +2,28 @@
 use Rattle.std.specs.Prelude.{◌≡◌, ◌&&◌, ℕ, Bool, false, true, List, [], ◌∷◌, ◌++◌, Option, Some, cond, not, option_map}
 use Rattle.std.specs.List.{find}
 use Rattle.std.specs.Str.{bytes_eq}
-use Rattle.std.proofs.Common.{ap, append_assoc, refl, subst, sym, ◌∙◌}
+use Rattle.std.proofs.Common.{◌+◌, ⊥, ap, append_assoc, arith, length, refl, subst, sym, ◌∙◌}
 use Rattle.std.proofs.lemmas.List.{append-nil}
 use Rattle.url.specs.Parts.{Parts}
 use Rattle.smap_locations.specs.ListLine.{is_rule}
 use Rattle.smap_locations.specs.Locations.{LocationsSeen}
 use Rattle.smap_replies.specs.Files.{MayRead}
-use Rattle.smap_text_answers.specs.UrlLines.{AreUrlLines, IsUrlLine, word_file}
+use Rattle.smap_text_answers.specs.UrlLines.{AreAllLines, AreUrlLines, IsUrlLine, nothing_line, word_file}
 use Rattle.smap_trace.specs.UrlNotes.{UrlNoteSeen}
 
-module _ (Reads : MayRead) (paths : Bool) (base : Option Parts) (k number : ℕ) (arguments : List (List ℕ × List ℕ)) (locations : LocationsSeen) where
+module _ (Reads : MayRead) (paths : Bool) (base : Option Parts) (k number : ℕ) (arguments : List (List ℕ × List ℕ)) (locations : LocationsSeen)
+    (anywhere : Bool) where
   abbrev Are : List UrlNoteSeen → (text : List ℕ) → Type 0
-  Are = AreUrlLines Reads paths base k number arguments locations
+  Are = AreUrlLines Reads paths base k number arguments locations anywhere
 
   -- the lines so far, with one more
   pub lines_next : (notes left : List UrlNoteSeen) (note : UrlNoteSeen) (line rest : List ℕ) → notes ≡ note ∷ left
-      → IsUrlLine Reads paths base k number arguments locations note line → Are left rest → Are notes (line ++ rest)
+      → IsUrlLine Reads paths base k number arguments locations anywhere note line → Are left rest → Are notes (line ++ rest)
   lines_next notes left note line rest is is_line are = subst (λ l. Are l (line ++ rest)) (sym is) (line, rest, is_line, are, refl)
 
   pub lines_on : (all notes left : List UrlNoteSeen) (note : UrlNoteSeen) (text line more rest : List ℕ) → notes ≡ note ∷ left
       → ((rest : List ℕ) → Are notes rest → Are all (text ++ rest))
-      → IsUrlLine Reads paths base k number arguments locations note line → more ≡ text ++ line → Are left rest → Are all (more ++ rest)
+      → IsUrlLine Reads paths base k number arguments locations anywhere note line → more ≡ text ++ line → Are left rest → Are all (more ++ rest)
   lines_on all notes left note text line more rest is so_far is_line more_is are =
       subst (λ t. Are all t) (sym (append_assoc text line rest) ∙ ap (λ m. m ++ rest) (sym more_is))
       (so_far (line ++ rest) (lines_next notes left note line rest is is_line are))
@@ -30,6 +31,30 @@ module _ (Reads : MayRead) (paths : Bool) (base : Option Parts) (k number : ℕ)
   -- and all of them
   pub lines_end : (all : List UrlNoteSeen) (text : List ℕ) → ((rest : List ℕ) → Are [] rest → Are all (text ++ rest)) → Are all text
   lines_end all text so_far = subst (λ t. Are all t) (append-nil text) (so_far [] refl)
+
+  -- the lines of some, and of others behind them
+  pub lines_both : (notes others : List UrlNoteSeen) (text more : List ℕ) → Are notes text → Are others more → Are (notes ++ others) (text ++ more)
+  lines_both [] others text more one two = subst (Are others) (ap (λ t. t ++ more) (sym one)) two
+  lines_both (note ∷ notes) others text more one two = (
+    one.0,
+    one.1 ++ more,
+    one.2,
+    lines_both notes others one.1 more one.3 two,
+    ap (λ t. t ++ more) one.4 ∙ append_assoc one.0 one.1 more,
+  )
+
+  -- or that there is none
+  pub lines_all : (notes others : List UrlNoteSeen) (text : List ℕ) → (length notes + length others ≡ 0 → ⊥) → Are (notes ++ others) text
+      → AreAllLines Reads paths base k number arguments locations anywhere (notes ++ others) text
+  lines_all [] [] text some are = absurd (some refl)
+  lines_all [] (note ∷ others) text some are = are
+  lines_all (note ∷ notes) others text some are = are
+
+  pub lines_none : (notes others : List UrlNoteSeen) (text : List ℕ) → length notes + length others ≡ 0 → text ≡ nothing_line anywhere
+      → AreAllLines Reads paths base k number arguments locations anywhere (notes ++ others) text
+  lines_none [] [] text none is = is
+  lines_none [] (note ∷ others) text none is = absurd (omega (arith, none))
+  lines_none (note ∷ notes) others text none is = absurd (omega (arith, none))
 
 -- ---- the file that an argument names
 

@@ -12,9 +12,11 @@ use Rattle.smap_lines.specs.declared.fault.LineFault.{LineFault}
 use Rattle.smap_lines.specs.declared.fault.LineFault.TheVariants as fault
 use Rattle.smap_places.specs.Places.{PlaceUrl}
 use Rattle.smap_places.specs.PlacesBy.{RewritesPlacesBy}
+use Rattle.smap_places.specs.PlacesNoted.{RewritesPlacesNoted}
 use Rattle.smap_places.specs.PlacesRewritten.{places_in}
 use Rattle.smap_places.specs.PlacesOver.{RewritesPlacesFrontOver, RewritesPlacesOver}
 use Rattle.smap_places.specs.PlaceAt.{place_at}
+use Rattle.smap_places.specs.Seeming.{knows}
 use Rattle.smap_record.specs.Record.{MapRecord}
 use Rattle.smap_store.specs.ByPath.{stored_maps}
 use Rattle.smap_store.specs.Cache.{CacheSeen}
@@ -90,6 +92,10 @@ store_start sources cache_bytes errors code = record {
 abbrev pub places_of : MapSources → (before text : List ℕ) → Option PlaceUrl
 places_of sources = place_at (record { table = sources.words; locations = sources.locations })
 
+-- which URLs an argument or a list has
+abbrev pub known_of : MapSources → (url : List ℕ) → Bool
+known_of sources = knows (record { table = sources.words; locations = sources.locations })
+
 -- ---- a text over a store
 
 -- the places of a text are rewritten, in lines of which none is too long, and none is passed
@@ -106,6 +112,15 @@ abbrev pub RewritesText : {L : Type 0} → (anywhere : Bool) → (Finds : Stored
 RewritesText anywhere Finds begins most_passed hide most before after old new counts =
     MatchBool anywhere (RewritesPlacesCounted Finds begins most before after old new counts)
     (RewritesPassing Finds found_in (places_in begins) most_passed hide most before after old new counts)
+
+-- and these are the notes of what its places name, and beside them those of the URLs that look like one and are not known; or of
+-- what its frames name, and none beside them
+abbrev pub RewritesTextNoted : {L : Type 0} → (anywhere : Bool) → (Finds : StoredSeen L → (url : List ℕ) → StoredSeen L → Type 0)
+    → (begins : List ℕ → List ℕ → Option PlaceUrl) → (known : List ℕ → Bool) → (hide : HidingSeen) → (most : ℕ) → (before after : DevicesSeen)
+    → (old new : StoredSeen L) → RewriteCounts → (notes others : NotesSeen) → Type 0
+RewritesTextNoted anywhere Finds begins known hide most before after old new counts notes others =
+    MatchBool anywhere (RewritesPlacesNoted Finds found_in begins known most before after old new counts.summary notes others)
+    (RewritesNoted Finds found_in hide most before after old new counts notes × (others ≡ record { notes = []; is_short = false }))
 
 -- or up to a fault
 abbrev pub RewritesTextFront : (anywhere : Bool) → (Gives : (url : List ℕ) → Option MapRecord → Type 0) → (begins : List ℕ → List ℕ → Option PlaceUrl)
@@ -143,13 +158,15 @@ pub record IsOverStore (Reads : MayRead) (base : Option Parts) (k : ℕ) (reques
   pub refused : end.refused ≡ last.loader.refused
   pub shortages : end.shortages ≡ last.cache.shortages
 
--- what frames name was noted, where that is asked and they were rewritten to the end of a trace
-abbrev pub IsNotedOver : MayRead → Option Parts → (k : ℕ) → RequestSeen → (sources : MapSources) → StoreEnd → NotesSeen → (before after : Streams) → Type 0
-IsNotedOver Reads base k request sources end notes before after =
-    request.anywhere ≡ false → request.explain ≡ true → IfOk end.result (λ counts. (last : StoredSeen LoaderSeen)
-    × RewritesNoted (FindsIn (Loads Reads request.paths base k (length request.arguments + 1))) found_in request.hide request.limit_bytes
+-- what frames or places name was noted, where that is asked and they were rewritten to the end of a text
+abbrev pub IsNotedOver : MayRead → Option Parts → (k : ℕ) → RequestSeen → (sources : MapSources) → StoreEnd → (notes others : NotesSeen) → (before after : Streams)
+    → Type 0
+IsNotedOver Reads base k request sources end notes others before after =
+    request.explain ≡ true → IfOk end.result (λ counts. (last : StoredSeen LoaderSeen)
+    × RewritesTextNoted request.anywhere (FindsIn (Loads Reads request.paths base k (length request.arguments + 1))) (places_of sources)
+    (known_of sources) request.hide request.limit_bytes
     (devices_seen before.input before.sinks.output) (devices_seen after.input after.sinks.output)
-    (store_start sources request.cache_bytes before.sinks.errors before.sinks.code) last counts notes)
+    (store_start sources request.cache_bytes before.sinks.errors before.sinks.code) last counts notes others)
 
 -- a text becomes what the maps make of it that a function gives: its places, which begin so, or the frames of a trace
 abbrev pub RewritesTextBy : (anywhere : Bool) → (maps : MapsByUrl) → (begins : List ℕ → List ℕ → Option PlaceUrl) → (hide : HidingSeen) → (most : ℕ)
@@ -224,12 +241,14 @@ EndsFrom end summary anywhere status before after = EndsResult end summary anywh
 
 -- what became of the URLs that were noted is said then, where that is asked; and the status of that
 abbrev pub says_urls : RequestSeen → StoreEnd → Bool
-says_urls request end = request.explain && (not request.anywhere && is_ok end.result)
+says_urls request end = request.explain && is_ok end.result
 
-abbrev pub SaysUrls : MayRead → Option Parts → (k : ℕ) → RequestSeen → (sources : MapSources) → StoreEnd → NotesSeen → (status : ℕ) → (before after : SinkSeen) → Type 0
-SaysUrls Reads base k request sources end notes status before after =
+abbrev pub SaysUrls : MayRead → Option Parts → (k : ℕ) → RequestSeen → (sources : MapSources) → StoreEnd → (notes others : NotesSeen) → (status : ℕ)
+    → (before after : SinkSeen) → Type 0
+SaysUrls Reads base k request sources end notes others status before after =
     MatchBool (says_urls request end)
-    (TellsUrls Reads request.paths base k (length request.arguments + 1) request.arguments sources.locations notes status before after)
+    (TellsUrls Reads request.paths base k (length request.arguments + 1) request.arguments sources.locations request.anywhere notes others
+    status before after)
     ((status ≡ 0) × (after ≡ before))
 
 -- ---- what a terminal is told
@@ -256,10 +275,10 @@ Hints request end notes status before after = MatchBool (is_hinted request end n
 abbrev pub RewritesSources : MayRead → Option Parts → (k : ℕ) → RequestSeen → Result MapSources Report → (status : ℕ) → (before after : Streams) → Type 0
 RewritesSources Reads base k request (Err refused) status before after = (after.input ≡ before.input) × Ends refused status before.sinks after.sinks
 RewritesSources Reads base k request (Ok sources) status before after =
-    (end : StoreEnd) × (notes : NotesSeen) × (between : Streams) × (told : Sinks) × (named : SinkSeen) × (ended : ℕ) × (said : ℕ)
-    × IsOverStore Reads base k request sources end before between × IsNotedOver Reads base k request sources end notes before between
+    (end : StoreEnd) × (notes : NotesSeen) × (others : NotesSeen) × (between : Streams) × (told : Sinks) × (named : SinkSeen) × (ended : ℕ) × (said : ℕ)
+    × IsOverStore Reads base k request sources end before between × IsNotedOver Reads base k request sources end notes others before between
     × AnswersByPath Reads base k request sources end before between × (after.input ≡ between.input) × EndsFrom end request.summary request.anywhere ended between.sinks told
-    × (after.sinks.output ≡ told.output) × (after.sinks.code ≡ told.code) × SaysUrls Reads base k request sources end notes said told.errors named
+    × (after.sinks.output ≡ told.output) × (after.sinks.code ≡ told.code) × SaysUrls Reads base k request sources end notes others said told.errors named
     × Hints request end notes status named after.sinks.errors × (status ≡ max ended said)
 
 abbrev pub RewritesFrom : MayRead → Option Parts → (k : ℕ) → RequestSeen → (status : ℕ) → (before after : Streams) → Type 0

@@ -1,4 +1,4 @@
--- What is said at the end of the URLs that a trace named: a line for each of the first 100, with what decided, and the file that its map came from, or
+-- What is said at the end of the URLs that a text named: a line for each of the first 100, with what decided, and the file that its map came from, or
 -- why it had none (this project's own).
 use Rattle.std.specs.Prelude.{◌≡◌, ◌⊎◌, ℕ, ◌==◌, ◌&&◌, ◌-◌, Bool, false, not, List, [], ◌∷◌, ◌++◌, Option, Some, None, MatchBool, MatchOption, codes, if◌then◌else◌}
 use Rattle.std.specs.Prelude.{length, option_map, take, unwrap_or}
@@ -22,12 +22,19 @@ use Rattle.smap_store.specs.Fileless.{asks_no_file}
 use Rattle.smap_text_answers.specs.Nearest.{nearest_of}
 use Rattle.smap_trace.specs.UrlNotes.{NotesSeen, UrlNoteSeen}
 
--- how many frames name the URL, and how many of them were replaced
-abbrev pub frames_text : (frames : ℕ) → List ℕ
-frames_text frames = if frames == 1 then codes " frame, " else codes " frames, "
+-- how many frames name the URL, or places anywhere, and how many of them were replaced
+abbrev pub frames_text : (count : ℕ) → List ℕ
+frames_text count = if count == 1 then codes " frame, " else codes " frames, "
 
-abbrev pub counts_text : (frames mapped : ℕ) → List ℕ
-counts_text frames mapped = concat (codes ": " ∷ decimal frames ∷ frames_text frames ∷ decimal mapped ∷ codes " mapped, " ∷ [])
+abbrev pub places_text : (count : ℕ) → List ℕ
+places_text count = if count == 1 then codes " place, " else codes " places, "
+
+abbrev pub counts_text : (anywhere : Bool) → (count mapped : ℕ) → List ℕ
+counts_text anywhere count mapped = concat (
+    codes ": " ∷ decimal count
+    ∷ (if anywhere then places_text count else frames_text count)
+    ∷ decimal mapped ∷ codes " mapped, "
+    ∷ [])
 
 -- ---- a map was found
 
@@ -97,6 +104,12 @@ late_text path = codes "no map came from " ++ shown path
 abbrev pub no_frame_line : List ℕ
 no_frame_line = codes "no line is a frame: --anywhere finds places in other text, and a text in UTF-16 is to be converted first\n"
 
+abbrev pub no_place_line : List ℕ
+no_place_line = codes "no place was found: a place is a URL of an argument before :LINE:COLUMN, and a text in UTF-16 is to be converted first\n"
+
+abbrev pub nothing_line : (anywhere : Bool) → List ℕ
+nothing_line anywhere = if anywhere then no_place_line else no_frame_line
+
 module _ (Reads : MayRead) (paths : Bool) (base : Option Parts) (k number : ℕ) where
   abbrev pub IsCause : (url path text : List ℕ) → Type 0
   IsCause url path text =
@@ -113,22 +126,25 @@ module _ (Reads : MayRead) (paths : Bool) (base : Option Parts) (k number : ℕ)
     abbrev pub IsEnd : UrlNoteSeen → (text : List ℕ) → Type 0
     IsEnd note text = MatchBool note.found (text ≡ found_text (deciding_name note.url arguments locations) (url_file note.url arguments locations) note.unmapped) (IsWhy note.url text)
 
-    -- of a longer URL the first 1,024 bytes are printed
-    abbrev pub IsUrlLine : UrlNoteSeen → (line : List ℕ) → Type 0
-    IsUrlLine note line =
-        (end : List ℕ) × IsEnd note end × (line ≡ shown (take 1024 note.url) ++ counts_text note.frames note.mapped ++ end ++ codes "\n")
+    -- of frames, or of places anywhere
+    module _ (anywhere : Bool) where
+      -- of a longer URL the first 1,024 bytes are printed
+      abbrev pub IsUrlLine : UrlNoteSeen → (line : List ℕ) → Type 0
+      IsUrlLine note line =
+          (end : List ℕ) × IsEnd note end × (line ≡ shown (take 1024 note.url) ++ counts_text anywhere note.frames note.mapped ++ end ++ codes "\n")
 
-    abbrev pub AreUrlLines : List UrlNoteSeen → (text : List ℕ) → Type 0
-    AreUrlLines [] text = text ≡ []
-    AreUrlLines (note ∷ notes) text = (line : List ℕ) × (rest : List ℕ) × IsUrlLine note line × AreUrlLines notes rest × (text ≡ line ++ rest)
+      abbrev pub AreUrlLines : List UrlNoteSeen → (text : List ℕ) → Type 0
+      AreUrlLines [] text = text ≡ []
+      AreUrlLines (note ∷ notes) text = (line : List ℕ) × (rest : List ℕ) × IsUrlLine note line × AreUrlLines notes rest × (text ≡ line ++ rest)
 
-    -- where no URL was named, no line is a frame, and that is said
-    abbrev pub AreAllLines : List UrlNoteSeen → (text : List ℕ) → Type 0
-    AreAllLines [] text = text ≡ no_frame_line
-    AreAllLines (note ∷ notes) text = AreUrlLines (note ∷ notes) text
+      -- where no URL was named, no line is a frame, or there is no place, and that is said
+      abbrev pub AreAllLines : List UrlNoteSeen → (text : List ℕ) → Type 0
+      AreAllLines [] text = text ≡ nothing_line anywhere
+      AreAllLines (note ∷ notes) text = AreUrlLines (note ∷ notes) text
 
-    -- these lines are reported, or that memory ran out
-    abbrev pub TellsUrls : NotesSeen → (status : ℕ) → (before after : SinkSeen) → Type 0
-    TellsUrls notes status before after =
-        ((text : List ℕ) × (status ≡ 0) × (notes.is_short ≡ false) × AreAllLines notes.notes text × IsReportedTo before after text)
-        ⊎ ((status ≡ 3) × IsReportedTo before after memory_line)
+      -- these lines are reported, of the URLs that were named, and behind them of those that look like one and are not known; or that
+      -- memory ran out
+      abbrev pub TellsUrls : (notes others : NotesSeen) → (status : ℕ) → (before after : SinkSeen) → Type 0
+      TellsUrls notes others status before after =
+          ((text : List ℕ) × (status ≡ 0) × (notes.is_short ≡ false) × (others.is_short ≡ false) × AreAllLines (notes.notes ++ others.notes) text
+          × IsReportedTo before after text) ⊎ ((status ≡ 3) × IsReportedTo before after memory_line)

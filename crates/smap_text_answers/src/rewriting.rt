@@ -1,12 +1,11 @@
 //! Rewriting the stack trace on standard input over files and folders of maps, which are read when it names them.
 ghost use Rattle.std.specs.Prelude.{◌≡◌, ◌<◌, ◌^◌, [], false, true, option_copied, IfErr, IfOk};
-ghost use Rattle.smap_text_answers.specs.RewriteFrom.{IsNotedOver, IsOverStore, RewritesFrom, RewritesText, RewritesTextFront, SaysUrls, most_passed, places_of, says_urls, request_seen, store_of};
+ghost use Rattle.smap_text_answers.specs.RewriteFrom.{IsNotedOver, IsOverStore, RewritesFrom, RewritesText, RewritesTextFront, RewritesTextNoted, SaysUrls, known_of, most_passed, places_of, says_urls, request_seen, store_of};
 ghost use Rattle.smap_replies.specs.Streams.{streams_seen};
 ghost use Rattle.smap_lines.specs.Editing.{devices_seen, is_read_fault, is_write_fault};
 ghost use Rattle.smap_lines.specs.declared.fault.LineFault.TheVariants.{Memory};
-ghost use Rattle.smap_store.specs.Stored.{FindsIn, GivesIn, found_in};
+ghost use Rattle.smap_store.specs.Stored.{FindsIn, GivesIn};
 ghost use Rattle.smap_trace.specs.Hiding.{hiding_seen};
-ghost use Rattle.smap_trace.specs.Noted.{RewritesNoted};
 ghost use Rattle.smap_trace.specs.NotesSeen.{notes_seen};
 ghost use Rattle.smap_trace.specs.Rewriting.{Looked};
 
@@ -16,7 +15,7 @@ use crate::sources::{MapSources, sources_of};
 use crate::url_lines::tell_urls;
 use smap_codes::Code;
 use smap_io::{ByteSink, ByteSource};
-use smap_places::{PlaceFinder, rewrite_places_over};
+use smap_places::{PlaceFinder, rewrite_places_noting};
 use smap_replies::{DONE, FileReader, MapReader, report};
 use smap_store::{MapCache, MapLoader, StoredMaps};
 use smap_trace::{
@@ -47,7 +46,7 @@ pub struct RewriteRequest<'a, 'r, F: FileReader> {
     pub limit_bytes: u64,
     /// Whether what was done is reported at the end.
     pub summary: bool,
-    /// Whether it is reported then what became of the URLs that frames name.
+    /// Whether it is reported then what became of the URLs that frames or places name.
     pub explain: bool,
     /// Whether standard error is told, where nothing else was said, what takes the places of lines that are no frames.
     pub hint: bool,
@@ -81,12 +80,20 @@ pub fn rewrite_from<F: FileReader, R: ByteSource, W: ByteSink, E: ByteSink>(
         request.list,
     ) {
         Ok(sources) => {
-            let mut notes = UrlNotes::new(alloc);
+            let (mut notes, mut others) = (UrlNotes::new(alloc), UrlNotes::new(alloc));
             let end = over_store(
-                alloc, request, &sources, &mut notes, input, output, errors, first,
+                alloc,
+                request,
+                &sources,
+                &mut notes,
+                &mut others,
+                input,
+                output,
+                errors,
+                first,
             );
             let ended = finish(alloc, request, &end, output, errors, first);
-            let said = say_urls(alloc, request, &sources, &end, &notes, errors);
+            let said = say_urls(alloc, request, &sources, &end, &notes, &others, errors);
             let status = ended.max(said);
             hint(request, &end, &notes, status, errors);
             status
@@ -131,12 +138,14 @@ fn over_store<F: FileReader, R: ByteSource, W: ByteSink, E: ByteSink>(
     request: &RewriteRequest<'_, '_, F>,
     sources: &MapSources,
     notes: &mut UrlNotes,
+    others: &mut UrlNotes,
     input: &mut R,
     output: &mut W,
     errors: &mut E,
     first: &mut Option<Code>,
 ) -> StoreEnd
     requires unnoted { notes_seen notes.old ≡ record { notes = []; is_short = false } }
+    requires no_others { notes_seen others.old ≡ record { notes = []; is_short = false } }
     requires input_works { (R.seen input.old).failed ≡ false }
     requires output_works { (W.seen output.old).failed ≡ false }
     requires limit { request.now.limit_bytes < 2 ^ 63 }
@@ -146,7 +155,7 @@ fn over_store<F: FileReader, R: ByteSource, W: ByteSink, E: ByteSink>(
         (streams_seen (R.seen input.new) (W.seen output.new) (E.seen errors.new) first.new) }
     ensures noted { IsNotedOver (F.gives request.now.maps.now.files.now)
         (option_copied request.now.maps.now.base) request.now.maps.now.interval (request_seen request.now) sources.now result
-        (notes_seen notes.new)
+        (notes_seen notes.new) (notes_seen others.new)
         (streams_seen (R.seen input.old) (W.seen output.old) (E.seen errors.old) first.old)
         (streams_seen (R.seen input.new) (W.seen output.new) (E.seen errors.new) first.new) }
     ensures output_failure { (W.seen output.new).failed ≡ is_write_fault result.result }
@@ -173,7 +182,15 @@ fn over_store<F: FileReader, R: ByteSource, W: ByteSink, E: ByteSink>(
             most: request.limit_bytes,
         },
     };
-    let result = rewrite_text(&asked, &mut cache, &mut loader, notes, input, output);
+    let result = rewrite_text(
+        &asked,
+        &mut cache,
+        &mut loader,
+        notes,
+        others,
+        input,
+        output,
+    );
     let (status, refused) = (loader.status, loader.refused);
     *first = loader.code;
     StoreEnd {
@@ -204,10 +221,12 @@ fn rewrite_text<L: MapLoader, R: ByteSource, W: ByteSink>(
     cache: &mut MapCache,
     loader: &mut L,
     notes: &mut UrlNotes,
+    others: &mut UrlNotes,
     input: &mut R,
     output: &mut W,
 ) -> Result<RewriteCounts, RewriteFault>
     requires unnoted { notes_seen notes.old ≡ record { notes = []; is_short = false } }
+    requires no_others { notes_seen others.old ≡ record { notes = []; is_short = false } }
     requires input_works { (R.seen input.old).failed ≡ false }
     requires output_works { (W.seen output.old).failed ≡ false }
     requires limit { asked.now.options.most < 2 ^ 63 }
@@ -218,13 +237,14 @@ fn rewrite_text<L: MapLoader, R: ByteSource, W: ByteSink>(
         (devices_seen (R.seen input.new) (W.seen output.new))
         (store_of asked.now.sources.now cache.old loader.old)
         (store_of asked.now.sources.now cache.new loader.new)) }
-    ensures noted { asked.now.anywhere ≡ false → asked.now.explain ≡ true → IfOk result (λ counts.
-        RewritesNoted (FindsIn L.Loads) found_in
-        (hiding_seen asked.now.options.hiding) asked.now.options.most
+    ensures noted { asked.now.explain ≡ true → IfOk result (λ counts.
+        RewritesTextNoted asked.now.anywhere (FindsIn L.Loads) (places_of asked.now.sources.now)
+        (known_of asked.now.sources.now) (hiding_seen asked.now.options.hiding) asked.now.options.most
         (devices_seen (R.seen input.old) (W.seen output.old))
         (devices_seen (R.seen input.new) (W.seen output.new))
         (store_of asked.now.sources.now cache.old loader.old)
-        (store_of asked.now.sources.now cache.new loader.new) counts (notes_seen notes.new)) }
+        (store_of asked.now.sources.now cache.new loader.new) counts
+        (notes_seen notes.new) (notes_seen others.new)) }
     ensures front { IfErr result (RewritesTextFront asked.now.anywhere
         (GivesIn L.MayLoad (store_of asked.now.sources.now cache.old loader.old))
         (places_of asked.now.sources.now)
@@ -267,7 +287,18 @@ fn rewrite_text<L: MapLoader, R: ByteSource, W: ByteSink>(
         cache,
         loader,
     };
-    match rewrite_places_over(alloc, input, output, &finder, &mut beside, options.most) {
+    let rewritten = rewrite_places_noting(
+        alloc,
+        input,
+        output,
+        &finder,
+        &mut beside,
+        options.most,
+        asked.explain,
+        notes,
+        others,
+    );
+    match rewritten {
         Ok(summary) => Ok(RewriteCounts {
             summary,
             long: 0,
@@ -284,14 +315,15 @@ fn say_urls<F: FileReader, E: ByteSink>(
     sources: &MapSources,
     end: &StoreEnd,
     notes: &UrlNotes,
+    others: &UrlNotes,
     errors: &mut E,
 ) -> u8
     ensures { SaysUrls (F.gives request.now.maps.now.files.now)
         (option_copied request.now.maps.now.base) request.now.maps.now.interval (request_seen request.now) sources.now end.now
-        (notes_seen notes.now) result (E.seen errors.old) (E.seen errors.new) }
+        (notes_seen notes.now) (notes_seen others.now) result (E.seen errors.old) (E.seen errors.new) }
 {
     if says_urls(request, end) {
-        tell_urls(alloc, request, sources, notes, errors)
+        tell_urls(alloc, request, sources, notes, others, errors)
     } else {
         DONE
     }
@@ -301,5 +333,5 @@ fn say_urls<F: FileReader, E: ByteSink>(
 fn says_urls<F: FileReader>(request: &RewriteRequest<'_, '_, F>, end: &StoreEnd) -> bool
     ensures { result ≡ says_urls (request_seen request.now) end.now }
 {
-    request.explain && !request.anywhere && end.result.is_ok()
+    request.explain && end.result.is_ok()
 }

@@ -1,12 +1,12 @@
-//! What is said at the end of the URLs that a trace named.
-ghost use Rattle.std.specs.Prelude.{◌≡◌, ◌+◌, ◌&&◌, false, length, map, not, option_copied, take, string_bytes, IfOk};
+//! What is said at the end of the URLs that a text named.
+ghost use Rattle.std.specs.Prelude.{◌≡◌, ◌+◌, ◌++◌, ◌&&◌, false, length, map, not, option_copied, take, string_bytes, IfOk};
 ghost use Rattle.std.specs.Str.{bytes_eq};
 ghost use Rattle.smap_locations.specs.ListLine.{is_rule};
 ghost use Rattle.smap_replies.specs.Arguments.{argument_of};
 ghost use Rattle.smap_replies.specs.Outcome.{failure_report};
 ghost use Rattle.smap_text.specs.Shown.{shown};
 ghost use Rattle.smap_text_answers.specs.UrlLines.{AreAllLines, AreUrlLines, CauseIs, IsCause, IsEnd, IsUrlLine, TellsUrls};
-ghost use Rattle.smap_text_answers.specs.UrlLines.{body_of, cause_text, counts_text, deciding_name, found_text, frames_text, late_text, nearest_text, unknown_text, unmapped_text, unread_text, url_file, word_file};
+ghost use Rattle.smap_text_answers.specs.UrlLines.{body_of, cause_text, counts_text, deciding_name, found_text, frames_text, late_text, nearest_text, nothing_line, places_text, unknown_text, unmapped_text, unread_text, url_file, word_file};
 ghost use Rattle.smap_trace.specs.NotesSeen.{note_seen, notes_seen};
 
 use crate::loader::FileLoader;
@@ -31,20 +31,25 @@ const NO_FILE_ASKED: &str = "no file is asked for such a URL";
 const NO_FRAME: &str =
     "no line is a frame: --anywhere finds places in other text, and a text in UTF-16 is to be converted first\n";
 
+const NO_PLACE: &str =
+    "no place was found: a place is a URL of an argument before :LINE:COLUMN, and a text in UTF-16 is to be converted first\n";
+
 /// Reports what became of the URLs that were noted, or that memory ran out, and gives the status of that.
 pub fn tell_urls<F: FileReader, E: ByteSink>(
     alloc: Global,
     request: &RewriteRequest<'_, '_, F>,
     sources: &MapSources,
     notes: &UrlNotes,
+    others: &UrlNotes,
     errors: &mut E,
 ) -> u8
     ensures { TellsUrls (F.gives request.now.maps.now.files.now) request.now.paths
         (option_copied request.now.maps.now.base) request.now.maps.now.interval
         (length request.now.arguments.now + 1) (map argument_of request.now.arguments.now)
-        sources.now.locations (notes_seen notes.now) result (E.seen errors.old) (E.seen errors.new) }
+        sources.now.locations request.now.anywhere (notes_seen notes.now) (notes_seen others.now) result
+        (E.seen errors.old) (E.seen errors.new) }
 {
-    match lines_of(alloc, request, sources, notes, errors) {
+    match lines_of(alloc, request, sources, notes, others, errors) {
         Ok(text) => {
             print_error(errors, &text);
             DONE
@@ -62,16 +67,18 @@ fn lines_of<F: FileReader, E: ByteSink>(
     request: &RewriteRequest<'_, '_, F>,
     sources: &MapSources,
     notes: &UrlNotes,
+    others: &UrlNotes,
     errors: &mut E,
 ) -> Result<Vec<u8>, AllocError>
     ensures same { errors.new ≡ errors.old }
-    ensures enough { IfOk result (λ _. notes.now.is_short ≡ false) }
+    ensures enough { IfOk result (λ _. (notes.now.is_short ≡ false) × (others.now.is_short ≡ false)) }
     ensures lines { IfOk result (λ text. AreAllLines (F.gives request.now.maps.now.files.now) request.now.paths
         (option_copied request.now.maps.now.base) request.now.maps.now.interval
         (length request.now.arguments.now + 1) (map argument_of request.now.arguments.now)
-        sources.now.locations (map note_seen notes.now.notes.items) text.items) }
+        sources.now.locations request.now.anywhere (map note_seen notes.now.notes.items ++ map note_seen others.now.notes.items)
+        text.items) }
 {
-    if notes.is_short {
+    if notes.is_short || others.is_short {
         return Err(AllocError);
     }
     let loader = FileLoader {
@@ -89,26 +96,61 @@ fn lines_of<F: FileReader, E: ByteSink>(
         &loader,
         request.arguments,
         &sources.locations,
+        request.anywhere,
         &notes.notes,
+        &others.notes,
     )
 }
 
 // The lines of all of these, or that there is none.
+#[tactic(auto, using(crate::proofs::UrlLinesLaws::lines_all, crate::proofs::UrlLinesLaws::lines_none))]
 fn all_lines<F: FileReader, E: ByteSink>(
     alloc: Global,
     loader: &FileLoader<'_, '_, '_, F, E>,
     arguments: &[(String, String)],
     locations: &Locations,
+    anywhere: bool,
     notes: &[UrlNote],
+    others: &[UrlNote],
 ) -> Result<Vec<u8>, AllocError>
     ensures { IfOk result (λ text. AreAllLines (F.gives loader.now.maps.now.files.now) loader.now.paths
         (option_copied loader.now.maps.now.base) loader.now.maps.now.interval loader.now.number
-        (map argument_of arguments.now) locations.now (map note_seen notes.now) text.items) }
+        (map argument_of arguments.now) locations.now anywhere
+        (map note_seen notes.now ++ map note_seen others.now) text.items) }
 {
-    if notes.is_empty() {
-        return Vec::from_slice(alloc, NO_FRAME.as_bytes());
+    let count = notes.len() + others.len();
+    if count == 0 {
+        return Vec::from_slice(alloc, nothing_line(anywhere).as_bytes());
     }
-    lines_by(alloc, loader, arguments, locations, notes)
+    lines_of_both(alloc, loader, arguments, locations, anywhere, notes, others)
+}
+
+// The lines of all of these, one after another.
+fn lines_of_both<F: FileReader, E: ByteSink>(
+    alloc: Global,
+    loader: &FileLoader<'_, '_, '_, F, E>,
+    arguments: &[(String, String)],
+    locations: &Locations,
+    anywhere: bool,
+    notes: &[UrlNote],
+    others: &[UrlNote],
+) -> Result<Vec<u8>, AllocError>
+    ensures { IfOk result (λ text. AreUrlLines (F.gives loader.now.maps.now.files.now) loader.now.paths
+        (option_copied loader.now.maps.now.base) loader.now.maps.now.interval loader.now.number
+        (map argument_of arguments.now) locations.now anywhere
+        (map note_seen notes.now ++ map note_seen others.now) text.items) }
+{
+    let mut text = lines_by(alloc, loader, arguments, locations, anywhere, notes)?;
+    let more = lines_by(alloc, loader, arguments, locations, anywhere, others)?;
+    text.extend_from_slice(&more)?;
+    Ok(text)
+}
+
+// That no line is a frame, or that there is no place.
+fn nothing_line(anywhere: bool) -> &'static str
+    ensures { result.now ≡ nothing_line anywhere }
+{
+    if anywhere { NO_PLACE } else { NO_FRAME }
 }
 
 // The lines of all of these.
@@ -117,15 +159,16 @@ fn lines_by<F: FileReader, E: ByteSink>(
     loader: &FileLoader<'_, '_, '_, F, E>,
     arguments: &[(String, String)],
     locations: &Locations,
+    anywhere: bool,
     notes: &[UrlNote],
 ) -> Result<Vec<u8>, AllocError>
     ensures { IfOk result (λ text. AreUrlLines (F.gives loader.now.maps.now.files.now) loader.now.paths
         (option_copied loader.now.maps.now.base) loader.now.maps.now.interval loader.now.number
-        (map argument_of arguments.now) locations.now (map note_seen notes.now) text.items) }
+        (map argument_of arguments.now) locations.now anywhere (map note_seen notes.now) text.items) }
 {
     let mut text = Vec::new(alloc);
     for note in notes {
-        let line = line_of(alloc, loader, arguments, locations, note)?;
+        let line = line_of(alloc, loader, arguments, locations, anywhere, note)?;
         text.extend_from_slice(&line)?;
     }
     Ok(text)
@@ -137,14 +180,15 @@ fn line_of<F: FileReader, E: ByteSink>(
     loader: &FileLoader<'_, '_, '_, F, E>,
     arguments: &[(String, String)],
     locations: &Locations,
+    anywhere: bool,
     note: &UrlNote,
 ) -> Result<Vec<u8>, AllocError>
     ensures { IfOk result (λ line. IsUrlLine (F.gives loader.now.maps.now.files.now) loader.now.paths
         (option_copied loader.now.maps.now.base) loader.now.maps.now.interval loader.now.number
-        (map argument_of arguments.now) locations.now (note_seen note.now) line.items) }
+        (map argument_of arguments.now) locations.now anywhere (note_seen note.now) line.items) }
 {
     let end = end_of(alloc, loader, arguments, locations, note)?;
-    let counts = counts_text(alloc, note.frames, note.mapped)?;
+    let counts = counts_text(alloc, anywhere, note.frames, note.mapped)?;
     let mut line = shown_url(alloc, &note.url)?;
     line.extend_from_slice(counts.as_bytes())?;
     line.extend_from_slice(&end)?;
@@ -163,19 +207,30 @@ fn shown_url(alloc: Global, url: &[u8]) -> Result<Vec<u8>, AllocError>
         .collect(alloc)
 }
 
-// How many frames name a URL, and how many of them were replaced.
-fn counts_text(alloc: Global, frames: u64, mapped: u64) -> Result<String, AllocError>
-    ensures { IfOk result (λ text. string_bytes text ≡ counts_text frames mapped) }
+// How many frames name a URL, or places anywhere, and how many of them were replaced.
+fn counts_text(alloc: Global, anywhere: bool, count: u64, mapped: u64) -> Result<String, AllocError>
+    ensures { IfOk result (λ text. string_bytes text ≡ counts_text anywhere count mapped) }
 {
-    let named = frames_text(frames);
-    format!(in alloc; ": {frames}{named}{mapped} mapped, ")
+    let named = if anywhere {
+        places_text(count)
+    } else {
+        frames_text(count)
+    };
+    format!(in alloc; ": {count}{named}{mapped} mapped, ")
 }
 
 // What so many frames are called, for one line.
-fn frames_text(frames: u64) -> &'static str
-    ensures { result.now ≡ frames_text frames }
+fn frames_text(count: u64) -> &'static str
+    ensures { result.now ≡ frames_text count }
 {
-    if frames == 1 { " frame, " } else { " frames, " }
+    if count == 1 { " frame, " } else { " frames, " }
+}
+
+// What so many places are called, for one line.
+fn places_text(count: u64) -> &'static str
+    ensures { result.now ≡ places_text count }
+{
+    if count == 1 { " place, " } else { " places, " }
 }
 
 // The end of the line of a URL: where its map came from, or why it has none.

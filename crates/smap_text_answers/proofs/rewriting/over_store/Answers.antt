@@ -3,12 +3,11 @@ use Rattle.std.proofs.lemmas.List.{length-map}
 use Rattle.std.proofs.lemmas.Result.{IfOk-weaker}
 use Rattle.smap_lines.specs.Editing.{devices_seen}
 use Rattle.smap_store.specs.Cache.{CacheSeen}
-use Rattle.smap_store.specs.Stored.{FindsIn, StoredSeen, found_in}
+use Rattle.smap_store.specs.Stored.{FindsIn, StoredSeen}
 use Rattle.smap_text_answers.specs.Loader.{LoaderSeen, Loads, loader_seen}
 use Rattle.smap_trace.specs.Hiding.{hiding_seen}
-use Rattle.smap_trace.specs.Noted.{RewritesNoted}
 use Rattle.smap_trace.specs.NotesSeen.{notes_seen}
-use Rattle.smap_text_answers.specs.RewriteFrom.{IsStoredRewritten, most_passed, store_of}
+use Rattle.smap_text_answers.specs.RewriteFrom.{IsStoredRewritten, RewritesTextNoted, known_of, most_passed, places_of, store_of}
 use Rattle.smap_replies.specs.Arguments.{argument_of}
 use Rattle.smap_text_answers.proofs.StoreLaws.{looked_from, noted_from, rewritten_from, untouched_by}
 use Rattle.smap_text_answers.proofs.rewriting.over_store.Goals as goal
@@ -60,7 +59,7 @@ returns-clause-over g c =
     }
 
 pub returns-clause-noted : goal.returns-clause-noted
-returns-clause-noted g c off on =
+returns-clause-noted g c on =
     let gives = g.F.FileReader.gives in
     let seen = g.E.ByteSink.seen in
     let request = c.args.request.now in
@@ -76,11 +75,14 @@ returns-clause-noted g c off on =
     let last : StoredSeen LoaderSeen = store_of c.args.sources.now made.new.cache (loader_seen seen made.new.loader) in
     IfOk-weaker made.result _ _ (λ counts is. (
       last,
-      subst (λ (cache : CacheSeen). RewritesNoted (FindsIn (Loads (gives request.maps.now.files.now) request.paths (option_copied request.maps.now.base)
-          request.maps.now.interval (length (map argument_of request.arguments.now) + 1))) found_in (hiding_seen request.hiding) request.limit_bytes
-          before after (start cache) last counts (notes_seen made.new.notes)) c.new-cache.ensures
-          (subst (λ n. RewritesNoted (FindsIn (Loads (gives request.maps.now.files.now) request.paths (option_copied request.maps.now.base)
-          request.maps.now.interval (n + 1))) found_in (hiding_seen request.hiding) request.limit_bytes
-          before after (start c.new-cache.result) last counts (notes_seen made.new.notes)) (sym (length-map request.arguments.now argument_of))
-          (noted_from gives seen _ _ _ refl (hiding_seen request.hiding) request.limit_bytes before after counts (notes_seen made.new.notes) is)),
-    )) (made.ensures.noted off on)
+      subst (λ (cache : CacheSeen). RewritesTextNoted request.anywhere (FindsIn (Loads (gives request.maps.now.files.now) request.paths
+          (option_copied request.maps.now.base) request.maps.now.interval (length (map argument_of request.arguments.now) + 1)))
+          (places_of c.args.sources.now) (known_of c.args.sources.now) (hiding_seen request.hiding) request.limit_bytes
+          before after (start cache) last counts (notes_seen made.new.notes) (notes_seen made.new.others)) c.new-cache.ensures
+          (subst (λ n. RewritesTextNoted request.anywhere (FindsIn (Loads (gives request.maps.now.files.now) request.paths
+          (option_copied request.maps.now.base) request.maps.now.interval (n + 1))) (places_of c.args.sources.now) (known_of c.args.sources.now)
+          (hiding_seen request.hiding) request.limit_bytes
+          before after (start c.new-cache.result) last counts (notes_seen made.new.notes) (notes_seen made.new.others)) (sym (length-map request.arguments.now argument_of))
+          (noted_from gives seen _ _ _ refl request.anywhere (places_of c.args.sources.now) (known_of c.args.sources.now) (hiding_seen request.hiding)
+          request.limit_bytes before after counts (notes_seen made.new.notes) (notes_seen made.new.others) is)),
+    )) (made.ensures.noted on)

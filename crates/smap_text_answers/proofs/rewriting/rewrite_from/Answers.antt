@@ -16,6 +16,7 @@ returns-in-Ok g c =
       (
         run.result,
         notes_seen run.new.notes,
+        notes_seen run.new.others,
         streams_seen (g.R.ByteSource.seen run.new.input) (g.W.ByteSink.seen run.new.output) (g.E.ByteSink.seen run.new.errors) run.new.first,
         sinks_seen (g.W.ByteSink.seen c.finish-ended.new.output) (g.E.ByteSink.seen c.finish-ended.new.errors) c.finish-ended.new.first,
         g.E.ByteSink.seen c.say_urls-said.new.errors,

@@ -2,6 +2,7 @@ use Rattle.std.proofs.Common.{◌≡◌, ap, refl, rules, subst, sym, ◌∙◌}
 use Rattle.std.proofs.lemmas.Result.{IfErr-weaker, IfOk-weaker}
 use Rattle.smap_lines.specs.Editing.{devices_seen}
 use Rattle.smap_places.specs.PlaceAt.{place_at}
+use Rattle.smap_places.specs.PlacesNoted.{RewritesPlacesNoted}
 use Rattle.smap_places.specs.PlacesOver.{RewritesPlacesOver}
 use Rattle.smap_places.specs.PlacesRewritten.{places_in}
 use Rattle.smap_places.specs.Laws.PlacesSeen.{places_front_seen}
@@ -15,8 +16,8 @@ use Rattle.smap_trace.specs.Laws.Passed.{passing_seen}
 use Rattle.smap_trace.specs.Laws.Seen.{looked_seen}
 use Rattle.smap_trace.specs.Noted.{RewritesNoted}
 use Rattle.smap_trace.specs.NotesSeen.{notes_seen}
-use Rattle.smap_text_answers.specs.RewriteFrom.{places_of, store_of}
-use Rattle.smap_text_answers.proofs.BesideLaws.{gives_both, looked_both, places_both, store_after, text_front_of_none, when_off, when_on}
+use Rattle.smap_text_answers.specs.RewriteFrom.{known_of, places_of, store_of}
+use Rattle.smap_text_answers.proofs.BesideLaws.{gives_both, looked_both, noted_both, places_both, store_after, text_front_of_none, when_off, when_on}
 use Rattle.smap_text_answers.proofs.rewriting.rewrite_text.Goals as goal
 
 -- ---- frames
@@ -49,7 +50,7 @@ returns-then-not-anywhere-clause-rewrites g c =
     (hiding_seen c.args.asked.now.options.hiding) c.args.asked.now.most_passed c.args.asked.now.options.most before after _ new counts (same_store_self _) is))) (rw c.in-Ok.ensures at c.rewrite_noting.ensures.rewrites)
 
 pub returns-then-not-anywhere-clause-noted : goal.returns-then-not-anywhere-clause-noted
-returns-then-not-anywhere-clause-noted g c off on =
+returns-then-not-anywhere-clause-noted g c on =
     let new = c.rewrite_noting.new.maps in
     let looked = looked_seen _ (λ m. found_in (stored_seen m)) (FindsIn g.L.MapLoader.Loads) found_in stored_seen (IsSameStore _)
     (λ old new url is finds. (finds.0, same_store_on _ old new is finds.1)) (λ m url. refl) _ new (same_store_self _) c.rewrite_noting.ensures.looked in
@@ -57,14 +58,16 @@ returns-then-not-anywhere-clause-noted g c off on =
     let loader : c.loader-1.given.0 ≡ new.loader.now = search rules in
     let before = devices_seen (g.R.ByteSource.seen c.args.input.now) (g.W.ByteSink.seen c.args.output.now) in
     let after = devices_seen (g.R.ByteSource.seen c.rewrite_noting.new.input) (g.W.ByteSink.seen c.rewrite_noting.new.output) in
-    IfOk-weaker c.rewrite_noting.result _ _ (λ counts is.
-    subst (λ (s : StoredSeen g.row.L.Denot). RewritesNoted (FindsIn g.L.MapLoader.Loads) found_in (hiding_seen c.args.asked.now.options.hiding)
-    c.args.asked.now.options.most before after (store_of c.args.asked.now.sources.now c.args.cache.now c.args.loader.now) s counts
-    (notes_seen c.rewrite_noting.new.notes))
-    (store_after _ _ new looked.1 _ (ap (λ w. w.now) looked.1.words) _ _ cache loader)
-    (noted_seen _ (λ m. found_in (stored_seen m)) (FindsIn g.L.MapLoader.Loads) found_in stored_seen (IsSameStore _)
-    (λ old new url is finds. (finds.0, same_store_on _ old new is finds.1)) (λ m url. refl) (hiding_seen c.args.asked.now.options.hiding)
-    c.args.asked.now.options.most before after _ new counts (notes_seen c.rewrite_noting.new.notes) (same_store_self _) is)) (c.rewrite_noting.ensures.notes on)
+    IfOk-weaker c.rewrite_noting.result _ _ (λ counts is. when_off c.args.asked.now.anywhere _ _ c.if-not-anywhere.true (
+      subst (λ (s : StoredSeen g.row.L.Denot). RewritesNoted (FindsIn g.L.MapLoader.Loads) found_in (hiding_seen c.args.asked.now.options.hiding)
+          c.args.asked.now.options.most before after (store_of c.args.asked.now.sources.now c.args.cache.now c.args.loader.now) s counts
+          (notes_seen c.rewrite_noting.new.notes))
+          (store_after _ _ new looked.1 _ (ap (λ w. w.now) looked.1.words) _ _ cache loader)
+          (noted_seen _ (λ m. found_in (stored_seen m)) (FindsIn g.L.MapLoader.Loads) found_in stored_seen (IsSameStore _)
+          (λ old new url is finds. (finds.0, same_store_on _ old new is finds.1)) (λ m url. refl) (hiding_seen c.args.asked.now.options.hiding)
+          c.args.asked.now.options.most before after _ new counts (notes_seen c.rewrite_noting.new.notes) (same_store_self _) is),
+      c.requires.no_others,
+    )) (c.rewrite_noting.ensures.notes on)
 
 pub returns-then-not-anywhere-clause-front : goal.returns-then-not-anywhere-clause-front
 returns-then-not-anywhere-clause-front g c =
@@ -78,27 +81,27 @@ returns-in_default-clause-front g c =
     (GivesIn g.L.MapLoader.MayLoad (store_of c.args.asked.now.sources.now c.args.cache.now c.args.loader.now)) (places_of c.args.asked.now.sources.now)
     (hiding_seen c.args.asked.now.options.hiding) c.args.asked.now.options.most _
 
-pub returns-in-Ok-rewrite_places_over-clause-looked : goal.returns-in-Ok-rewrite_places_over-clause-looked
-returns-in-Ok-rewrite_places_over-clause-looked g c =
-    let new = c.rewrite_places_over.new.maps in
+pub returns-in-Ok-rewrite_places_noting-clause-looked : goal.returns-in-Ok-rewrite_places_noting-clause-looked
+returns-in-Ok-rewrite_places_noting-clause-looked g c =
+    let new = c.rewrite_places_noting.new.maps in
     let looked = looked_both c.args.asked.now.sources.now.words _ g.L.MapLoader.Loads new c.new-none.ensures
-    (rw c.in-Ok.ensures at c.rewrite_places_over.ensures.looked) in
+    (rw c.in-Ok.ensures at c.rewrite_places_noting.ensures.looked) in
     let cache : c.cache-2-1.given.0 ≡ new.cache.now = search rules in
     let loader : c.loader-2-1.given.0 ≡ new.loader.now = search rules in
     subst (λ (s : StoredSeen g.row.L.Denot). Looked (FindsIn g.L.MapLoader.Loads) (store_of c.args.asked.now.sources.now c.args.cache.now c.args.loader.now) s)
     (store_after _ _ new looked.1.0 _ refl _ _ cache loader) looked.0
 
-pub returns-in-Ok-rewrite_places_over-clause-rewrites : goal.returns-in-Ok-rewrite_places_over-clause-rewrites
-returns-in-Ok-rewrite_places_over-clause-rewrites g c =
-    let new = c.rewrite_places_over.new.maps in
+pub returns-in-Ok-rewrite_places_noting-clause-rewrites : goal.returns-in-Ok-rewrite_places_noting-clause-rewrites
+returns-in-Ok-rewrite_places_noting-clause-rewrites g c =
+    let new = c.rewrite_places_noting.new.maps in
     let words = c.args.asked.now.sources.now.words in
-    let looked = looked_both words _ g.L.MapLoader.Loads new c.new-none.ensures (rw c.in-Ok.ensures at c.rewrite_places_over.ensures.looked) in
+    let looked = looked_both words _ g.L.MapLoader.Loads new c.new-none.ensures (rw c.in-Ok.ensures at c.rewrite_places_noting.ensures.looked) in
     let cache : c.cache-2-1.given.0 ≡ new.cache.now = search rules in
     let loader : c.loader-2-1.given.0 ≡ new.loader.now = search rules in
     let before = devices_seen (g.R.ByteSource.seen c.args.input.now) (g.W.ByteSink.seen c.args.output.now) in
-    let after = devices_seen (g.R.ByteSource.seen c.rewrite_places_over.new.input) (g.W.ByteSink.seen c.rewrite_places_over.new.output) in
-    let summary = c.in-Ok-rewrite_places_over.summary in
-    let is = rw c.in-Ok.ensures at c.in-Ok-rewrite_places_over.ensures.rewrites in
+    let after = devices_seen (g.R.ByteSource.seen c.rewrite_places_noting.new.input) (g.W.ByteSink.seen c.rewrite_places_noting.new.output) in
+    let summary = c.in-Ok-rewrite_places_noting.summary in
+    let is = rw c.in-Ok.ensures at c.in-Ok-rewrite_places_noting.ensures.rewrites in
     when_on c.args.asked.now.anywhere _ _ c.if-not-anywhere.false (
       subst (λ (s : StoredSeen g.row.L.Denot). RewritesPlacesOver (FindsIn g.L.MapLoader.Loads) found_in (places_of c.args.asked.now.sources.now)
           c.args.asked.now.options.most before after (store_of c.args.asked.now.sources.now c.args.cache.now c.args.loader.now) s summary)
@@ -109,14 +112,31 @@ returns-in-Ok-rewrite_places_over-clause-rewrites g c =
       refl,
     )
 
-pub returns-in-Ok-rewrite_places_over-clause-noted : goal.returns-in-Ok-rewrite_places_over-clause-noted
-returns-in-Ok-rewrite_places_over-clause-noted g c off on = absurd (let both = sym c.if-not-anywhere.false ∙ off in cc)
+pub returns-in-Ok-rewrite_places_noting-clause-noted : goal.returns-in-Ok-rewrite_places_noting-clause-noted
+returns-in-Ok-rewrite_places_noting-clause-noted g c on =
+    let new = c.rewrite_places_noting.new.maps in
+    let words = c.args.asked.now.sources.now.words in
+    let looked = looked_both words _ g.L.MapLoader.Loads new c.new-none.ensures (rw c.in-Ok.ensures at c.rewrite_places_noting.ensures.looked) in
+    let cache : c.cache-2-1.given.0 ≡ new.cache.now = search rules in
+    let loader : c.loader-2-1.given.0 ≡ new.loader.now = search rules in
+    let before = devices_seen (g.R.ByteSource.seen c.args.input.now) (g.W.ByteSink.seen c.args.output.now) in
+    let after = devices_seen (g.R.ByteSource.seen c.rewrite_places_noting.new.input) (g.W.ByteSink.seen c.rewrite_places_noting.new.output) in
+    let summary = c.in-Ok-rewrite_places_noting.summary in
+    let notes = notes_seen c.rewrite_places_noting.new.notes in
+    let others = notes_seen c.rewrite_places_noting.new.others in
+    let is = rw c.in-Ok.ensures at (c.in-Ok-rewrite_places_noting.ensures.noted on) in
+    when_on c.args.asked.now.anywhere _ _ c.if-not-anywhere.false
+    (subst (λ (s : StoredSeen g.row.L.Denot). RewritesPlacesNoted (FindsIn g.L.MapLoader.Loads) found_in (places_of c.args.asked.now.sources.now)
+    (known_of c.args.asked.now.sources.now) c.args.asked.now.options.most before after (store_of c.args.asked.now.sources.now c.args.cache.now c.args.loader.now) s summary notes others)
+    (store_after _ _ new looked.1.0 _ refl _ _ cache loader)
+    (noted_both words _ g.L.MapLoader.Loads new c.new-none.ensures (places_of c.args.asked.now.sources.now) (known_of c.args.asked.now.sources.now)
+    c.args.asked.now.options.most before after summary notes others is))
 
 pub returns-clause-looked : goal.returns-clause-looked
 returns-clause-looked g c =
-    let new = c.rewrite_places_over.new.maps in
+    let new = c.rewrite_places_noting.new.maps in
     let looked = looked_both c.args.asked.now.sources.now.words _ g.L.MapLoader.Loads new c.new-none.ensures
-    (rw c.in-Ok.ensures at c.rewrite_places_over.ensures.looked) in
+    (rw c.in-Ok.ensures at c.rewrite_places_noting.ensures.looked) in
     let cache : c.cache-2-1.given.0 ≡ new.cache.now = search rules in
     let loader : c.loader-2-1.given.0 ≡ new.loader.now = search rules in
     subst (λ (s : StoredSeen g.row.L.Denot). Looked (FindsIn g.L.MapLoader.Loads) (store_of c.args.asked.now.sources.now c.args.cache.now c.args.loader.now) s)

@@ -12,7 +12,8 @@ returns-then-says_urls g c =
     let request = c.args.request.now in
     when_on (says_urls (request_seen request) c.args.end.now) _ _ (sym c.says_urls.ensures ∙ c.if-says_urls.true)
     (subst (λ n. TellsUrls (g.F.FileReader.gives request.maps.now.files.now) request.paths (option_copied request.maps.now.base) request.maps.now.interval
-    (n + 1) (map argument_of request.arguments.now) c.args.sources.now.locations (notes_seen c.args.notes.now) c.tell_urls.result
+    (n + 1) (map argument_of request.arguments.now) c.args.sources.now.locations request.anywhere (notes_seen c.args.notes.now)
+    (notes_seen c.args.others.now) c.tell_urls.result
     (g.E.ByteSink.seen c.args.errors.now) (g.E.ByteSink.seen c.tell_urls.new.errors)) (sym (length-map request.arguments.now argument_of)) c.tell_urls.ensures)
 
 pub returns-else-says_urls : goal.returns-else-says_urls
