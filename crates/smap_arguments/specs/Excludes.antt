@@ -31,10 +31,6 @@ many_hidden_line = codes "usage: more than 16 --hide" ++ 10 ∷ []
 abbrev pub hidden_anywhere_line : Text
 hidden_anywhere_line = codes "usage: --hide with --anywhere" ++ 10 ∷ []
 
--- what became of URLs is told of frames alone
-abbrev pub explained_anywhere_line : Text
-explained_anywhere_line = codes "usage: --explain with --anywhere" ++ 10 ∷ []
-
 module _ {A : Type 0} (maps : List (String A × String A)) where
   -- a pair is of all URLs
   abbrev pub has_any_url : Bool
@@ -47,5 +43,4 @@ module _ {A : Type 0} (maps : List (String A × String A)) where
       else (if not options.anywhere then None
       else (if hide_ignored then Some both_flags_line
       else (if not (vec_len options.hide == 0) then Some hidden_anywhere_line
-      else (if options.explain then Some explained_anywhere_line
-      else (if has_any_url then Some any_url_line else None))))))
+      else (if has_any_url then Some any_url_line else None)))))

@@ -18,9 +18,6 @@ pub const MANY_HIDDEN: &str = "usage: more than 16 --hide\n";
 
 pub const HIDDEN_ANYWHERE: &str = "usage: --hide with --anywhere\n";
 
-/// Standard error: it is told of frames alone what became of their URLs.
-pub const EXPLAINED_ANYWHERE: &str = "usage: --explain with --anywhere\n";
-
 /// Standard error: a URL is `*` alone, which each place has, as times of day are.
 pub const ANY_URL: &str = "usage: *=FILE with --anywhere\n";
 

@@ -7,9 +7,7 @@ ghost use Rattle.smap_arguments.specs.Arguments.{GivesBase, GivesFurther, HasArg
 ghost use Rattle.smap_arguments.specs.Excludes.{excluded_line, has_any_url, is_any_url};
 ghost use Rattle.smap_arguments.specs.Refusals.{IsNamedRefusal, ReportsRewrite};
 
-use crate::mistakes::{
-    ANY_URL, BASE_AND_PATHS, BOTH_FLAGS, EXPLAINED_ANYWHERE, HIDDEN_ANYWHERE, MANY_HIDDEN,
-};
+use crate::mistakes::{ANY_URL, BASE_AND_PATHS, BOTH_FLAGS, HIDDEN_ANYWHERE, MANY_HIDDEN};
 use crate::pairs::maps_in;
 use crate::usage::Usage;
 use crate::values::{bytes_in, flag_in, interval_in, text_if_given, words_in};
@@ -66,8 +64,6 @@ fn excluded_line(
         Some(BOTH_FLAGS)
     } else if !options.hide.is_empty() {
         Some(HIDDEN_ANYWHERE)
-    } else if options.explain {
-        Some(EXPLAINED_ANYWHERE)
     } else if has_any_url(maps) {
         Some(ANY_URL)
     } else {
