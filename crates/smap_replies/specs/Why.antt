@@ -24,12 +24,12 @@ use Rattle.url.specs.Parts.{Parts}
 
 abbrev pub is_script : Beginning → Bool
 is_script Script = true
-is_script other = false
+is_script _ = false
 
 -- the file is no JSON, but a script that names its map
 abbrev pub is_of_script : Explanation → Bool
 is_of_script (NotJson facts) = is_script facts.begins_as
-is_of_script other = false
+is_of_script _ = false
 
 -- how to take the map out of a script that holds it
 abbrev pub take_out_text : List ℕ
