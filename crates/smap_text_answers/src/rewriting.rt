@@ -287,7 +287,7 @@ fn rewrite_text<L: MapLoader, R: ByteSource, W: ByteSink>(
         cache,
         loader,
     };
-    let rewritten = rewrite_places_noting(
+    match rewrite_places_noting(
         alloc,
         input,
         output,
@@ -297,8 +297,7 @@ fn rewrite_text<L: MapLoader, R: ByteSource, W: ByteSink>(
         asked.explain,
         notes,
         others,
-    );
-    match rewritten {
+    ) {
         Ok(summary) => Ok(RewriteCounts {
             summary,
             long: 0,
