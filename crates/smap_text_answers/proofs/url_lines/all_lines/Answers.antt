@@ -12,5 +12,9 @@ returns g c =
     IfOk-weaker c.lines_of_both.result _ _ (λ text are. lines_all (g.F.FileReader.gives loader.maps.now.files.now) loader.paths
     (option_copied loader.maps.now.base) loader.maps.now.interval loader.number (map argument_of c.args.arguments.now) c.args.locations.now c.args.anywhere
     (map note_seen c.args.notes.now) (map note_seen c.args.others.now) text.items
-    (λ none. c.if-count-eq0.false (omega (arith, none, length-map c.args.notes.now note_seen,
-    length-map c.args.others.now note_seen))) are) c.lines_of_both.ensures
+    (λ none. c.if-count-eq0.false (omega (
+      arith,
+      none,
+      length-map c.args.notes.now note_seen,
+      length-map c.args.others.now note_seen,
+    ))) are) c.lines_of_both.ensures
