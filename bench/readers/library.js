@@ -10,7 +10,9 @@ const bytes = fs.readFileSync(places);
 const positions = new Uint32Array(bytes.buffer.slice(bytes.byteOffset, bytes.byteOffset + bytes.length));
 for (let i = 0; i < positions.length; i += 2) positions[i] += 1; // in node lines count from 1
 const library = how === 'smap' ? require('../../lib/node') : require('@jridgewell/trace-mapping');
-const now = () => Number(process.hrtime.bigint() / 1000n);
+const clock = () => Number(process.hrtime.bigint() / 1000n);
+const ofProcessors = () => process.cpuUsage().user + process.cpuUsage().system;
+const now = process.env.CLOCK === 'processor' ? ofProcessors : clock;
 
 const begin = now();
 const map = new library.TraceMap(how === 'smap' ? fs.readFileSync(path) : fs.readFileSync(path, 'utf8'));

@@ -1,9 +1,10 @@
 """Reads MAP and looks POSITIONS up in Python, by `smap` or by `ctypes`: library.py WAY MAP POSITIONS. It prints what library.c
 does."""
 
+import os
 import sys
 from array import array
-from time import perf_counter
+from time import perf_counter, process_time
 
 if sys.argv[1] == "ctypes":
     from by_ctypes import SourceMap
@@ -13,10 +14,11 @@ else:
 positions = array("I")
 with open(sys.argv[3], "rb") as file:
     positions.frombytes(file.read())
-begin = perf_counter()
+now = process_time if os.environ.get("CLOCK") == "processor" else perf_counter
+begin = now()
 with open(sys.argv[2], "rb") as file:
     source_map = SourceMap(file.read())
-read = perf_counter()
+read = now()
 
 
 def one_by_one(look_up):
@@ -29,9 +31,9 @@ def one_by_one(look_up):
 
 
 total = one_by_one(source_map.look_up)
-one = perf_counter()
+one = now()
 found = source_map.look_up_many(positions)
-many = perf_counter()
+many = now()
 if total != sum(line + column for kind, line, column in zip(found[0::7], found[3::7], found[4::7]) if kind == 2):
     sys.exit("the look-ups differ")
 print(f"{(read - begin) * 1e6:.0f} {(one - read) * 1e6:.0f} {(many - one) * 1e6:.0f} {total}")
