@@ -25,6 +25,10 @@ module _ {K T : Type 0} (key : K → List ℕ) where
   same_lengths [] = refl
   same_lengths (e ∷ entries) = ap (λ lengths. length (key e.0) ∷ lengths) (same_lengths entries)
 
+  pub same_texts : (entries : List (K × T)) → map key (map (λ e. e.0) entries) ≡ map (λ pair. pair.0) (pairs entries)
+  same_texts [] = refl
+  same_texts (e ∷ entries) = ap (λ texts. key e.0 ∷ texts) (same_texts entries)
+
   pub looked_up : (text : List ℕ) (entries : List (K × T)) → lookup (is_under key text) entries ≡ value_under text (pairs entries)
   looked_up text [] = refl
   looked_up text (e ∷ entries) = λ i. cond (is_eq-slice_cmp text (key e.0) i) (Some e.1) (looked_up text entries i)

@@ -1,1 +1,2 @@
+mod CommonLaws
 mod EntryLaws

@@ -1,1 +1,2 @@
 pub mod ByText
+pub mod Common

@@ -1,2 +1,3 @@
 pub mod ByText
+pub mod Common
 pub mod Laws

@@ -1,7 +1,9 @@
 //! Values under texts.
-ghost use Rattle.std.specs.Prelude.{◌≡◌, [], None, IfErr, IfOk, OnErr, OnOk, length, map, option_copied};
+ghost use Rattle.std.specs.Prelude.{◌≡◌, [], None, IfErr, IfOk, OnErr, OnOk, length, map, option_copied, option_map};
 ghost use Rattle.smap_by_text.specs.ByText.{IsWith, value_under};
+ghost use Rattle.smap_by_text.specs.Common.{common_of, common_with};
 
+use crate::common::common_front;
 use std::alloc::{AllocError, AllocFailed, Global};
 use std::collections::BTreeMap;
 use std::marker::Model;
@@ -62,5 +64,26 @@ impl<T: Drop> ByText<T> {
         ensures { IfOk result (λ lengths. lengths.items ≡ map (λ pair. length pair.0) self.now) }
     {
         self.values.keys().map(|text| text.len()).collect(alloc)
+    }
+
+    /// What the texts all begin with, where there is one at least. The call takes no memory.
+    pub fn common(&self) -> Option<&[u8]>
+        ensures { option_map (λ text. text.now) result ≡ common_of (map (λ pair. pair.0) self.now) }
+    {
+        let mut common: Option<&[u8]> = None;
+        for text in self.values.keys() {
+            common = Some(common_with(common, text));
+        }
+        common
+    }
+}
+
+// What a text and those before it all begin with, which begin with this, where there are any.
+fn common_with<'a>(common: Option<&'a [u8]>, text: &'a [u8]) -> &'a [u8]
+    ensures { result.now ≡ common_with (option_map (λ text. text.now) common.entry) text.now }
+{
+    match common {
+        None => text,
+        Some(common) => common_front(common, text),
     }
 }

@@ -8,5 +8,7 @@
 #![tactic(auto)]
 
 mod by_text;
+mod common;
 
 pub use by_text::ByText;
+pub use common::common_front;

@@ -6,6 +6,7 @@ ghost use Rattle.smap_locations.specs.Locations.{has_pattern_in_text, key_for, p
 ghost use Rattle.smap_locations.specs.Patterns.{has_text, pattern_refusal};
 ghost use Rattle.std.specs.List.{list_any};
 ghost use Rattle.smap_by_text.specs.ByText.{IsWith, value_under};
+ghost use Rattle.smap_by_text.specs.Common.{common_of};
 ghost use Rattle.smap_locations.specs.Named.{twice};
 ghost use Rattle.smap_locations.specs.declared.refusal.LocationRefusal.TheVariants.{Memory};
 
@@ -94,6 +95,22 @@ impl Locations {
             lengths.items ≡ map (λ pair. length pair.0) self.now.folders) }
     {
         self.folders.lengths(alloc)
+    }
+
+    /// What the URLs for which files are named all begin with, where there is one at least. The call takes no memory.
+    pub fn common_url(&self) -> Option<&[u8]>
+        ensures { option_map (λ text. text.now) result
+            ≡ common_of (map (λ pair. pair.0) self.now.files) }
+    {
+        self.files.common()
+    }
+
+    /// What the prefixes for which folders are named all begin with, where there is one at least. The call takes no memory.
+    pub fn common_prefix(&self) -> Option<&[u8]>
+        ensures { option_map (λ text. text.now) result
+            ≡ common_of (map (λ pair. pair.0) self.now.folders) }
+    {
+        self.folders.common()
     }
 
     /// Names a folder for a prefix. The path stands before the names of its files as it is. After a refusal, which comes

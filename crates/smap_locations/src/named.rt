@@ -2,6 +2,7 @@
 ghost use Rattle.std.specs.Prelude.{◌≡◌, [], string_bytes, option_map, MatchOption};
 ghost use Rattle.std.specs.Prelude.{OnErr, OnOk, IfErr, IfOk, IsErrAnd, Some, length, map};
 ghost use Rattle.smap_by_text.specs.ByText.{IsWith, value_under};
+ghost use Rattle.smap_by_text.specs.Common.{common_of};
 ghost use Rattle.smap_locations.specs.Named.{twice};
 ghost use Rattle.smap_locations.specs.declared.refusal.LocationRefusal.TheVariants.{Memory};
 
@@ -65,5 +66,12 @@ impl NamedPaths {
         ensures { IfOk result (λ lengths. lengths.items ≡ map (λ pair. length pair.0) self.now) }
     {
         self.paths.lengths(alloc)
+    }
+
+    /// What the names all begin with, where there is one at least. The call takes no memory.
+    pub fn common(&self) -> Option<&[u8]>
+        ensures { option_map (λ text. text.now) result ≡ common_of (map (λ pair. pair.0) self.now) }
+    {
+        self.paths.common()
     }
 }

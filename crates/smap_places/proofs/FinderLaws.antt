@@ -428,7 +428,7 @@ module _ (maps : MapsSeen) (line : List ℕ) (near first queried barred : ℕ) (
 
 -- ---- the lengths are known
 
-either : (one other : Bool) → (one || other) ≡ true → (one ≡ true) ⊎ (other ≡ true)
+pub either : (one other : Bool) → (one || other) ≡ true → (one ≡ true) ⊎ (other ≡ true)
 either true other is = inl refl
 either false other is = inr is
 

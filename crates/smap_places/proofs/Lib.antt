@@ -16,6 +16,7 @@ pub mod PartStepLaws
 pub mod BesideLaws
 pub mod PassageLaws
 pub mod FinderLaws
+pub mod BeginningLaws
 pub mod PatternExamples
 pub mod PatternUrlLaws
 pub mod PatternLaws

@@ -7,6 +7,7 @@ ghost use Rattle.smap_places.specs.PlaceAt.{exact_at, is_named, is_prefix, place
 ghost use Rattle.smap_places.specs.PlaceSeen.{HasMap, IsNext, NoNext, NoneBetween, place_seen};
 ghost use Rattle.smap_places.specs.Private.Finder.{HasOwnMap, HasOwnNumbers, IsBarred, IsLongest, IsOpen, IsUnqueried};
 
+mod beginning;
 mod patterns;
 pub(crate) mod reach;
 mod seeming;
@@ -17,6 +18,8 @@ use crate::line_ends::has_line_end;
 use crate::numbers::{find_candidate, numbers_behind};
 use crate::place::{FoundPlace, FoundUrl};
 use crate::runs::{MOST_RUN, barred_end, has_query_between, query_of, run_length};
+use beginning::beginning_of;
+use memchr::memmem::Finder;
 use smap_locations::Locations;
 use smap_trace::Table;
 use std::alloc::{AllocError, Global};
@@ -33,19 +36,23 @@ pub struct PlaceFinder<'t> {
     // Of the URLs that are named, and of the prefixes.
     named: Lengths,
     prefixes: Lengths,
+    // For what both begin with.
+    beginning: Finder<'t>,
     // How many bytes stand before the numbers of a place at most; `None` where they are too many to count.
     longest: Option<usize>,
 }
 
 impl<'t> Model for PlaceFinder<'t> {
     ghost use Rattle.smap_places.specs.PlaceAt.{MapsSeen};
-    ghost use Rattle.smap_places.specs.Private.Finder.{KnowsLengths};
+    ghost use Rattle.smap_places.specs.Private.Finder.{IsBeginning, KnowsLengths};
 
     ghost Value = { MapsSeen };
 
     ghost view = { λ finder. record { table = finder.table.now; locations = finder.locations.now } };
 
     ghost invariant = { λ finder. KnowsLengths finder.named finder.prefixes finder.longest
+        (record { table = finder.table.now; locations = finder.locations.now }) ×
+        IsBeginning finder.beginning
         (record { table = finder.table.now; locations = finder.locations.now }) };
 }
 
@@ -66,11 +73,13 @@ impl<'t> PlaceFinder<'t> {
         let folders = locations.prefix_lengths(alloc)?;
         let prefixes = Lengths::new(alloc, &folders)?;
         let longest = longest_url(named.greatest, prefixes.greatest);
+        let beginning = Finder::new(beginning_of(table, locations));
         Ok(PlaceFinder {
             table,
             locations,
             named,
             prefixes,
+            beginning,
             longest,
         })
     }
@@ -118,8 +127,9 @@ impl<'t> PlaceFinder<'t> {
     {
         let mut start = from;
         while start < high {
-            let numbers = find_candidate(text, start + 1)?;
-            let near = first_start(self.longest, start, numbers);
+            let begin = self.next_beginning(text, start, high)?;
+            let numbers = find_candidate(text, begin + 1)?;
+            let near = first_start(self.longest, begin, numbers);
             let (queried, barred) = self.bars(text, near, numbers);
             let low = self.first_open(near, queried, barred);
             if let Some(place) = self.first_between(text, low, numbers.min(high), barred) {

@@ -2,6 +2,7 @@
 ghost use Rattle.std.specs.Prelude.{◌≡◌, [], string_bytes, option_map, MatchOption, OnOk, OnErr, IfErr, IfOk, IsErrAnd, length, map};
 ghost use Rattle.std.specs.Str.{IsUtf8};
 ghost use Rattle.smap_by_text.specs.ByText.{IsWith, value_under};
+ghost use Rattle.smap_by_text.specs.Common.{common_of};
 ghost use Rattle.smap_trace.specs.Table.{is_bad_url, url_refusal};
 ghost use Rattle.smap_trace.specs.declared.refusal.TableRefusal.TheVariants.{Memory};
 
@@ -70,6 +71,13 @@ impl Table {
         ensures { IfOk result (λ lengths. lengths.items ≡ map (λ pair. length pair.0) self.now) }
     {
         self.maps.lengths(alloc)
+    }
+
+    /// What the URLs all begin with, where there is one at least. The call takes no memory.
+    pub fn common_url(&self) -> Option<&[u8]>
+        ensures { option_map (λ text. text.now) result ≡ common_of (map (λ pair. pair.0) self.now) }
+    {
+        self.maps.common()
     }
 
     /// The map under a URL, where there is one.

@@ -1,7 +1,8 @@
--- Of private contracts only: the lengths of named URLs and of prefixes, and where none runs to numbers.
+-- Of private contracts only: the lengths of named URLs and of prefixes, what they all begin with, and where none runs to numbers.
 use Rattle.std.specs.Prelude.{◌≡◌, ◌<◌, ◌≤◌, ◌+◌, ◌==◌, ℕ, Bool, true, IfSome, List, Option, Some, None, drop, length, option_map, take}
 use Rattle.std.specs.List.{list_any}
 use Rattle.smap_by_text.specs.ByText.{value_under}
+use Rattle.smap_by_text.specs.Common.{IsFront, common_front}
 use Rattle.smap_record.specs.Record.{MapRecord}
 use Rattle.smap_places.specs.Candidates.{query_length, run_length}
 use Rattle.smap_places.specs.Places.{numbers_after}
@@ -27,6 +28,17 @@ pub record KnowsLengths (urls folders : Lengths) (most : Option ℕ) (maps : Map
   pub named : HasLengths urls (is_named maps)
   pub prefixes : HasLengths folders (is_prefix maps)
   pub longest : IfSome most (IsLongest urls.greatest folders.greatest)
+
+-- what texts all begin with of which some begin with one and the others with another, where there are any
+abbrev pub common_join : (one other : Option (List ℕ)) → Option (List ℕ)
+common_join None other = other
+common_join (Some one) None = Some one
+common_join (Some one) (Some other) = Some (common_front one other)
+
+-- the URLs and prefixes of maps all begin with these bytes
+pub record IsBeginning (beginning : List ℕ) (maps : MapsSeen) : Type 0 where
+  pub named : (url : List ℕ) → is_named maps url ≡ true → IsFront beginning url
+  pub prefixes : (text : List ℕ) → is_prefix maps text ≡ true → IsFront beginning text
 
 -- behind a prefix that ends after one byte and before another no URL runs
 abbrev pub IsBarred : (line : List ℕ) → (low high : ℕ) → Type 0

@@ -11,7 +11,7 @@ returns-clause-bytes c =
     let maps = c.args.self.now in
     let text = c.args.text.now in
     let lengths = c.deref-bytes-items.result.now in
-    let known = subst (λ m. KnowsLengths c.self.inside.named c.self.inside.prefixes c.self.inside.longest m) c.self.view_is c.self.invariant in
+    let known = subst (λ m. KnowsLengths c.self.inside.named c.self.inside.prefixes c.self.inside.longest m) c.self.view_is c.self.invariant.0 in
     sym (greatest_found (has_named (is_named maps) text) lengths (length text) c.loop-bytes.bytes-index c.loop-bytes.named.bytes
     (omega (arith, c.loop-bytes-test.false))
     (λ n within on. ap (λ l. is_among l n) c.deref-bytes-items.ensures.value

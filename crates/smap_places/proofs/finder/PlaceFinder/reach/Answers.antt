@@ -20,7 +20,7 @@ returns-else-has_patterns-clause-ends c = place_ends c.args.self.now
 
 pub returns-then-has_patterns-clause-reaches : goal.returns-then-has_patterns-clause-reaches
 returns-then-has_patterns-clause-reaches c =
-    let known = subst (λ m. KnowsLengths c.self.inside.named c.self.inside.prefixes c.self.inside.longest m) c.self.view_is c.self.invariant in
+    let known = subst (λ m. KnowsLengths c.self.inside.named c.self.inside.prefixes c.self.inside.longest m) c.self.view_is c.self.invariant.0 in
     let bytes : c.in_ok-bytes.bytes ≡ c.in_ok-self.field-0 + 23 = first_of (search rules, grind (arith, common_steps)) in
     let more : IfSome c.checked_add-then-has_patterns.result (λ n. n ≡ c.in_ok-bytes.bytes + 2048) = search rules in
     reach_of c.args.self.now c.in_ok-bytes.bytes c.checked_add-then-has_patterns.result (omega (arith, bytes))
@@ -30,7 +30,7 @@ returns-then-has_patterns-clause-reaches c =
 
 pub returns-else-has_patterns-clause-reaches : goal.returns-else-has_patterns-clause-reaches
 returns-else-has_patterns-clause-reaches c =
-    let known = subst (λ m. KnowsLengths c.self.inside.named c.self.inside.prefixes c.self.inside.longest m) c.self.view_is c.self.invariant in
+    let known = subst (λ m. KnowsLengths c.self.inside.named c.self.inside.prefixes c.self.inside.longest m) c.self.view_is c.self.invariant.0 in
     let bytes : c.in_ok-bytes.bytes ≡ c.in_ok-self.field-0 + 23 = first_of (search rules, grind (arith, common_steps)) in
     exact_decided c.args.self.now (subst (λ (maps : MapsSeen). maps.locations.patterns ≡ []) c.self.view_is
     (no_patterns c.self.inside.locations.now.patterns (sym c.has_patterns.ensures ∙ c.if-has_patterns.false))) c.in_ok-bytes.bytes
