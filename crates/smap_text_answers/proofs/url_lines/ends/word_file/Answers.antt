@@ -2,7 +2,7 @@ use Rattle.std.proofs.Common.{Some, ap, arith, sym, ◌∙◌}
 use Rattle.smap_replies.specs.Arguments.{argument_of}
 use Rattle.smap_replies.proofs.NextLaws.{next_of}
 use Rattle.smap_text_answers.proofs.UrlLinesLaws.{named_here, named_later}
-use Rattle.smap_text_answers.proofs.url_lines.word_file.Goals as goal
+use Rattle.smap_text_answers.proofs.url_lines.ends.word_file.Goals as goal
 
 pub loop-word-preserved : goal.loop-word-preserved
 loop-word-preserved c =
