@@ -75,8 +75,10 @@ fn text_of(alloc: Global, mappings: &[Mapping]) -> Result<String, AllocError>
     requires short { is_text_too_long mappings.now ≡ false }
     ensures text { IfOk result (λ text. string_bytes text ≡ canonical_text mappings.now) }
     ensures decodes { IfOk result (λ text. mappings_of (string_bytes text) ≡ mappings.now) }
-    ensures regular { IfOk result (λ text. (sources names : ℕ) → sources ≤ most_listed → names ≤ most_listed
-        → All (IsWithin sources names) mappings.now → IsRegularMap sources names (string_bytes text)) }
+    ensures regular { IfOk result (λ text. (sources names : ℕ)
+        → sources ≤ most_listed → names ≤ most_listed
+        → All (IsWithin sources names) mappings.now
+        → IsRegularMap sources names (string_bytes text)) }
 {
     lists_in_order_have_no_fault();
     let room = mappings.len().saturating_mul(ROOM_OF_MAPPING);

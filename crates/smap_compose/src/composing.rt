@@ -160,7 +160,8 @@ fn left_of(alloc: Global, whole: Parts<'_>, left_out: LeftOut) -> Result<Compose
         (left_of left_out (unless_too_long (parts_seen whole.entry))) }
     ensures mappings { left_out.unused ≡ false → IfOk result (λ composed.
         composed.mappings ≡ whole.entry.mappings.items) }
-    ensures named { left_out.contents ≡ false → IfOk result (AnswersAlike (parts_seen whole.entry)) }
+    ensures named { left_out.contents ≡ false → IfOk result (AnswersAlike
+        (parts_seen whole.entry)) }
 {
     if is_refused_whole(&whole.mappings, left_out.unused) {
         return Err(ComposeRefusal::TooLarge);

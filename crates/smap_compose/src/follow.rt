@@ -53,7 +53,8 @@ fn follow<'m>(
     requires within { IsWithin
         (length outer.now.stated.sources) (length outer.now.stated.names) mapping }
     requires walk { IfSome walk (IsWalkIn inners.now) }
-    ensures followed { result.0 ≡ with_origin (origin_through_all (inners_seen inners.now)) mapping }
+    ensures followed { result.0
+        ≡ with_origin (origin_through_all (inners_seen inners.now)) mapping }
     ensures within { IsWithin inners.now.sources inners.now.names result.0 }
     ensures walk { IfSome result.1 (IsWalkIn inners.now) }
 {

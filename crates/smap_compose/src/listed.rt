@@ -58,7 +58,8 @@ pub fn all_sources<'a>(
     inners: &[Option<&'a MapFile>],
 ) -> Result<Vec<LentSource<'a>>, AllocError>
     requires inners { length inners.now ≤ length outer.now.stated.sources }
-    requires few { (all_followed outer.now.stated (stated_inners inners.now)).sources ≤ most_listed }
+    requires few { (all_followed outer.now.stated (stated_inners inners.now)).sources
+        ≤ most_listed }
     ensures sources { IfOk result (λ sources. map lent_source sources.items
         ≡ outer.now.stated.sources ++ sources_within outer.now.stated.sources (stated_inners inners.now)) }
     ensures counted { IfOk result (λ sources. length sources.items

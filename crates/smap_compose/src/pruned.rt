@@ -22,7 +22,8 @@ use std::alloc::{AllocError, Global};
 /// The parts, or what is left of them where what no mapping has is left out.
 pub fn left_parts(alloc: Global, whole: Parts<'_>, prune: bool) -> Result<Parts<'_>, AllocError>
     requires { AreFit whole }
-    ensures left { IfOk result (λ left. parts_seen left ≡ pruned_where prune (parts_seen whole.entry)) }
+    ensures left { IfOk result (λ left. parts_seen left
+        ≡ pruned_where prune (parts_seen whole.entry)) }
     ensures fit { IfOk result AreFit }
 {
     if prune {
