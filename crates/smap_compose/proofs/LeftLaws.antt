@@ -3,9 +3,9 @@ use Rattle.std.proofs.Common.{◌≡◌, ℕ, zero, suc, ◌+◌, ◌<◌, ◌�
 use Rattle.std.specs.Prelude.{slice_get}
 use Rattle.std.specs.Cmp.{IsEquivalence}
 use Rattle.std.specs.List.{enumerate_from, list_any, position}
-use Rattle.std.proofs.lemmas.Bool.{cond-true, cond-false, cases_Bool, cases_eq, and_from, and_left, and_parts, and_right, not-true}
+use Rattle.std.proofs.lemmas.Bool.{cond-true, cond-false, cases_Bool, cases_eq, and_from, and_parts, and_right, not-true}
 use Rattle.std.proofs.lemmas.Map.Steps.{list_any_congr}
-use Rattle.std.proofs.lemmas.List.{append-nil, append_assoc, length-append, get_or_append_left, get_or_push, drop_all}
+use Rattle.std.proofs.lemmas.List.{append_assoc, length-append, get_or_append_left, get_or_push}
 use Rattle.smap_compose.specs.Pruned.{entries_left, first_ones, used_from}
 use Rattle.smap_compose.specs.Private.Left.{stays_behind, stays_from}
 use Rattle.smap_compose.proofs.PositionLaws.{position_none, position_some, position_stays, position_pushed, position_passed_over}

@@ -1,5 +1,5 @@
 //! A map that maps compose to.
-ghost use Rattle.std.specs.Prelude.{◌≡◌, ◌≤◌, ℕ, option_copied, None, false, length, map, option_map, string_bytes, IfOk};
+ghost use Rattle.std.specs.Prelude.{◌≡◌, ◌≤◌, ℕ, option_copied, None, false, length, string_bytes, IfOk};
 ghost use Rattle.std.specs.List.{All};
 ghost use Rattle.smap_mappings.specs.Canonical.{canonical_text};
 ghost use Rattle.smap_mappings.specs.Encode.{is_text_too_long, list_fault};

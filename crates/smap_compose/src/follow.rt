@@ -4,7 +4,6 @@ ghost use Rattle.std.specs.List.{All};
 ghost use Rattle.smap_index.specs.Parts.{joined};
 ghost use Rattle.smap_mappings.specs.Encode.{list_fault};
 ghost use Rattle.smap_mappings.specs.Within.{IsOriginWithin, IsWithin};
-ghost use Rattle.smap_record.specs.Limits.{most_listed};
 ghost use Rattle.smap_compose.specs.Follow.{moved_origin, with_origin};
 ghost use Rattle.smap_compose.specs.FollowAll.{origin_through, origin_through_all};
 ghost use Rattle.smap_compose.specs.Private.Placed.{AreFew, ArePlaced, FitsIn, inners_seen, placed_seen};

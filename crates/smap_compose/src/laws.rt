@@ -1,5 +1,5 @@
 //! Laws over the definitions, for all lists: a call does nothing, and its contract is the law.
-ghost use Rattle.std.specs.Prelude.{◌≡◌, ◌≤◌, ◌+◌, ℕ, List, Option, length, map, true, false};
+ghost use Rattle.std.specs.Prelude.{◌≡◌, ◌≤◌, ◌+◌, ℕ, List, Option, length, map};
 ghost use Rattle.std.specs.List.{All};
 ghost use Rattle.smap_compose.specs.Composition.{Composition};
 ghost use Rattle.smap_compose.specs.Follow.{CountedMappings, answer_with_origin, followed, with_origin};

@@ -1,5 +1,5 @@
 //! What is left of a map without what its mappings do not have.
-ghost use Rattle.std.specs.Prelude.{◌≡◌, ◌≤◌, None, length, map, IfOk};
+ghost use Rattle.std.specs.Prelude.{◌≡◌, ◌≤◌, length, map, IfOk};
 ghost use Rattle.std.specs.List.{All};
 ghost use Rattle.std.specs.Str.{bytes_eq};
 ghost use Rattle.smap_mappings.specs.Within.{IsOriginWithin, IsWithin};

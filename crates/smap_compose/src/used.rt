@@ -1,8 +1,7 @@
 //! Which sources and which names mappings have.
-ghost use Rattle.std.specs.Prelude.{◌≡◌, ℕ, length, IfOk, OnOk};
+ghost use Rattle.std.specs.Prelude.{length, IfOk};
 ghost use Rattle.std.specs.List.{All};
 ghost use Rattle.smap_mappings.specs.Within.{IsOriginWithin, IsWithin};
-ghost use Rattle.smap_compose.specs.Pruned.{is_name_used, is_source_used};
 ghost use Rattle.smap_compose.specs.Private.Used.{AreUsed, UsesMore};
 
 use smap_record::{Mapping, Origin};

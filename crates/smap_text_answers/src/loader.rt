@@ -1,8 +1,7 @@
 //! The maps that are read when a text names them.
 ghost use Rattle.std.specs.Prelude.{◌≡◌, option_copied, IfErr, IfOk};
 ghost use Rattle.smap_text_answers.specs.ByPath.{MayRefuse};
-ghost use Rattle.smap_text_answers.specs.Lines.{map_memory_line};
-ghost use Rattle.smap_text_answers.specs.Loader.{FailsBy, FailsToRead, IsLoaded, Notes, base_at, loader_seen, named_report, record_loaded};
+ghost use Rattle.smap_text_answers.specs.Loader.{FailsBy, FailsToRead, IsLoaded, Notes, loader_seen, named_report, record_loaded};
 ghost use Rattle.smap_text_answers.specs.Private.Unloaded.{IsUnloadedFor, unread_why};
 ghost use Rattle.smap_record.specs.MapFile.{IsMapOf};
 ghost use Rattle.smap_replies.specs.Outcome.{OrMemory, failure_report, failure, out_of_memory};

@@ -1,6 +1,6 @@
 -- Laws of rewriting a trace over files whose paths give the same bytes whenever they are read: what is written and counted
 -- is then what the maps of these bytes make of it, however few are remembered, if no trouble was reported or counted.
-use Rattle.std.specs.Prelude.{◌≡◌, ◌<◌, ◌+◌, ℕ, Bool, true, false, List, [], Option, Some, None, Result, Ok, Err, length}
+use Rattle.std.specs.Prelude.{◌≡◌, ◌<◌, ◌+◌, ℕ, Bool, true, false, List, [], Option, Result, Ok, Err, length}
 use Rattle.std.proofs.Common.{ap, arith, inl, inr, refl, subst, sym, ◌∙◌}
 use Rattle.url.specs.Parts.{Parts}
 use Rattle.smap_lines.specs.Editing.{DevicesSeen, devices_seen}

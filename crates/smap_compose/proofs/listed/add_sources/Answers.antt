@@ -6,7 +6,7 @@ use Rattle.smap_record.specs.Sources.{source_of}
 use Rattle.smap_compose.specs.declared.listing.LentSource.{LentSource}
 use Rattle.smap_names.specs.InnerNames.{source_from}
 use Rattle.smap_compose.specs.Private.Listing.{lent_source}
-use Rattle.smap_compose.proofs.ListLaws.{none_past, copied_next, mapped_next}
+use Rattle.smap_compose.proofs.ListLaws.{none_past, mapped_next}
 use Rattle.smap_compose.proofs.listed.add_sources.Goals as goal
 use Rattle.smap_compose.proofs.listed.add_sources.Goals.{in-Some+in_ok-lent_source+in_ok-push, in_default}
 

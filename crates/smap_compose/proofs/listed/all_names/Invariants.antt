@@ -1,4 +1,4 @@
-use Rattle.std.proofs.Common.{◌≡◌, ◌≤◌, ◌+◌, ◌++◌, drop, flat_map, map}
+use Rattle.std.proofs.Common.{◌≡◌, ◌≤◌, ◌++◌, drop, flat_map, map}
 use Rattle.std.specs.List.{sum_by}
 use Rattle.smap_record.specs.Limits.{most_listed}
 use Rattle.smap_compose.specs.Composition.{inner_lists, names_within}

@@ -1,11 +1,8 @@
-use Rattle.std.proofs.Common.{◌≡◌, ◌≤◌, ◌<◌, ◌+◌, ◌++◌, [], Some, None, drop, length, map, option_map, sym, ap, ◌∙◌, arith, Vec, Global}
-use Rattle.std.specs.List.{sum_by}
+use Rattle.std.proofs.Common.{◌≤◌, ◌<◌, ◌+◌, ◌++◌, None, drop, length, map, option_map, sym, ap, ◌∙◌, arith, Vec, Global}
 use Rattle.std.proofs.lemmas.List.{append-nil, append_assoc, length-map}
-use Rattle.smap_record.specs.Limits.{most_listed}
 use Rattle.smap_record.specs.Sources.{source_of}
 use Rattle.smap_compose.specs.declared.listing.LentSource.{LentSource}
-use Rattle.smap_compose.specs.Composition.{inner_lists, sources_below, sources_within}
-use Rattle.smap_compose.specs.FollowAll.{inner_sources}
+use Rattle.smap_compose.specs.Composition.{sources_below, sources_within}
 use Rattle.smap_names.specs.InnerNames.{source_from}
 use Rattle.smap_compose.specs.Inners.{stated_inners}
 use Rattle.smap_compose.specs.Private.Listing.{lent_source}

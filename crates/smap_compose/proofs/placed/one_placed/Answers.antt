@@ -1,4 +1,4 @@
-use Rattle.std.proofs.Common.{◌≡◌, None, replicate, refl, rules}
+use Rattle.std.proofs.Common.{refl, rules}
 use Rattle.smap_compose.proofs.PlacedLaws.{one_listed}
 use Rattle.smap_compose.proofs.placed.one_placed.Goals as goal
 

@@ -1,4 +1,4 @@
-use Rattle.std.proofs.Common.{◌-◌, arith}
+use Rattle.std.proofs.Common.{arith}
 use Rattle.smap_text_answers.proofs.NearestLaws.{other_ends, shared_next, shared_no_more}
 use Rattle.smap_text_answers.proofs.nearest.common_ending.Goals as goal
 

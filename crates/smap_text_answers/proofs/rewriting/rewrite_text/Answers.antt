@@ -1,7 +1,6 @@
-use Rattle.std.proofs.Common.{◌≡◌, ap, refl, rules, subst, sym, ◌∙◌}
+use Rattle.std.proofs.Common.{◌≡◌, ap, refl, rules, subst}
 use Rattle.std.proofs.lemmas.Result.{IfErr-weaker, IfOk-weaker}
 use Rattle.smap_lines.specs.Editing.{devices_seen}
-use Rattle.smap_places.specs.PlaceAt.{place_at}
 use Rattle.smap_places.specs.PlacesNoted.{RewritesPlacesNoted}
 use Rattle.smap_places.specs.PlacesOver.{RewritesPlacesOver}
 use Rattle.smap_places.specs.PlacesRewritten.{places_in}
