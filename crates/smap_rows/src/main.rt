@@ -7,34 +7,13 @@
 //! status 1.
 #![tactic(auto)]
 
-mod answer;
-mod composing;
-mod contents;
-mod devices;
-mod escapes;
-mod fault;
 mod files;
-mod indexes;
-mod lists;
-mod look_ups;
-mod maps;
-mod numbers;
-mod originals;
 mod parsed;
-mod paths;
-mod positions;
-mod row;
 mod runs;
-mod sources;
-mod texts;
-mod traces;
 mod usage;
 
-use answer::Answer;
-use fault::RowFault;
-use row::{EACH, Row};
 use smap_io::{ByteSink, FromStd, read_all, write_all};
-use smap_positions::Direction;
+use smap_row_calls::{Answer, EACH, Row, RowFault, answer_call, joined};
 use std::process::ExitCode;
 
 // How many bytes all rows have at most.
@@ -90,21 +69,10 @@ fn answered(rt: &HostRuntime, line: &str) -> Result<Vec<u8>, RowFault> {
         are_same = are_same && (lines.is_empty() || lines.last() == Some(&line));
         lines.push(line)?;
     }
-    joined(rt, &lines, are_same)
-}
-
-fn joined(rt: &HostRuntime, lines: &[Vec<u8>], are_same: bool) -> Result<Vec<u8>, RowFault> {
-    let mut line = Vec::new(rt.alloc());
-    for (number, one) in lines.iter().enumerate() {
-        if number > 0 && are_same {
-            break;
-        }
-        if number > 0 {
-            line.push(b'\t')?;
-        }
-        line.extend_from_slice(one)?;
+    if are_same {
+        lines.truncate(1);
     }
-    Ok(line)
+    Ok(joined(rt.alloc(), &lines)?)
 }
 
 fn answered_at(rt: &HostRuntime, line: &str, interval: u32) -> Result<Vec<u8>, RowFault> {
@@ -114,48 +82,14 @@ fn answered_at(rt: &HostRuntime, line: &str, interval: u32) -> Result<Vec<u8>, R
     Ok(answer.into_line())
 }
 
-// Asks the call that a row names.
+// Asks the call that a row names. Those of the program's arguments and commands are here.
 fn answer_row(row: &Row<'_>, answer: &mut Answer) -> Result<(), RowFault> {
     match row.field(0)? {
-        "read_vlq" => numbers::read(row, answer),
-        "write_vlq" => numbers::write(row, answer),
-        "check" => texts::check(row, answer),
-        "decode" => texts::decode(row, answer),
-        "next" => texts::next(row, answer),
-        "encode" => texts::encode_list(row, answer),
-        "index" => indexes::index(row, answer),
-        "look_up" => indexes::look_up(row, answer, Direction::AtOrBefore),
-        "look_up_from" => indexes::look_up(row, answer, Direction::AtOrAfter),
-        "look_ups" => look_ups::answer(row, answer),
-        "resolve" => sources::answer(row, answer),
-        "line_at" => contents::line(row, answer),
-        "units" => contents::count(row, answer),
-        "unit_place" => contents::place(row, answer),
-        "excerpt" => contents::shown(row, answer),
-        _ => answer_file_row(row, answer),
-    }
-}
-
-// The calls over maps, traces and command lines.
-fn answer_file_row(row: &Row<'_>, answer: &mut Answer) -> Result<(), RowFault> {
-    match row.field(0)? {
-        "read" => maps::read(row, answer),
-        "write" => maps::write(row, answer),
-        "originals" => originals::answer(row, answer),
-        "compose" => composing::two(row, answer),
-        "compose_three" => composing::three(row, answer),
-        "frame" => traces::parts(row, answer),
-        "table" => traces::added(row, answer),
-        "path" => paths::answer(row, answer),
-        "list" => paths::list(row, answer),
-        "rewrite" => traces::frames(row, answer),
-        "rewrite_places" => traces::places(row, answer),
-        "read_position" => positions::answer(row, answer),
         "parse" => parsed::answer(row, answer),
         "mistake" => parsed::mistake(row, answer),
         "run" => runs::over_sound(row, answer),
         "run_over" => runs::over(row, answer),
         "run_terminal" => runs::over_terminal(row, answer),
-        _ => Err(RowFault::UnknownCall),
+        _ => answer_call(row, answer),
     }
 }

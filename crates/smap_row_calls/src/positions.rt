@@ -5,7 +5,7 @@ use crate::row::Row;
 use smap_positions::read_position;
 
 /// A line: its line and column, where it is a position; or `none`.
-pub fn answer(row: &Row<'_>, answer: &mut Answer) -> Result<(), RowFault> {
+pub(crate) fn answer(row: &Row<'_>, answer: &mut Answer) -> Result<(), RowFault> {
     match read_position(&row.bytes(1)?) {
         Some(position) => {
             let (line, column) = (position.line, position.column);

@@ -7,12 +7,12 @@ use smap_record::{MapFile, MapRefusal, SourceEntry, Url, WriteRefusal};
 use std::alloc::{AllocError, Global};
 
 /// The map of a field, at an interval.
-pub fn map_of(row: &Row<'_>, number: usize, interval: u32) -> Result<MapFile, RowFault> {
+pub(crate) fn map_of(row: &Row<'_>, number: usize, interval: u32) -> Result<MapFile, RowFault> {
     map_at(row, number, None, interval)
 }
 
 /// The same, whose sources are resolved against a base.
-pub fn map_at(
+pub(crate) fn map_at(
     row: &Row<'_>,
     number: usize,
     base: Option<&Url>,
@@ -24,7 +24,7 @@ pub fn map_at(
 
 /// A map, an interval, and a base or none: its mappings, file, sources, contents and names, or why it is refused. It is read
 /// twice, of bytes that are lent and of bytes that are let go.
-pub fn read(row: &Row<'_>, answer: &mut Answer) -> Result<(), RowFault> {
+pub(crate) fn read(row: &Row<'_>, answer: &mut Answer) -> Result<(), RowFault> {
     let (bytes, interval, base) = (row.bytes(1)?, row.number(2)?, row.url_or_none(3)?);
     let lent = MapFile::read(row.alloc(), &bytes, base.as_ref(), interval);
     put_read(row, answer, lent)?;
@@ -39,7 +39,7 @@ fn put_read(
 ) -> Result<(), RowFault> {
     match read {
         Ok(map) => put_map(row, answer, &map),
-        Err(refusal) => answer.put_text(&format!(in row.alloc(); "{refusal:?}")?),
+        Err(refusal) => answer.put_debug(&refusal),
     }
 }
 
@@ -104,9 +104,16 @@ fn push_entry(list: &mut String, place: u32, entry: &str) -> Result<(), AllocErr
 }
 
 /// A map and an interval: what is written of it, or why nothing is.
-pub fn write(row: &Row<'_>, answer: &mut Answer) -> Result<(), RowFault> {
+pub(crate) fn write(row: &Row<'_>, answer: &mut Answer) -> Result<(), RowFault> {
     let map = map_of(row, 1, row.number(2)?)?;
-    match map.write(row.alloc()) {
+    put_written(answer, map.write(row.alloc()))
+}
+
+fn put_written(
+    answer: &mut Answer,
+    written: Result<Vec<u8>, WriteRefusal>,
+) -> Result<(), RowFault> {
+    match written {
         Ok(bytes) => answer.put(&bytes),
         Err(WriteRefusal::TextTooLong) => answer.put_text("TextTooLong"),
         Err(WriteRefusal::Memory) => Err(RowFault::Memory),

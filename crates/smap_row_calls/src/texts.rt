@@ -7,7 +7,7 @@ use smap_mappings::{Mapping, Meter, PackedText, TextRefusal, encode};
 use std::alloc::{AllocError, Global};
 
 /// A text and the numbers of its sources and names: `accepted`, or why it is refused.
-pub fn check(row: &Row<'_>, answer: &mut Answer) -> Result<(), RowFault> {
+pub(crate) fn check(row: &Row<'_>, answer: &mut Answer) -> Result<(), RowFault> {
     let (sources, names) = (row.number(2)?, row.number(3)?);
     match PackedText::check(row.text(1)?, sources, names) {
         Ok(_) => answer.put_text("accepted"),
@@ -20,12 +20,12 @@ pub fn check(row: &Row<'_>, answer: &mut Answer) -> Result<(), RowFault> {
 }
 
 /// The text of a row, which may name as many sources and names as indices can.
-pub fn packed(row: &Row<'_>, number: usize) -> Result<PackedText, RowFault> {
+pub(crate) fn packed(row: &Row<'_>, number: usize) -> Result<PackedText, RowFault> {
     PackedText::check(row.text(number)?, 2147483648, 2147483648).map_err(|_| RowFault::Refused)
 }
 
 /// Adds how many mappings there are, how many lines that hold one, and the mappings.
-pub fn put_held(
+pub(crate) fn put_held(
     row: &Row<'_>,
     answer: &mut Answer,
     count: u64,
@@ -38,14 +38,14 @@ pub fn put_held(
 }
 
 /// A text: its mappings.
-pub fn decode(row: &Row<'_>, answer: &mut Answer) -> Result<(), RowFault> {
+pub(crate) fn decode(row: &Row<'_>, answer: &mut Answer) -> Result<(), RowFault> {
     let packed = packed(row, 1)?;
     let list = packed.decode(row.alloc())?;
     put_held(row, answer, packed.segments(), packed.used_lines(), &list)
 }
 
 /// A text: its mappings, one after another, after how many the meter has counted.
-pub fn next(row: &Row<'_>, answer: &mut Answer) -> Result<(), RowFault> {
+pub(crate) fn next(row: &Row<'_>, answer: &mut Answer) -> Result<(), RowFault> {
     let packed = packed(row, 1)?;
     let (count, list) = walked(row.alloc(), &packed)?;
     put_held(row, answer, count, packed.used_lines(), &list)
@@ -69,10 +69,10 @@ fn walked(alloc: Global, packed: &PackedText) -> Result<(u64, Vec<Mapping>), All
 }
 
 /// A list of mappings: their text, or why they are refused.
-pub fn encode_list(row: &Row<'_>, answer: &mut Answer) -> Result<(), RowFault> {
+pub(crate) fn encode_list(row: &Row<'_>, answer: &mut Answer) -> Result<(), RowFault> {
     let list = list_in(row.alloc(), row.field(1)?)?;
     match encode(row.alloc(), &list) {
         Ok(text) => answer.put_text(&text),
-        Err(refusal) => answer.put_text(&format!(in row.alloc(); "{refusal:?}")?),
+        Err(refusal) => answer.put_debug(&refusal),
     }
 }

@@ -5,7 +5,7 @@ use crate::row::Row;
 use smap_resolve::{SourceName, resolve};
 
 /// A root or none, a source, and a base or none: the name, and whether that is a URL or the text.
-pub fn answer(row: &Row<'_>, answer: &mut Answer) -> Result<(), RowFault> {
+pub(crate) fn answer(row: &Row<'_>, answer: &mut Answer) -> Result<(), RowFault> {
     match name_of(row)? {
         SourceName::Resolved(url) => {
             answer.put_text(&url)?;

@@ -1,6 +1,7 @@
 //! Where the map of a URL is.
 use crate::answer::Answer;
 use crate::fault::RowFault;
+use crate::lists::push_word;
 use crate::row::Row;
 use crate::traces::table_of;
 use smap_locations::{
@@ -12,7 +13,7 @@ use std::alloc::{AllocError, Global};
 /// A list of files, folders and patterns, and a URL: `added`, or why one is refused; the path for the URL, or `none`; the
 /// text under which its map is remembered; `folder` or `pattern` where the URL is the prefix or the text of one, or `-`; and
 /// how many bytes the URLs and the prefixes of the list have.
-pub fn answer(row: &Row<'_>, answer: &mut Answer) -> Result<(), RowFault> {
+pub(crate) fn answer(row: &Row<'_>, answer: &mut Answer) -> Result<(), RowFault> {
     let mut locations = Locations::new(row.alloc());
     put_added(row, answer, &mut locations)?;
     put_found(row, answer, &locations)?;
@@ -39,12 +40,12 @@ fn put_found(row: &Row<'_>, answer: &mut Answer, locations: &Locations) -> Resul
 }
 
 /// A list of maps, and the URLs and maps of a table: `taken`, or the first line that is refused, and why.
-pub fn list(row: &Row<'_>, answer: &mut Answer) -> Result<(), RowFault> {
+pub(crate) fn list(row: &Row<'_>, answer: &mut Answer) -> Result<(), RowFault> {
     match taken(row)? {
         Ok(()) => answer.put_text("taken"),
         Err(refusal) => {
             answer.put_number(refusal.line)?;
-            answer.put_text(&format!(in row.alloc(); "{:?}", refusal.fault)?)
+            answer.put_debug(&refusal.fault)
         }
     }
 }
@@ -106,15 +107,14 @@ fn put_lengths(row: &Row<'_>, answer: &mut Answer, locations: &Locations) -> Res
 
 // Adds a field of the numbers, with a blank between two, or `-`.
 fn put_numbers(row: &Row<'_>, answer: &mut Answer, numbers: &[usize]) -> Result<(), RowFault> {
-    let mut text = String::new(row.alloc());
+    let text = numbers_text(row.alloc(), numbers)?;
+    answer.put_text(if text.is_empty() { "-" } else { &text })
+}
+
+fn numbers_text(alloc: Global, numbers: &[usize]) -> Result<String, AllocError> {
+    let mut text = String::new(alloc);
     for number in numbers {
-        if !text.is_empty() {
-            text.push(' ')?;
-        }
-        text.push_str(&format!(in row.alloc(); "{number}")?)?;
+        push_word(&mut text, &format!(in alloc; "{number}")?)?;
     }
-    if text.is_empty() {
-        text.push('-')?;
-    }
-    answer.put_text(&text)
+    Ok(text)
 }

@@ -19,21 +19,30 @@ fn origin_text(alloc: Global, origin: Option<Origin>) -> Result<String, AllocErr
 }
 
 /// The mappings.
-pub fn list_text(alloc: Global, list: &[Mapping]) -> Result<String, AllocError> {
+pub(crate) fn list_text(alloc: Global, list: &[Mapping]) -> Result<String, AllocError> {
     let mut text = String::new(alloc);
     for mapping in list {
-        if !text.is_empty() {
-            text.push(' ')?;
-        }
-        let origin = origin_text(alloc, mapping.origin)?;
-        let (line, column) = (mapping.line, mapping.column);
-        text.push_str(&format!(in alloc; "{line},{column}{origin}")?)?;
+        push_word(&mut text, &mapping_text(alloc, mapping)?)?;
     }
     Ok(text)
 }
 
+fn mapping_text(alloc: Global, mapping: &Mapping) -> Result<String, AllocError> {
+    let (line, column) = (mapping.line, mapping.column);
+    let origin = origin_text(alloc, mapping.origin)?;
+    format!(in alloc; "{line},{column}{origin}")
+}
+
+/// Puts a word behind others, with a blank between two.
+pub(crate) fn push_word(text: &mut String, word: &str) -> Result<(), AllocError> {
+    if !text.is_empty() {
+        text.push(' ')?;
+    }
+    text.push_str(word)
+}
+
 /// The column of the mapping that answers, and its origin; or `none`.
-pub fn answer_text(alloc: Global, answer: &Answer) -> Result<String, AllocError> {
+pub(crate) fn answer_text(alloc: Global, answer: &Answer) -> Result<String, AllocError> {
     match answer {
         Answer::Nothing => String::from_str(alloc, "none"),
         Answer::Unmapped { column } => format!(in alloc; "{column}"),
@@ -45,7 +54,7 @@ pub fn answer_text(alloc: Global, answer: &Answer) -> Result<String, AllocError>
 }
 
 /// The mappings that a text has.
-pub fn list_in(alloc: Global, text: &str) -> Result<Vec<Mapping>, RowFault> {
+pub(crate) fn list_in(alloc: Global, text: &str) -> Result<Vec<Mapping>, RowFault> {
     let mut list = Vec::new(alloc);
     for word in text.split_whitespace() {
         list.push(mapping_in(alloc, word)?)?;
@@ -54,11 +63,19 @@ pub fn list_in(alloc: Global, text: &str) -> Result<Vec<Mapping>, RowFault> {
 }
 
 fn mapping_in(alloc: Global, word: &str) -> Result<Mapping, RowFault> {
+    mapping_of(&numbers_in(alloc, word)?)
+}
+
+fn numbers_in(alloc: Global, word: &str) -> Result<Vec<u32>, RowFault> {
     let mut numbers = Vec::new(alloc);
     for number in word.split(',') {
         numbers.push(number_in(number)?)?;
     }
-    match numbers.as_slice() {
+    Ok(numbers)
+}
+
+fn mapping_of(numbers: &[u32]) -> Result<Mapping, RowFault> {
+    match numbers {
         [line, column] => Ok(Mapping {
             line: *line,
             column: *column,

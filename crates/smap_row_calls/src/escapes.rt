@@ -83,7 +83,7 @@ fn digit(byte: u8) -> Result<u8, RowFault> {
 }
 
 /// The bytes that a field stands for.
-pub fn unescaped(alloc: Global, field: &str) -> Result<Vec<u8>, RowFault> {
+pub(crate) fn unescaped(alloc: Global, field: &str) -> Result<Vec<u8>, RowFault> {
     let mut read = Unescaping {
         bytes: Vec::new(alloc),
         awaited: Awaited::Byte,
@@ -102,7 +102,11 @@ pub fn unescaped(alloc: Global, field: &str) -> Result<Vec<u8>, RowFault> {
 const MANY: usize = 100;
 
 /// Puts these bytes behind others, with escapes for what is no printed character of a line.
-pub fn push_escaped(alloc: Global, line: &mut Vec<u8>, bytes: &[u8]) -> Result<(), RowFault> {
+pub(crate) fn push_escaped(
+    alloc: Global,
+    line: &mut Vec<u8>,
+    bytes: &[u8],
+) -> Result<(), RowFault> {
     let is_text = str::from_utf8(bytes).is_ok();
     let (mut last, mut times) = (0, 0usize);
     for byte in bytes {
@@ -123,16 +127,19 @@ fn push_run(
     times: usize,
     is_text: bool,
 ) -> Result<(), RowFault> {
-    if times >= MANY {
-        let number = format!(in alloc; "\\{{{times}}}")?;
-        line.extend_from_slice(number.as_bytes())?;
-        push_byte(alloc, line, byte, is_text)?;
+    if times < MANY {
+        for _ in 0..times {
+            push_byte(alloc, line, byte, is_text)?;
+        }
         return Ok(());
     }
-    for _ in 0..times {
-        push_byte(alloc, line, byte, is_text)?;
-    }
-    Ok(())
+    push_times(alloc, line, times)?;
+    Ok(push_byte(alloc, line, byte, is_text)?)
+}
+
+fn push_times(alloc: Global, line: &mut Vec<u8>, times: usize) -> Result<(), AllocError> {
+    let number = format!(in alloc; "\\{{{times}}}")?;
+    line.extend_from_slice(number.as_bytes())
 }
 
 fn push_byte(alloc: Global, line: &mut Vec<u8>, byte: u8, is_text: bool) -> Result<(), AllocError> {

@@ -1,7 +1,8 @@
 //! What a row comes to: a line of fields.
 use crate::escapes::push_escaped;
 use crate::fault::RowFault;
-use std::alloc::Global;
+use std::alloc::{AllocError, Global};
+use std::fmt::Debug;
 
 /// The fields of an answer so far, with a TAB between two.
 #[derive(Drop)]
@@ -12,6 +13,7 @@ pub struct Answer {
 }
 
 impl Answer {
+    /// An answer without a field.
     pub fn new(alloc: Global) -> Answer {
         Answer {
             alloc,
@@ -40,8 +42,26 @@ impl Answer {
         self.put(text.as_bytes())
     }
 
+    /// Adds a field of what a value is shown as.
+    pub(crate) fn put_debug<T: Debug>(&mut self, value: &T) -> Result<(), RowFault> {
+        let text = format!(in self.alloc; "{value:?}")?;
+        self.put(text.as_bytes())
+    }
+
     /// The line, without its LF.
     pub fn into_line(self) -> Vec<u8> {
         self.line
     }
+}
+
+/// One line of these, with a TAB between two.
+pub fn joined(alloc: Global, lines: &[Vec<u8>]) -> Result<Vec<u8>, AllocError> {
+    let mut line = Vec::new(alloc);
+    for (number, one) in lines.iter().enumerate() {
+        if number > 0 {
+            line.push(b'\t')?;
+        }
+        line.extend_from_slice(one)?;
+    }
+    Ok(line)
 }

@@ -1,8 +1,8 @@
 //! A row as it is asked: its fields, and what they stand for.
 use crate::escapes::unescaped;
 use crate::fault::RowFault;
-use smap_answers::FileReader;
 use smap_record::Url;
+use smap_replies::FileReader;
 use std::alloc::{AllocError, Global};
 
 /// A field that is this stands for each of the intervals in turn.
@@ -26,10 +26,12 @@ impl<'a> Row<'a> {
         })
     }
 
+    /// The host that files are read from.
     pub fn rt(&self) -> &'a HostRuntime {
         self.rt
     }
 
+    /// Where what a row comes to is allocated.
     pub fn alloc(&self) -> Global {
         self.rt.alloc()
     }
@@ -62,7 +64,7 @@ impl<'a> Row<'a> {
     }
 
     /// The same, where `-` stands for no text.
-    pub fn text_or_none(&self, number: usize) -> Result<Option<String>, RowFault> {
+    pub(crate) fn text_or_none(&self, number: usize) -> Result<Option<String>, RowFault> {
         if self.field(number)? == "-" {
             return Ok(None);
         }
@@ -70,7 +72,7 @@ impl<'a> Row<'a> {
     }
 
     /// The URL that a field is, or none.
-    pub fn url_or_none(&self, number: usize) -> Result<Option<Url>, RowFault> {
+    pub(crate) fn url_or_none(&self, number: usize) -> Result<Option<Url>, RowFault> {
         match self.text_or_none(number)? {
             Some(text) => match Url::parse(self.alloc(), text.as_str()) {
                 Ok(url) => Ok(Some(url)),
@@ -99,6 +101,7 @@ impl<'a> Row<'a> {
         as_text(unescaped(self.alloc(), word)?)
     }
 
+    /// The number that a field is, which may be that of the interval.
     pub fn number(&self, number: usize) -> Result<u32, RowFault> {
         let field = self.field(number)?;
         if field == EACH {
@@ -113,6 +116,6 @@ fn as_text(bytes: Vec<u8>) -> Result<String, RowFault> {
 }
 
 /// The number that a text is.
-pub fn number_in(text: &str) -> Result<u32, RowFault> {
+pub(crate) fn number_in(text: &str) -> Result<u32, RowFault> {
     text.parse().map_err(|_| RowFault::BadNumber)
 }

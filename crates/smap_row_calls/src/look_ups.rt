@@ -9,14 +9,14 @@ use smap_index::Answer as Found;
 use smap_mappings::Meter;
 use smap_positions::Direction;
 use smap_record::MapFile;
-use std::alloc::Global;
+use std::alloc::{AllocError, Global};
 
 /// A map, an interval, a line and a column from 0: what answers at each position up to these, in both directions. Of each
 /// line that stands from its first column on, where it changes, and behind that in the other direction.
-pub fn answer(row: &Row<'_>, answer: &mut Answer) -> Result<(), RowFault> {
+pub(crate) fn answer(row: &Row<'_>, answer: &mut Answer) -> Result<(), RowFault> {
     let interval = row.number(2)?;
-    let map = map_of(row, 1, interval)?;
     let (most_line, most_column) = (row.number(3)?, row.number(4)?);
+    let map = map_of(row, 1, interval)?;
     for line in 0..=most_line {
         put_line(row.alloc(), answer, &map, line, most_column, interval)?;
     }
@@ -68,10 +68,19 @@ impl Changes {
         if found.as_str() == self.last.as_str() && is_few {
             return Ok(());
         }
-        let steps = if is_few { "" } else { " in many steps" };
-        let change = format!(in self.alloc; "{column}: {found}{steps}; ")?;
-        self.text.push_str(&change)?;
+        self.text
+            .push_str(&change_text(self.alloc, column, &found, is_few)?)?;
         self.last = found;
         Ok(())
     }
+}
+
+fn change_text(
+    alloc: Global,
+    column: u32,
+    found: &str,
+    is_few: bool,
+) -> Result<String, AllocError> {
+    let steps = if is_few { "" } else { " in many steps" };
+    format!(in alloc; "{column}: {found}{steps}; ")
 }

@@ -1,6 +1,7 @@
 //! Each original place of some lines of a source.
 use crate::answer::Answer;
 use crate::fault::RowFault;
+use crate::lists::push_word;
 use crate::maps::map_of;
 use crate::row::Row;
 use smap_mappings::Meter;
@@ -11,11 +12,11 @@ use std::alloc::{AllocError, Global};
 /// A map, a source, a first line and how many, and a column, from 0: which generated places come from each original place of
 /// these lines up to the column, where they change, in both directions, by the index and by a walk, which say the same; and
 /// behind both those of the whole line.
-pub fn answer(row: &Row<'_>, answer: &mut Answer) -> Result<(), RowFault> {
-    let map = map_of(row, 1, 64)?;
-    let originals = Originals::new(row.alloc(), &map)?;
+pub(crate) fn answer(row: &Row<'_>, answer: &mut Answer) -> Result<(), RowFault> {
     let (source, first) = (row.number(2)?, row.number(3)?);
     let (lines, most_column) = (row.number(4)?, row.number(5)?);
+    let map = map_of(row, 1, 64)?;
+    let originals = Originals::new(row.alloc(), &map)?;
     for line in first..first.saturating_add(lines) {
         for direction in [Direction::AtOrBefore, Direction::AtOrAfter] {
             let place = Asked {
@@ -60,16 +61,21 @@ fn found_text(
     originals: &Originals,
     asked: &Asked,
 ) -> Result<String, AllocError> {
+    let indexed = indexed_text(alloc, originals, asked)?;
+    let walked = places_text(alloc, &generated_next(alloc, map, asked)?)?;
+    if walked.as_str() != indexed.as_str() {
+        return format!(in alloc; "{indexed} by the index and {walked} by the walk");
+    }
+    if indexed.is_empty() {
+        return String::from_str(alloc, "none");
+    }
+    Ok(indexed)
+}
+
+fn indexed_text(alloc: Global, originals: &Originals, asked: &Asked) -> Result<String, AllocError> {
     let mut text = String::new(alloc);
     for place in originals.generated(asked, &mut Meter::new(alloc)) {
         push_place(alloc, &mut text, place.line, place.column)?;
-    }
-    let walked = places_text(alloc, &generated_next(alloc, map, asked)?)?;
-    if walked.as_str() != text.as_str() {
-        return format!(in alloc; "{text} by the index and {walked} by the walk");
-    }
-    if text.is_empty() {
-        text.push_str("none")?;
     }
     Ok(text)
 }
@@ -84,8 +90,5 @@ fn places_text(alloc: Global, mappings: &[Mapping]) -> Result<String, AllocError
 
 // Puts a place behind others, with a blank between two.
 fn push_place(alloc: Global, text: &mut String, line: u32, column: u32) -> Result<(), AllocError> {
-    if !text.is_empty() {
-        text.push(' ')?;
-    }
-    text.push_str(&format!(in alloc; "{line}:{column}")?)
+    push_word(text, &format!(in alloc; "{line}:{column}")?)
 }

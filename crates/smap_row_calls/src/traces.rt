@@ -8,12 +8,13 @@ use smap_io::MemorySink;
 use smap_places::rewrite_places;
 use smap_record::{MapFile, Url};
 use smap_trace::{RewriteFault, Summary, Table, frame, rewrite};
+use std::alloc::Global;
 
 // A map without mappings.
 const EMPTY_MAP: &[u8] = br#"{"version":3,"sources":[],"mappings":""}"#;
 
 /// A line: the parts of the frame that it is, or `none`.
-pub fn parts(row: &Row<'_>, answer: &mut Answer) -> Result<(), RowFault> {
+pub(crate) fn parts(row: &Row<'_>, answer: &mut Answer) -> Result<(), RowFault> {
     let line = row.bytes(1)?;
     let Some(frame) = frame(&line) else {
         return answer.put_text("none");
@@ -26,32 +27,40 @@ pub fn parts(row: &Row<'_>, answer: &mut Answer) -> Result<(), RowFault> {
 }
 
 /// The table of the maps of a row, from this field on: the URL of each, which is its base where it is one, and the map.
-pub fn table_of(row: &Row<'_>, first: usize, interval: u32) -> Result<Table, RowFault> {
+pub(crate) fn table_of(row: &Row<'_>, first: usize, interval: u32) -> Result<Table, RowFault> {
     let mut table = Table::new(row.alloc());
     for number in (first..row.count()).step_by(2) {
-        let url = row.text(number)?;
-        let base = Url::parse(row.alloc(), url.as_str()).ok();
-        let map = map_at(row, number.saturating_add(1), base.as_ref(), interval)?;
-        if table.add(url, map).is_err() {
-            return Err(RowFault::Refused);
-        }
+        add_map(row, number, interval, &mut table)?;
     }
     Ok(table)
 }
 
+fn add_map(row: &Row<'_>, number: usize, interval: u32, table: &mut Table) -> Result<(), RowFault> {
+    let url = row.text(number)?;
+    let base = Url::parse(row.alloc(), url.as_str()).ok();
+    let map = map_at(row, number.saturating_add(1), base.as_ref(), interval)?;
+    table.add(url, map).map_err(|_| RowFault::Refused)
+}
+
 /// URLs: what comes of adding a map under each to one table, with the URL that comes back; and how many the table has then.
-pub fn added(row: &Row<'_>, answer: &mut Answer) -> Result<(), RowFault> {
+pub(crate) fn added(row: &Row<'_>, answer: &mut Answer) -> Result<(), RowFault> {
     let mut table = Table::new(row.alloc());
     for number in 1..row.count() {
-        let map = MapFile::read(row.alloc(), EMPTY_MAP, None, 64).map_err(|_| RowFault::Refused)?;
-        match table.add(row.text(number)?, map) {
-            Ok(()) => answer.put_text("added")?,
-            Err((refusal, url, _map)) => {
-                answer.put_text(&format!(in row.alloc(); "{refusal:?} {url}")?)?;
-            }
-        }
+        answer.put_text(&added_text(row, number, &mut table)?)?;
     }
     answer.put_number(table.count() as u64)
+}
+
+fn added_text(row: &Row<'_>, number: usize, table: &mut Table) -> Result<String, RowFault> {
+    let url = row.text(number)?;
+    match table.add(url, empty_map(row.alloc())?) {
+        Ok(()) => Ok(String::from_str(row.alloc(), "added")?),
+        Err((refusal, url, _map)) => Ok(format!(in row.alloc(); "{refusal:?} {url}")?),
+    }
+}
+
+fn empty_map(alloc: Global) -> Result<MapFile, RowFault> {
+    MapFile::read(alloc, EMPTY_MAP, None, 64).map_err(|_| RowFault::Refused)
 }
 
 fn put_outcome(
@@ -67,14 +76,14 @@ fn put_outcome(
             let counts = format!(in row.alloc(); "{lines} {frames} {mapped} {hidden}")?;
             answer.put_text(&counts)?;
         }
-        Err(fault) => answer.put_text(&format!(in row.alloc(); "{fault:?}")?)?,
+        Err(fault) => answer.put_debug(&fault)?,
     }
     answer.put(output.bytes())
 }
 
 /// An input, an output, `hide` or `show`, an interval, a trace, and the URLs and maps of a table: the lines, frames,
 /// replaced and hidden frames, and what the trace becomes.
-pub fn frames(row: &Row<'_>, answer: &mut Answer) -> Result<(), RowFault> {
+pub(crate) fn frames(row: &Row<'_>, answer: &mut Answer) -> Result<(), RowFault> {
     let is_hiding = row.field(3)? == "hide";
     let table = table_of(row, 6, row.number(4)?)?;
     let mut input = source(row, 1, 5)?;
@@ -85,7 +94,7 @@ pub fn frames(row: &Row<'_>, answer: &mut Answer) -> Result<(), RowFault> {
 
 /// An input, an output, how many bytes a text may have, an interval, a text, and the URLs and maps of a table: its lines,
 /// places and replaced places, and what the text becomes.
-pub fn places(row: &Row<'_>, answer: &mut Answer) -> Result<(), RowFault> {
+pub(crate) fn places(row: &Row<'_>, answer: &mut Answer) -> Result<(), RowFault> {
     let most = u64::from(row.number(3)?);
     let table = table_of(row, 6, row.number(4)?)?;
     let mut input = source(row, 1, 5)?;
