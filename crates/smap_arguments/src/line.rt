@@ -87,8 +87,8 @@ fn with_last_commands<'a>(alloc: Global, smap: Command<'a>) -> Result<Command<'a
     with_command(smap, raw_command(alloc))
 }
 
-// The command line with this command, the last. It takes a command that may not have been made, so that the caller has nothing
-// to drop where it was not.
+// The command line with this command, the last. It takes a command that may not have been made, so that the caller has
+// nothing to drop where it was not.
 fn with_command<'a>(
     above: Command<'a>,
     made: Result<Command<'a>, AllocError>,

@@ -14,7 +14,8 @@ use smap_command::{Command, LocateOptions};
 use std::alloc::Global;
 use url::Url;
 
-/// What `locate` is asked. It needs maps, with a base sources are not named by paths, and lines of sources are shown in JSON alone.
+/// What `locate` is asked. It needs maps, with a base sources are not named by paths, and lines of sources are shown in JSON
+/// alone.
 pub fn locate_in(
     alloc: Global,
     matches: &ArgMatches<'_>,

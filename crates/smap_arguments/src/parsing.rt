@@ -14,8 +14,8 @@ use clap::error::ErrorKind;
 use smap_command::Command;
 use std::alloc::Global;
 
-/// The command that the arguments ask for, where the first argument is the program's name and a position of `lookup` may be one
-/// word. An `Err` has the text for the user, as clap writes it.
+/// The command that the arguments ask for, where the first argument is the program's name and a position of `lookup` may be
+/// one word. An `Err` has the text for the user, as clap writes it.
 pub fn parse(alloc: Global, arguments: Vec<String>) -> Result<Command, Usage>
     ensures asked { IfOk result (ArgumentsAskFor (read_arguments (texts arguments.items))) }
     ensures in_range { IfOk result IsInRange }

@@ -76,7 +76,8 @@ fn push_word(
     word: &str,
     is_spread: bool,
 ) -> Result<bool, AllocError>
-    ensures { IfOk result (IsPushed (texts all.old.items) (texts all.new.items) word.now is_spread) }
+    ensures { IfOk result (IsPushed (texts all.old.items) (texts all.new.items) word.now
+        is_spread) }
 {
     if is_spread {
         all.push(String::from_str(alloc, word)?)?;

@@ -46,8 +46,8 @@ pub extern "C" fn smap_originals_new(
 }
 
 /// Lends the generated places of an original place, from 0, its column in UTF-16 code units: in the order of the map those
-/// whose original is on this line of this source, at the greatest original column that is not after this one (`direction` 0),
-/// or at the least that is not before it (1). Another direction is refused.
+/// whose original is on this line of this source, at the greatest original column that is not after this one (`direction`
+/// 0), or at the least that is not before it (1). Another direction is refused.
 #[unsafe(no_mangle)]
 pub extern "C" fn smap_generated<'a>(
     alloc: Global,

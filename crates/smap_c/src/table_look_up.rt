@@ -17,8 +17,8 @@ use std::alloc::Global;
 pub struct TableOptions {
     /// Whether the first mapping on the line that is not before the place answers, and not the last that is not after it.
     pub after: bool,
-    /// Whether a URL under which the table has no map has the one under it without its query and its fragment, before those of
-    /// patterns.
+    /// Whether a URL under which the table has no map has the one under it without its query and its fragment, before those
+    /// of patterns.
     pub cut: bool,
 }
 

@@ -111,13 +111,13 @@ pub struct RewriteOptions {
     pub anywhere: bool,
     /// Whether the text is read without the control sequences by which a terminal is told of colours and the like (ECMA-48).
     pub strip_ansi: bool,
-    /// Whether a frame whose URL is not in the table has the map under it without its query and its fragment, before those of
-    /// patterns.
+    /// Whether a frame whose URL is not in the table has the map under it without its query and its fragment, before those
+    /// of patterns.
     pub cut: bool,
 }
 
-/// Rewrites a trace: a frame whose URL has a map in the table and whose place has an original gets it in its place, and every
-/// other byte stays. With `hide_ignored` the lines of frames whose original is in an ignored source are dropped. A
+/// Rewrites a trace: a frame whose URL has a map in the table and whose place has an original gets it in its place, and
+/// every other byte stays. With `hide_ignored` the lines of frames whose original is in an ignored source are dropped. A
 /// trace of more than 1,073,741,824 bytes is refused. `bytes` and `counts` are written where the trace was rewritten.
 #[unsafe(no_mangle)]
 pub extern "C" fn smap_rewrite(
@@ -150,10 +150,10 @@ pub extern "C" fn smap_rewrite(
     smap_rewrite_with(alloc, table, trace, &options, bytes, counts)
 }
 
-/// Rewrites a text: a place `URL:line:column`, wherever it stands in a line, whose URL has a map in the table and which has an
-/// original gets it in its stead, and every other byte stays. A text of more than 1,073,741,824 bytes is refused, and any
-/// where the table has a map under `*` alone. `bytes` and `counts`, which has places in place of frames, are written where the
-/// text was rewritten.
+/// Rewrites a text: a place `URL:line:column`, wherever it stands in a line, whose URL has a map in the table and which has
+/// an original gets it in its stead, and every other byte stays. A text of more than 1,073,741,824 bytes is refused, and any
+/// where the table has a map under `*` alone. `bytes` and `counts`, which has places in place of frames, are written where
+/// the text was rewritten.
 #[unsafe(no_mangle)]
 pub extern "C" fn smap_rewrite_anywhere(
     alloc: Global,
@@ -184,9 +184,9 @@ pub extern "C" fn smap_rewrite_anywhere(
     smap_rewrite_with(alloc, table, text, &options, bytes, counts)
 }
 
-/// Rewrites a text as `smap_rewrite` does or, with `anywhere`, as `smap_rewrite_anywhere`. With `strip_ansi` it is read without
-/// its control sequences, and no more than 1,073,741,824 bytes may be left of it; with `cut` a frame whose URL is not in the
-/// table has the map under it without its query and its fragment.
+/// Rewrites a text as `smap_rewrite` does or, with `anywhere`, as `smap_rewrite_anywhere`. With `strip_ansi` it is read
+/// without its control sequences, and no more than 1,073,741,824 bytes may be left of it; with `cut` a frame whose URL is
+/// not in the table has the map under it without its query and its fragment.
 #[unsafe(no_mangle)]
 pub extern "C" fn smap_rewrite_with(
     alloc: Global,
@@ -202,7 +202,8 @@ pub extern "C" fn smap_rewrite_with(
     ensures counts { IfSome table.old.held (λ maps.
         result ≡ 0 → counts_seen counts.new ≡ counts_with options.now maps text.now) }
     ensures refused { IfSome table.old.held (λ maps. result ≡ 1 →
-        (most_text_bytes < length (text_read options.now text.now)) ⊎ (is_for_all options.now maps ≡ true)) }
+        (most_text_bytes < length (text_read options.now text.now)) ⊎
+        (is_for_all options.now maps ≡ true)) }
     ensures sound { IfSome table.old.held (λ maps.
         is_for_all options.now maps ≡ true → result ≡ 1) }
     ensures fits { result ≡ 0 → length (text_read options.now text.now) ≤ most_text_bytes }

@@ -101,8 +101,9 @@ pub enum Command {
         hide_ignored: bool,
         options: FurtherOptions,
     },
-    /// Answers the places on the lines of standard input, which are a URL, a line and a column, each by a line, over maps: pairs of
-    /// the URL that they name and of the path of the map's file, as `Rewrite` has them, and those that the options name.
+    /// Answers the places on the lines of standard input, which are a URL, a line and a column, each by a line, over maps:
+    /// pairs of the URL that they name and of the path of the map's file, as `Rewrite` has them, and those that the options
+    /// name.
     Locate {
         maps: Vec<(String, String)>,
         base: Option<Url>,

@@ -1,5 +1,6 @@
-//! What the program can be asked, as values: the commands with their options, and the numbers that they may have. The arguments
-//! of the command line are read into these commands, and the answers are given for them, by crates that do not know each other.
+//! What the program can be asked, as values: the commands with their options, and the numbers that they may have. The
+//! arguments of the command line are read into these commands, and the answers are given for them, by crates that do not
+//! know each other.
 //!
 //! ```text
 //! let options = LookupOptions { form: Form::Text, explain: false };

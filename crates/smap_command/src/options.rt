@@ -112,8 +112,8 @@ pub struct FurtherOptions {
     pub explain: bool,
     /// Whether the sources of a map whose URL is a path are named by paths that go on from its folder.
     pub paths: bool,
-    /// Whether standard error is told at the end, where nothing else was said, which option takes the places of lines that are
-    /// no frames. No argument asks for it.
+    /// Whether standard error is told at the end, where nothing else was said, which option takes the places of lines that
+    /// are no frames. No argument asks for it.
     pub hint: bool,
 }
 
@@ -130,7 +130,8 @@ pub struct LocateOptions {
     /// Whether the first mapping at a position or after it answers; else the last one at it or before it.
     pub after: bool,
     pub form: Form,
-    /// How many lines of its source are shown before and behind that of a place that is found: 0 to `MOST_CONTEXT`. As text none is.
+    /// How many lines of its source are shown before and behind that of a place that is found: 0 to `MOST_CONTEXT`. As text
+    /// none is.
     pub context: Option<u32>,
 }
 

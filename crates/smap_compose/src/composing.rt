@@ -110,12 +110,12 @@ fn one_followed(
     followed_mappings(alloc, outer, &inners)
 }
 
-/// Composes a map with the maps of its sources, all at once, without what is left out: at place `s` that of source `s`, where
-/// it has one. A mapping of the outer map whose source has an inner map gets the origin that this answers, as `compose`
-/// says; every other stays. So it is composing with one after another, from the least source on. Each mapping costs at
-/// most one look-up. The sources of an inner map stand after those of the outer map and of the inner maps before it, and
-/// so do its names. Where the outer source's name is no URL, a source of its map that is called by a relative path is
-/// called by that path as it goes on from the folder of the outer source.
+/// Composes a map with the maps of its sources, all at once, without what is left out: at place `s` that of source `s`,
+/// where it has one. A mapping of the outer map whose source has an inner map gets the origin that this answers, as
+/// `compose` says; every other stays. So it is composing with one after another, from the least source on. Each mapping
+/// costs at most one look-up. The sources of an inner map stand after those of the outer map and of the inner maps before
+/// it, and so do its names. Where the outer source's name is no URL, a source of its map that is called by a relative path
+/// is called by that path as it goes on from the folder of the outer source.
 pub fn compose_all(
     alloc: Global,
     outer: &MapFile,
@@ -126,7 +126,8 @@ pub fn compose_all(
     ensures composed { GivesOr Memory (λ composed. composed) result
         (left_of left_out (all_composed outer.now.stated (stated_inners inners.now))) }
     ensures in_turn { left_out.unused ≡ false → IfOk result (λ composed. composed.mappings
-        ≡ (followed_in_turn (mappings_of_map outer.now.stated) 0 (inner_lists (stated_inners inners.now))).mappings) }
+        ≡ (followed_in_turn (mappings_of_map outer.now.stated) 0
+        (inner_lists (stated_inners inners.now))).mappings) }
     ensures answers { left_out.unused ≡ false → IfOk result (λ composed. (line column : ℕ) →
         answer_at_or_before composed.mappings line column
         ≡ followed_answer_all (mappings_of_map outer.now.stated)
@@ -171,7 +172,8 @@ fn left_of(alloc: Global, whole: Parts<'_>, left_out: LeftOut) -> Result<Compose
     composed_map(alloc, left, left_out.contents)
 }
 
-// Whether what is left of a map is refused since the whole one is too long. Where all is left, that is asked of what is left.
+// Whether what is left of a map is refused since the whole one is too long. Where all is left, that is asked of what is
+// left.
 fn is_refused_whole(mappings: &[Mapping], unused: bool) -> bool
     requires { list_fault mappings.now ≡ None }
     ensures { result ≡ (unused && is_text_too_long mappings.now) }

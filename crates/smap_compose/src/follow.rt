@@ -24,7 +24,8 @@ pub fn followed_mappings(
 ) -> Result<Vec<Mapping>, AllocError>
     requires placed { ArePlaced outer.now.stated inners.now }
     ensures list { IfOk result (λ made. made.items
-        ≡ map (with_origin (origin_through_all (inners_seen inners.now))) (joined outer.now.stated.parts)) }
+        ≡ map (with_origin (origin_through_all (inners_seen inners.now)))
+        (joined outer.now.stated.parts)) }
     ensures within { IfOk result (λ made. All
         (IsWithin inners.now.sources inners.now.names) made.items) }
     ensures no_fault { IfOk result (λ made. list_fault made.items ≡ None) }

@@ -61,7 +61,8 @@ pub fn all_sources<'a>(
     requires few { (all_followed outer.now.stated (stated_inners inners.now)).sources
         ≤ most_listed }
     ensures sources { IfOk result (λ sources. map lent_source sources.items
-        ≡ outer.now.stated.sources ++ sources_within outer.now.stated.sources (stated_inners inners.now)) }
+        ≡ outer.now.stated.sources
+        ++ sources_within outer.now.stated.sources (stated_inners inners.now)) }
     ensures counted { IfOk result (λ sources. length sources.items
         ≡ (all_followed outer.now.stated (stated_inners inners.now)).sources) }
 {
@@ -106,7 +107,8 @@ fn add_sources_below<'a>(
 ) -> Result<(), AllocError>
     requires { inner_sources (inner_list inner) ≤ most_listed }
     ensures { OnOk result (map lent_source sources.new.items ≡ map lent_source sources.old.items
-        ++ sources_below (source_of source.now) (option_map (λ inner. inner.now.stated) inner.entry)) }
+        ++ sources_below (source_of source.now)
+        (option_map (λ inner. inner.now.stated) inner.entry)) }
 {
     match inner {
         Some(inner) => add_sources(alloc, source.name.as_ref(), inner, sources),
@@ -124,7 +126,8 @@ fn add_sources<'a>(
     requires { length map_file.now.stated.sources ≤ most_listed }
     ensures { OnOk result (map lent_source sources.new.items
         ≡ map lent_source sources.old.items
-        ++ map (source_from (option_map name_of (option_copied outer.entry))) map_file.now.stated.sources) }
+        ++ map (source_from (option_map name_of (option_copied outer.entry)))
+        map_file.now.stated.sources) }
 {
     for i in 0..map_file.sources() as u32 {
         if let Some(source) = map_file.source(i) {

@@ -97,7 +97,8 @@ pub fn all_placed<'a>(
         ≤ most_listed }
     ensures placed { IfOk result (λ placed. ArePlaced outer.now.stated placed) }
     ensures list { IfOk result (λ placed. inners_seen placed
-        ≡ placed_after (mappings_of_map outer.now.stated) (inner_lists (stated_inners inners.now))) }
+        ≡ placed_after (mappings_of_map outer.now.stated)
+        (inner_lists (stated_inners inners.now))) }
     ensures sources { IfOk result (λ placed. placed.sources
         ≡ (all_followed outer.now.stated (stated_inners inners.now)).sources) }
     ensures names { IfOk result (λ placed. placed.names

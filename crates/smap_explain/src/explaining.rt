@@ -117,7 +117,8 @@ fn key_facts_of(
     refusal: MapRefusal,
 ) -> Result<Option<KeyFacts>, AllocError>
     ensures { IfOk result (λ facts. option_map key_seen facts
-        ≡ option_and_then (λ entries. key_facts entries refusal) (result_ok (members_in bytes.now))) }
+        ≡ option_and_then (λ entries. key_facts entries refusal)
+        (result_ok (members_in bytes.now))) }
 {
     match object_of(alloc, bytes)? {
         Some(members) => key_facts(alloc, &members, refusal),
@@ -163,7 +164,8 @@ fn segment_reported(
     members: &Map<String, Value>,
     section: u64,
 ) -> Result<Option<SegmentFacts>, AllocError>
-    ensures { IfOk result (λ facts. IsSegmentReported section (members_view members.now.entries) facts) }
+    ensures { IfOk result (λ facts.
+        IsSegmentReported section (members_view members.now.entries) facts) }
 {
     match stated_mappings(members, section) {
         Some(

@@ -18,7 +18,8 @@ ghost use Rattle.smap_explain.specs.declared.rule.MapKey.TheVariants as keys;
 pub fn refused_segments_are_explained()
     ensures { (bytes : List ℕ) (base : Option Parts) (k section : ℕ) (fault : Fault)
         (explanation : Explanation) → record_of bytes base k ≡ Err (Text section fault)
-        → IsExplained bytes (Text section fault) explanation → ReportsFault section fault explanation }
+        → IsExplained bytes (Text section fault) explanation →
+        ReportsFault section fault explanation }
 {}
 
 /// Nothing at a key of a map is reported as wrong exactly where a map that is read states something there.

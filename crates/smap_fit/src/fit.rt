@@ -1,4 +1,5 @@
-//! The fresh mappings of a map that can't be those of a text, and how many original places show what the generated ones show.
+//! The fresh mappings of a map that can't be those of a text, and how many original places show what the generated ones
+//! show.
 ghost use Rattle.std.specs.Prelude.{◌≡◌, ◌+◌, ◌<◌, ◌≤◌, ◌^◌, true, if◌then◌else◌, None, Some, IfOk};
 ghost use Rattle.smap_index.specs.Parts.{joined};
 ghost use Rattle.smap_fit.specs.Agreement.{is_agreeing, is_compared, is_outside};

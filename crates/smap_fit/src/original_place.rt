@@ -31,8 +31,8 @@ impl<'a> OriginalPlace<'a> {
         }
     }
 
-    /// How the origin of a mapping, if it has one, agrees with what the generated line has from its place on, if something is
-    /// there. The place goes to the origin.
+    /// How the origin of a mapping, if it has one, agrees with what the generated line has from its place on, if something
+    /// is there. The place goes to the origin.
     pub fn agreement(
         &mut self,
         contents: &Contents<'a>,

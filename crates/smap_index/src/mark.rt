@@ -54,7 +54,8 @@ pub fn mark_parts(
     ensures overlap { result.overlap ≡ overlap_fault parts.now }
     ensures past_limit { result.overlap ≡ None → result.past_limit ≡ range_fault parts.now }
     ensures marked { result.overlap ≡ None → result.past_limit ≡ None → IsTrue result.has_room →
-        (added : List Checkpoint) × (checkpoints.new ≡ checkpoints.old ++ added) × AreCheckpointsOf parts.now interval added }
+        (added : List Checkpoint) × (checkpoints.new ≡ checkpoints.old ++ added) ×
+        AreCheckpointsOf parts.now interval added }
     ensures ordered { result.overlap ≡ None → AllByRecursion IsTextInOrder parts.now }
 {
     let mut past_limit = None;
@@ -111,7 +112,8 @@ fn mark_part(
     ensures room { IsTrue result.has_room → IsTrue has_room }
     ensures marked { result.is_past_limit ≡ false → IsTrue result.has_room →
         (added : List Checkpoint) × (checkpoints.new ≡ checkpoints.old ++ added)
-        × AllZip (IsCheckpointIn part.now number) (marked_segments interval [] (placed part.now)) added }
+        × AllZip (IsCheckpointIn part.now number)
+        (marked_segments interval [] (placed part.now)) added }
     ensures ordered { IsTextInOrder part.now }
 {
     // The contract of `segments` says that they are few, so that the meter has room. A walk is no look-up, so it counts

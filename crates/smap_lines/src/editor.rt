@@ -36,7 +36,8 @@ pub trait LineEditor {
 
         ensures put { IsOnePut W.seen output.old output.new
             (Becomes self.old (record { bytes = line.now; is_ended = is_ended }))
-            (λ text. Steps self.old (record { bytes = line.now; is_ended = is_ended }) text self.new)
+            (λ text.
+            Steps self.old (record { bytes = line.now; is_ended = is_ended }) text self.new)
             result }
         ensures reaches { Reaches self.old self.new };
 

@@ -55,7 +55,8 @@ impl Gathered {
         ensures no_failure { OnOk result ((W.seen output.new).failed ≡ (W.seen output.old).failed) }
 
         ensures front { OnErr result
-            (TakesFront (W.seen output.old).taken (W.seen output.new).taken (self.old ++ bytes.now)) }
+            (TakesFront (W.seen output.old).taken (W.seen output.new).taken
+            (self.old ++ bytes.now)) }
         ensures failure { OnErr result ((W.seen output.new).failed ≡ true) }
     {
         if bytes.len() > MOST_GATHERED - self.len {
@@ -74,7 +75,8 @@ impl Gathered {
         ensures no_failure { OnOk result ((W.seen output.new).failed ≡ (W.seen output.old).failed) }
 
         ensures front { OnErr result
-            (TakesFront (W.seen output.old).taken (W.seen output.new).taken (self.old ++ bytes.now)) }
+            (TakesFront (W.seen output.old).taken (W.seen output.new).taken
+            (self.old ++ bytes.now)) }
         ensures failure { OnErr result ((W.seen output.new).failed ≡ true) }
     {
         self.write(output)?;

@@ -1,5 +1,5 @@
-//! Answering places: generated positions in the files of many URLs, a line each, over files and folders of maps, which are read
-//! when a line names them.
+//! Answering places: generated positions in the files of many URLs, a line each, over files and folders of maps, which are
+//! read when a line names them.
 //!
 //! ```text
 //! let request = LocateRequest::new(&maps, &arguments, &options);

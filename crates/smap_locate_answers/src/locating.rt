@@ -65,9 +65,10 @@ impl<'a, 'r, F: FileReader> LocateRequest<'a, 'r, F> {
     }
 }
 
-/// Reads the maps that are words of the command line, and answers the places on the lines of standard input over them and over
-/// those that they name, each by a line in their order, and gives the exit status: the greatest of all that was reported.
-/// The code of the first refusal is put into `first`, where that has none. The caller gives devices that have not failed.
+/// Reads the maps that are words of the command line, and answers the places on the lines of standard input over them and
+/// over those that they name, each by a line in their order, and gives the exit status: the greatest of all that was
+/// reported. The code of the first refusal is put into `first`, where that has none. The caller gives devices that have not
+/// failed.
 pub fn answer_locate<F: FileReader, R: ByteSource, W: ByteSink, E: ByteSink>(
     alloc: Global,
     request: &LocateRequest<'_, '_, F>,
@@ -79,7 +80,8 @@ pub fn answer_locate<F: FileReader, R: ByteSource, W: ByteSink, E: ByteSink>(
     requires input_works { (R.seen input.old).failed ≡ false }
     requires output_works { (W.seen output.old).failed ≡ false }
     ensures { RunsLocate (F.gives request.now.maps.now.files.now)
-        (option_copied request.now.maps.now.base) request.now.maps.now.interval (request_seen request.now) result
+        (option_copied request.now.maps.now.base) request.now.maps.now.interval
+        (request_seen request.now) result
         (streams_seen (R.seen input.old) (W.seen output.old) (E.seen errors.old) first.old)
         (streams_seen (R.seen input.new) (W.seen output.new) (E.seen errors.new) first.new) }
 {
@@ -123,7 +125,8 @@ fn over_store<F: FileReader, R: ByteSource, W: ByteSink, E: ByteSink>(
     requires input_works { (R.seen input.old).failed ≡ false }
     requires output_works { (W.seen output.old).failed ≡ false }
     ensures over { IsOverStore (F.gives request.now.maps.now.files.now)
-        (option_copied request.now.maps.now.base) request.now.maps.now.interval (request_seen request.now) sources.now result
+        (option_copied request.now.maps.now.base) request.now.maps.now.interval
+        (request_seen request.now) sources.now result
         (streams_seen (R.seen input.old) (W.seen output.old) (E.seen errors.old) first.old)
         (streams_seen (R.seen input.new) (W.seen output.new) (E.seen errors.new) first.new) }
     ensures output_failure { (W.seen output.new).failed ≡ is_write_fault result.result }

@@ -8,7 +8,8 @@ use crate::refusal::ListFault;
 /// What a line of a list says: what stands before its first TAB, and what behind that. An empty line, and one that begins
 /// with `#`, says nothing; any other without a TAB is refused.
 pub fn entry_of_line(line: &str) -> Result<Option<(&str, &str)>, ListFault>
-    ensures { result_map_both (option_map (λ entry. (entry.0.now, entry.1.now))) (λ fault. fault) result
+    ensures { result_map_both (option_map (λ entry. (entry.0.now, entry.1.now))) (λ fault. fault)
+        result
         ≡ line_entry line.now }
 {
     if is_passed_over(line.as_bytes()) {

@@ -60,10 +60,12 @@ impl Locations {
     pub fn add_file(&mut self, url: String, path: String) -> Result<(), LocationRefusal>
         ensures added { OnOk result
             (IsWith self.old.files (string_bytes url) (string_bytes path) self.new.files) }
-        ensures others { (self.new.folders ≡ self.old.folders) × (self.new.patterns ≡ self.old.patterns) }
+        ensures others { (self.new.folders ≡ self.old.folders) ×
+            (self.new.patterns ≡ self.old.patterns) }
         ensures kept { OnErr result (self.new ≡ self.old) }
         ensures refused { MatchOption (twice self.old.files (string_bytes url))
-            (IfErr result (λ refusal. refusal ≡ Memory)) (λ refusal. IsErrAnd result (λ e. e ≡ refusal)) }
+            (IfErr result (λ refusal. refusal ≡ Memory))
+            (λ refusal. IsErrAnd result (λ e. e ≡ refusal)) }
     {
         self.files.add(url, path)
     }
@@ -84,7 +86,8 @@ impl Locations {
 
     /// How many bytes the URLs have for which files are named, one after another in the order of the URLs.
     pub fn url_lengths(&self, alloc: Global) -> Result<Vec<usize>, AllocError>
-        ensures { IfOk result (λ lengths. lengths.items ≡ map (λ pair. length pair.0) self.now.files) }
+        ensures { IfOk result (λ lengths. lengths.items
+            ≡ map (λ pair. length pair.0) self.now.files) }
     {
         self.files.lengths(alloc)
     }
@@ -118,10 +121,12 @@ impl Locations {
     pub fn add_folder(&mut self, prefix: String, folder: String) -> Result<(), LocationRefusal>
         ensures added { OnOk result
             (IsWith self.old.folders (string_bytes prefix) (string_bytes folder) self.new.folders) }
-        ensures others { (self.new.files ≡ self.old.files) × (self.new.patterns ≡ self.old.patterns) }
+        ensures others { (self.new.files ≡ self.old.files) ×
+            (self.new.patterns ≡ self.old.patterns) }
         ensures kept { OnErr result (self.new ≡ self.old) }
         ensures refused { MatchOption (prefix_refusal self.old.folders (string_bytes prefix))
-            (IfErr result (λ refusal. refusal ≡ Memory)) (λ refusal. IsErrAnd result (λ e. e ≡ refusal)) }
+            (IfErr result (λ refusal. refusal ≡ Memory))
+            (λ refusal. IsErrAnd result (λ e. e ≡ refusal)) }
     {
         if !is_folder(prefix.as_bytes()) {
             return Err(LocationRefusal::NoFolder);
@@ -136,8 +141,10 @@ impl Locations {
             (self.new.patterns ≡ self.old.patterns ++ (text.items, string_bytes path) ∷ []) }
         ensures others { (self.new.files ≡ self.old.files) × (self.new.folders ≡ self.old.folders) }
         ensures kept { OnErr result (self.new ≡ self.old) }
-        ensures refused { MatchOption (pattern_refusal self.old.patterns text.items (string_bytes path))
-            (IfErr result (λ refusal. refusal ≡ Memory)) (λ refusal. IsErrAnd result (λ e. e ≡ refusal)) }
+        ensures refused { MatchOption (pattern_refusal self.old.patterns text.items
+            (string_bytes path))
+            (IfErr result (λ refusal. refusal ≡ Memory))
+            (λ refusal. IsErrAnd result (λ e. e ≡ refusal)) }
     {
         self.patterns.add(text, path)
     }
@@ -171,8 +178,8 @@ impl Locations {
     }
 
     /// The path of the file that has a URL's map, where there is one: what is named for the URL, or for it without its query
-    /// and its fragment; or the file in the folder of the longest prefix, if what stands behind that is a plain path; or what
-    /// the pattern gives that has the longest text.
+    /// and its fragment; or the file in the folder of the longest prefix, if what stands behind that is a plain path; or
+    /// what the pattern gives that has the longest text.
     pub fn path_for(&self, alloc: Global, url: &[u8]) -> Result<Option<String>, AllocError>
         ensures { IfOk result (λ path. option_map string_bytes path ≡ path_for self.now url.now) }
     {
@@ -209,7 +216,8 @@ impl Locations {
     /// What decides where the map of a URL is, where it has one, as it was named: the URL, with or without its query and its
     /// fragment, the prefix of a folder, or a pattern behind its `*`.
     pub fn decided_by(&self, alloc: Global, url: &[u8]) -> Result<Option<Vec<u8>>, AllocError>
-        ensures { IfOk result (λ name. option_map (λ text. text.items) name ≡ decided_by self.now url.now) }
+        ensures { IfOk result (λ name. option_map (λ text. text.items) name
+            ≡ decided_by self.now url.now) }
     {
         if self.has_file(url) {
             return Ok(Some(Vec::from_slice(alloc, url)?));

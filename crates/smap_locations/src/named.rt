@@ -43,7 +43,8 @@ impl NamedPaths {
             (IsWith self.old (string_bytes url) (string_bytes path) self.new) }
         ensures kept { OnErr result (self.new ≡ self.old) }
         ensures refused { MatchOption (twice self.old (string_bytes url))
-            (IfErr result (λ refusal. refusal ≡ Memory)) (λ refusal. IsErrAnd result (λ e. e ≡ refusal)) }
+            (IfErr result (λ refusal. refusal ≡ Memory))
+            (λ refusal. IsErrAnd result (λ e. e ≡ refusal)) }
     {
         if self.path_under(url.as_bytes()).is_some() {
             return Err(LocationRefusal::Twice);

@@ -46,7 +46,8 @@ impl Patterns {
             (self.new ≡ self.old ++ (text.items, string_bytes path) ∷ []) }
         ensures kept { OnErr result (self.new ≡ self.old) }
         ensures refused { MatchOption (pattern_refusal self.old text.items (string_bytes path))
-            (IfErr result (λ refusal. refusal ≡ Memory)) (λ refusal. IsErrAnd result (λ e. e ≡ refusal)) }
+            (IfErr result (λ refusal. refusal ≡ Memory))
+            (λ refusal. IsErrAnd result (λ e. e ≡ refusal)) }
     {
         if is_folder(path.as_bytes()) && !ends_in_separator(&text) {
             return Err(LocationRefusal::NoFolder);
@@ -92,9 +93,11 @@ impl Patterns {
             .any(|pattern| pattern.needs_query(url, short))
     }
 
-    /// The text of the pattern that decides for a URL, where one does. The URL is `short` without its query and its fragment.
+    /// The text of the pattern that decides for a URL, where one does. The URL is `short` without its query and its
+    /// fragment.
     pub fn text_for(&self, url: &[u8], short: &[u8]) -> Option<&[u8]>
-        ensures { option_map (λ text. text.now) result ≡ text_by_patterns self.now url.now short.now }
+        ensures { option_map (λ text. text.now) result
+            ≡ text_by_patterns self.now url.now short.now }
     {
         match deciding(&self.all, url, short) {
             Some(pattern) => Some(&pattern.text),
@@ -153,7 +156,8 @@ fn deciding<'p>(patterns: &'p [Pattern], url: &[u8], short: &[u8]) -> Option<&'p
 
 // Whether a pattern decides before the best so far.
 fn is_better(best: Option<&Pattern>, pattern: &Pattern) -> bool
-    ensures { result ≡ is_better (option_map (λ one. pattern_seen one.now) best.entry) (pattern_seen pattern.now) }
+    ensures { result ≡ is_better (option_map (λ one. pattern_seen one.now) best.entry)
+        (pattern_seen pattern.now) }
 {
     match best {
         Some(best) => pattern.comes_before(best),

@@ -44,7 +44,8 @@ pub fn answer_generated<F: FileReader>(
 ) -> Result<Reply, Failure>
     ensures { OrMemory (ReportsMapWhy (F.gives maps.now.files.now) asked.entry.options.explain
         0 path.now (option_copied maps.now.base) maps.now.interval
-        (IsResult (generated_result asked.entry.options asked.entry.source.now asked.entry.line asked.entry.column asked.entry.after)))
+        (IsResult (generated_result asked.entry.options asked.entry.source.now asked.entry.line
+        asked.entry.column asked.entry.after)))
         (report_of result) }
 {
     let map = read_map_explained(alloc, maps, 0, path, asked.options.explain)?;
@@ -53,8 +54,8 @@ pub fn answer_generated<F: FileReader>(
 
 // What a map says of an original place.
 fn generated_of(alloc: Global, map: &MapFile, asked: &GeneratedAsked<'_>) -> Result<Reply, Failure>
-    ensures { OrMemory (IsResult (generated_result asked.now.options asked.now.source.now asked.now.line
-        asked.now.column asked.now.after) map.now.stated) (report_of result) }
+    ensures { OrMemory (IsResult (generated_result asked.now.options asked.now.source.now
+        asked.now.line asked.now.column asked.now.after) map.now.stated) (report_of result) }
 {
     let sources = asked_sources(alloc, map, asked.source)?;
     reported(alloc, map, sources, asked)
@@ -68,7 +69,8 @@ fn reported(
     asked: &GeneratedAsked<'_>,
 ) -> Result<Reply, Failure>
     ensures { OrMemory (λ report. report ≡ sources_result asked.now.options asked.now.source.now
-        asked.now.line asked.now.column asked.now.after map.now.stated sources.items) (report_of result) }
+        asked.now.line asked.now.column asked.now.after map.now.stated sources.items)
+        (report_of result) }
 {
     if sources.is_empty() {
         let text = no_source_text(alloc, map, asked.source, asked.options.explain)?;
@@ -99,7 +101,8 @@ fn no_source_text(
 // The names of the sources that end alike, a line each. A map has far fewer sources than a number of 32 bits counts, so that
 // the first refusal never comes.
 fn alike_lines(alloc: Global, map: &MapFile, text: &str) -> Result<String, AllocError>
-    ensures { IfOk result (λ lines. string_bytes lines ≡ alike_lines map.now.stated.sources text.now) }
+    ensures { IfOk result (λ lines. string_bytes lines
+        ≡ alike_lines map.now.stated.sources text.now) }
 {
     let Ok(count) = u32::try_from(map.sources()) else {
         return Err(AllocError);
@@ -151,7 +154,8 @@ fn no_source_line(alloc: Global, text: &str) -> Result<String, AllocError>
 // The indices of the sources that are asked by a text. A map has far fewer sources than a number of 32 bits counts, so that
 // the first refusal never comes.
 fn asked_sources(alloc: Global, map: &MapFile, text: &str) -> Result<Vec<u32>, AllocError>
-    ensures { IfOk result (λ sources. sources.items ≡ asked_sources map.now.stated.sources text.now) }
+    ensures { IfOk result (λ sources. sources.items
+        ≡ asked_sources map.now.stated.sources text.now) }
 {
     let Ok(count) = u32::try_from(map.sources()) else {
         return Err(AllocError);

@@ -61,8 +61,8 @@ fn asked(
     (answer, meter)
 }
 
-// A look-up that is counted by hand: the text, the interval, how many checkpoints there are, the line and the column, from 0,
-// what answers, how many segments are decoded, and how many checkpoints are compared at most.
+// A look-up that is counted by hand: the text, the interval, how many checkpoints there are, the line and the column, from
+// 0, what answers, how many segments are decoded, and how many checkpoints are compared at most.
 type Counted = (&'static str, u32, u64, u32, u32, &'static str, u64, u64);
 
 const COUNTED: &[Counted] = &[

@@ -1,4 +1,5 @@
-//! The tests of the calls behind the commands and of devices, of what no row of smap_rows can say. There is nothing here to call.
+//! The tests of the calls behind the commands and of devices, of what no row of smap_rows can say. There is nothing here to
+//! call.
 #![tactic(auto)]
 
 #[cfg(test)]

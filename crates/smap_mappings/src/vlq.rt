@@ -31,7 +31,8 @@ pub enum VlqFault {
 pub fn read_vlq(bytes: &[u8], place: usize) -> Result<(i32, usize), VlqFault>
     requires { place ≤ length bytes.now }
     ensures spelled { (n : ℤ) (end : ℕ) →
-        (result ≡ Ok (n, end)) ↔ ((end ≤ length bytes.now) × Spells (slice_range bytes.now place end) n) }
+        (result ≡ Ok (n, end))
+        ↔ ((end ≤ length bytes.now) × Spells (slice_range bytes.now place end) n) }
     ensures exact { result ≡ number_at bytes.now place }
 {
     scan_number(bytes, place)

@@ -1,5 +1,6 @@
-//! What the sources of a map are called by where something else stands: those of an inner map by the name of the outer source
-//! that it is of, and those of any map by the path that is its URL. A relative path goes on from the folder of a path.
+//! What the sources of a map are called by where something else stands: those of an inner map by the name of the outer
+//! source that it is of, and those of any map by the path that is its URL. A relative path goes on from the folder of a
+//! path.
 //!
 //! ```text
 //! let name = name_by_path(alloc, b"/srv/app/dist/util/x.js", "../../src/x.ts")?; // /srv/app/src/x.ts

@@ -128,7 +128,8 @@ pub fn go_on<'a>(
     further: &[&'a str],
 ) -> Result<(), AllocError>
     ensures { OnOk result (map (λ piece. piece.now) pieces.new.items
-        ≡ fold (one_further rooted) (map (λ piece. piece.now) pieces.old.items) (map (λ piece. piece.now) further.now)) }
+        ≡ fold (one_further rooted) (map (λ piece. piece.now) pieces.old.items)
+        (map (λ piece. piece.now) further.now)) }
 {
     for piece in further {
         one_further(rooted, pieces, piece)?;

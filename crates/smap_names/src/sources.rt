@@ -8,8 +8,8 @@ use crate::by_path::name_by_path;
 use smap_record::{MapFile, SourceEntry, SourceName};
 use std::alloc::{AllocError, Global};
 
-/// Names the sources of a map that stands at a URL by that, as [`name_by_path`] says: each whose name is kept as it stands in
-/// the map. All else stays as it was, and where memory runs out nothing is changed.
+/// Names the sources of a map that stands at a URL by that, as [`name_by_path`] says: each whose name is kept as it stands
+/// in the map. All else stays as it was, and where memory runs out nothing is changed.
 pub fn name_sources_by_path(
     alloc: Global,
     map_file: &mut MapFile,

@@ -52,7 +52,8 @@ impl Originals {
         requires room { meter.old.comparisons < 2 ^ 62 }
         ensures places { (list : List Mapping) → AreOriginalsOf list self.now →
             result.now ≡ map place_of
-            (generated_next asked.now.direction list asked.now.source asked.now.line asked.now.column) }
+            (generated_next asked.now.direction list asked.now.source asked.now.line
+            asked.now.column) }
         ensures compared { (b : ℕ) → length (of_source self.now asked.now.source) < 2 ^ b →
             meter.new.comparisons ≤ meter.old.comparisons + b + length result.now }
         ensures none_decoded { meter.new.segments ≡ meter.old.segments }

@@ -95,7 +95,8 @@ fn end_of_run(places: &Places, at: usize, order: u64, meter: &mut Meter) -> usiz
     requires room { meter.old.comparisons < 2 ^ 63 }
     ensures end { (at < result) × (result ≤ length places.now) }
     ensures run { AllWithin (λ place. original_order place ≡ order) places.now at result }
-    ensures behind { AllWithin (λ place. order < original_order place) places.now result (length places.now) }
+    ensures behind { AllWithin (λ place. order < original_order place) places.now result
+        (length places.now) }
     ensures few { meter.new.comparisons + at ≤ meter.old.comparisons + result }
     ensures none_decoded { meter.new.segments ≡ meter.old.segments }
 {

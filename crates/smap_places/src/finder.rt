@@ -26,9 +26,9 @@ use std::alloc::{AllocError, Global};
 use std::marker::Model;
 
 /// Finds the places of a text whose URLs have a map in a table or a file that is named for them, also where a query or a
-/// fragment follows, or stand behind the prefix of a folder; and, where no such place begins before its numbers, those whose URLs a
-/// pattern has. Of two URLs that begin at one byte the longer is taken. The map of a URL that the table has comes with the
-/// place; which maps those of files, folders and patterns have is not its matter.
+/// fragment follows, or stand behind the prefix of a folder; and, where no such place begins before its numbers, those whose
+/// URLs a pattern has. Of two URLs that begin at one byte the longer is taken. The map of a URL that the table has comes
+/// with the place; which maps those of files, folders and patterns have is not its matter.
 #[derive(Drop)]
 pub struct PlaceFinder<'t> {
     table: &'t Table,
@@ -116,8 +116,8 @@ impl<'t> PlaceFinder<'t> {
         }
     }
 
-    // The first place of a text with a URL that is named or behind a prefix that begins at byte `from` or after it, and before
-    // byte `high`.
+    // The first place of a text with a URL that is named or behind a prefix that begins at byte `from` or after it, and
+    // before byte `high`.
     fn next_exact<'l>(&self, text: &'l [u8], from: usize, high: usize) -> Option<FoundPlace<'l, 't>>
         requires from { from ≤ length text.now }
         requires high { high ≤ length text.now }
@@ -140,8 +140,8 @@ impl<'t> PlaceFinder<'t> {
         None
     }
 
-    // Before which byte no named URL has a query or a fragment up to numbers that ends after byte `near`, and before which no
-    // URL runs behind a prefix that ends after it, where these numbers are the first that stand after it.
+    // Before which byte no named URL has a query or a fragment up to numbers that ends after byte `near`, and before which
+    // no URL runs behind a prefix that ends after it, where these numbers are the first that stand after it.
     fn bars(&self, line: &[u8], near: usize, numbers: usize) -> (usize, usize)
         requires near { near ≤ numbers }
         requires within { numbers ≤ length line.now }
@@ -312,7 +312,8 @@ impl<'t> PlaceFinder<'t> {
         requires some { 0 < bytes }
         requires within { bytes ≤ length text.now }
         ensures named { is_some result ≡ has_named (is_named self.now) text.now bytes }
-        ensures url { IfSome result (λ url. (url.bytes ≡ bytes) × (url.end ≡ run_end text.now bytes) ×
+        ensures url { IfSome result (λ url. (url.bytes ≡ bytes) ×
+            (url.end ≡ run_end text.now bytes) ×
             (url.end ≤ length text.now)) }
         ensures numbers { IfSome result (HasOwnNumbers text.now) }
         ensures map { IfSome result (HasOwnMap self.now.table text.now) }
@@ -374,8 +375,8 @@ impl<'t> PlaceFinder<'t> {
     }
 }
 
-// How many bytes stand before the numbers of a place at most where the URLs that are named, and prefixes, have so many. `None`
-// where they are too many to count.
+// How many bytes stand before the numbers of a place at most where the URLs that are named, and prefixes, have so many.
+// `None` where they are too many to count.
 fn longest_url(named: usize, prefix: usize) -> Option<usize>
     ensures { IfSome result (IsLongest named prefix) }
 {

@@ -26,7 +26,8 @@ pub fn text_is_rewritten_line_by_line()
 /// A text in which no URL of the table occurs stays.
 pub fn text_without_urls_stays()
     ensures { (table : List (List ℕ × MapRecord)) (text : List ℕ) →
-        ((url before after : List ℕ) → is_some (value_under url table) ≡ true → text ≢ before ++ url ++ after) →
+        ((url before after : List ℕ) → is_some (value_under url table) ≡ true →
+        text ≢ before ++ url ++ after) →
         placed_text text table ≡ text }
 {}
 

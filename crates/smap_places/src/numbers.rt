@@ -68,7 +68,8 @@ pub fn numbers_behind(
 ) -> Option<(u32, u32, usize)>
     requires bytes { bytes ≤ length text.now }
     requires known { IfSome known (λ numbers.
-        (numbers_after (drop bytes text.now) ≡ Some numbers) × (bytes + numbers.2 ≤ length text.now)) }
+        (numbers_after (drop bytes text.now) ≡ Some numbers) ×
+        (bytes + numbers.2 ≤ length text.now)) }
     ensures numbers { result ≡ numbers_after (drop bytes text.now) }
     ensures within { IfSome result (λ numbers. bytes + numbers.2 ≤ length text.now) }
 {

@@ -37,8 +37,8 @@ pub struct PlaceRewriter<'f, 't, 'm, 'n, M: Maps> {
 impl<M: Maps> PlaceRewriter<'_, '_, '_, '_, M> {
     /// Writes what becomes of a window from byte `from` on: of the places that begin before byte `high`, which the caller
     /// knows to be decided, and of the bytes before it that belong to none. The map of each place's URL that does not come
-    /// with it is looked for when the place is met. The result is the byte after all these: `high`, or the end of a place that
-    /// begins before it. Nothing waits then.
+    /// with it is looked for when the place is met. The result is the byte after all these: `high`, or the end of a place
+    /// that begins before it. Nothing waits then.
     pub fn write_places<W: ByteSink>(
         &mut self,
         window: &[u8],

@@ -67,8 +67,8 @@ pub fn rewrite_places<R: ByteSource, W: ByteSink>(
 
 /// The same over the places of a finder, the maps of its table, and others, which are looked for when a place names a URL
 /// that the table has not: each place is replaced by what its URL's map has for it then. Of a line's beginning all but fewer
-/// bytes than decide which place begins at one was written before more is read. The caller gives devices that have not failed.
-/// The output is not flushed.
+/// bytes than decide which place begins at one was written before more is read. The caller gives devices that have not
+/// failed. The output is not flushed.
 pub fn rewrite_places_over<R: ByteSource, W: ByteSink, M: Maps>(
     alloc: Global,
     input: &mut R,

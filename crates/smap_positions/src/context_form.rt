@@ -16,8 +16,8 @@ use smap_context::{rest_from, shown_bytes};
 use smap_record::SourceEntry;
 use smap_text::split_line;
 
-/// Puts the member with the lines of a source around this one, from 0, up to so many on each side, where they are asked for and the
-/// map has the line.
+/// Puts the member with the lines of a source around this one, from 0, up to so many on each side, where they are asked for
+/// and the map has the line.
 pub fn put_context<O: Output>(
     entry: Option<&SourceEntry>,
     line: u32,
@@ -80,7 +80,8 @@ fn put_cut<O: Output>(behind: bool, before: bool, line: bool, output: &mut O)
     }
 }
 
-// Puts the list of the first lines of what follows a line's end, where the line has one, and says whether one of them is cut.
+// Puts the list of the first lines of what follows a line's end, where the line has one, and says whether one of them is
+// cut.
 fn put_behind<O: Output>(behind: Option<&str>, most: u32, output: &mut O) -> bool
     ensures lines { O.Puts output.old output.new (compact_text (lines_value
         (take most (lines_behind (option_copied behind.entry))))) }

@@ -45,7 +45,8 @@ fn put_none<O: Output>(form: Form, output: &mut O)
 
 // Puts the lines for mappings.
 fn put_lines<O: Output>(map: &MapFile, mappings: &[Mapping], form: Form, output: &mut O)
-    ensures { O.Puts output.old output.new (flat_map (generated_line form map.now.stated) mappings.now) }
+    ensures { O.Puts output.old output.new
+        (flat_map (generated_line form map.now.stated) mappings.now) }
 {
     for mapping in mappings {
         put_line(map, mapping, form, output);

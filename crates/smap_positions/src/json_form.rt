@@ -30,8 +30,8 @@ pub fn put_bad_position<O: Output>(output: &mut O)
     output.put(b"{\"answer\":\"bad position\"}\n");
 }
 
-/// Puts the line for what a map answers for a position, with so many lines around what was found, where they are asked for, with
-/// this excerpt of it, and with the URL that was asked for, where one was.
+/// Puts the line for what a map answers for a position, with so many lines around what was found, where they are asked for,
+/// with this excerpt of it, and with the URL that was asked for, where one was.
 pub fn put_answer_object<O: Output>(
     map: &MapFile,
     asked: AskedPosition,
@@ -152,7 +152,8 @@ pub fn put_ignored<O: Output>(entry: Option<&SourceEntry>, output: &mut O)
     output.put(bool_text(is_ignored(entry)));
 }
 
-// Puts the members that say where a mapping comes from, behind others, the URL that was asked for, where one was, and the end of the object.
+// Puts the members that say where a mapping comes from, behind others, the URL that was asked for, where one was, and the
+// end of the object.
 fn put_origin_members<O: Output>(
     entry: Option<&SourceEntry>,
     name: Option<&str>,

@@ -56,7 +56,8 @@ pub fn take(members: &mut Map<String, Value>, key: &str) -> Option<Value>
     ensures value { option_map view result
         ≡ field key.now (object (members_view members.old.entries)) }
     ensures others { (other : List ℕ) → bytes_eq other key.now ≡ false
-        → get_member other (members_view members.new.entries) ≡ get_member other (members_view members.old.entries) }
+        → get_member other (members_view members.new.entries)
+        ≡ get_member other (members_view members.old.entries) }
 {
     match members.remove(key) {
         Some(value) => not_null(value),
@@ -70,7 +71,8 @@ fn take_ignored(members: &mut Map<String, Value>) -> Option<Value>
         ≡ ignored_field (object (members_view members.old.entries)) }
     ensures others { (other : List ℕ) → bytes_eq other (codes "ignoreList") ≡ false →
         bytes_eq other (codes "x_google_ignoreList") ≡ false
-        → get_member other (members_view members.new.entries) ≡ get_member other (members_view members.old.entries) }
+        → get_member other (members_view members.new.entries)
+        ≡ get_member other (members_view members.old.entries) }
 {
     let newer = take(members, "ignoreList");
     let older = take(members, "x_google_ignoreList");

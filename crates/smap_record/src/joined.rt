@@ -34,10 +34,12 @@ pub fn read_sections(
         (sections_after no_sections (entries_seen entries.items)) }
     ensures count { IfOk result (λ joined. length joined.parts.items ≡ length entries.items) }
     ensures few_sources { IfOk result
-        (λ joined. sum_by (λ sources. length sources.texts.items) joined.sources.items ≤ most_listed) }
+        (λ joined.
+        sum_by (λ sources. length sources.texts.items) joined.sources.items ≤ most_listed) }
     ensures few_names { IfOk result (λ joined. length joined.names.items ≤ most_listed) }
     ensures within { IfOk result (λ joined. All
-        (IsPartWithin (sum_by (λ sources. length sources.texts.items) joined.sources.items) (length joined.names.items))
+        (IsPartWithin (sum_by (λ sources. length sources.texts.items) joined.sources.items)
+        (length joined.names.items))
         joined.parts.items) }
 {
     let mut joined = no_sections(alloc, entries.len())?;

@@ -105,9 +105,11 @@ impl MapFile {
         interval: u32,
     ) -> Result<MapFile, MapRefusal>
         ensures stated { IfOk result
-            (IsMapOf (record_in (members_view members.entries) (option_copied base.entry) interval) interval) }
+            (IsMapOf (record_in (members_view members.entries) (option_copied base.entry) interval)
+            interval) }
         ensures refused { IfErr result
-            (IsRefusalOf (record_in (members_view members.entries) (option_copied base.entry) interval)) }
+            (IsRefusalOf (record_in (members_view members.entries) (option_copied base.entry)
+            interval)) }
     {
         let outer = read_outer(alloc, members)?;
         let joined = read_sections(alloc, outer.entries)?;
@@ -143,7 +145,8 @@ impl MapFile {
 
     /// Gives source `i`, from 0, another name, where there is one. All else stays as it was. The call takes no memory.
     pub fn rename_source(&mut self, i: u32, name: SourceName)
-        ensures renamed { self.new.stated.sources ≡ with_name_at self.old.stated.sources i (name_of name) }
+        ensures renamed { self.new.stated.sources
+            ≡ with_name_at self.old.stated.sources i (name_of name) }
         ensures parts { self.new.stated.parts ≡ self.old.stated.parts }
         ensures others { (self.new.stated.names ≡ self.old.stated.names)
             × (self.new.stated.file ≡ self.old.stated.file) × (self.new.k ≡ self.old.k) }

@@ -69,7 +69,8 @@ pub fn write_record(
     mappings: &str,
 ) -> Result<Vec<u8>, AllocError>
     ensures text { IfOk result (λ bytes. bytes.items
-        ≡ written (map source_of sources.now) (map string_bytes names.now) (option_copied file.entry) mappings.now) }
+        ≡ written (map source_of sources.now) (map string_bytes names.now)
+        (option_copied file.entry) mappings.now) }
     ensures reads_back { IfOk result (λ bytes. length bytes.items ≤ most_file_bytes
         → IsRegularMap (length sources.now) (length names.now) mappings.now
         → ReadsBackAs bytes.items (mappings_of mappings.now)
@@ -120,7 +121,8 @@ pub fn write_owned(
     ensures reads_back { IfOk result (λ bytes. length bytes.items ≤ most_file_bytes
         → IsRegularMap (length sources.items) (length names.items) (string_bytes mappings)
         → ReadsBackAs bytes.items (mappings_of (string_bytes mappings))
-        (map source_of sources.items) (map string_bytes names.items) (option_map string_bytes file)) }
+        (map source_of sources.items) (map string_bytes names.items)
+        (option_map string_bytes file)) }
 {
     let members = members(alloc, sources, names, file, mappings)?;
     let text = Value::Object(members).to_string(alloc)?;

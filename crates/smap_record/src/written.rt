@@ -44,7 +44,8 @@ fn put_sources(
 ) -> Result<(), AllocError>
     ensures { OnOk result (members_view members.new.entries
         ≡ put_where (codes "sources")
-        (Some (list_value (λ source. value_of_text (text_of_source source)) (map source_of sources.items)))
+        (Some (list_value (λ source. value_of_text (text_of_source source))
+        (map source_of sources.items)))
         (put_where (codes "sourcesContent") (contents_value (map source_of sources.items))
         (members_view members.old.entries))) }
 {

@@ -74,7 +74,8 @@ pub fn map_of(
     ensures read { IfOk result
         (IsMapOf (record_of bytes.items (option_copied base.entry) interval) interval) }
     ensures refused { IfErr result (λ failure. OrMemory (ReportsFound (refusal_result path.now)
-        (record_of bytes.items (option_copied base.entry) interval) Never) (failure_report failure)) }
+        (record_of bytes.items (option_copied base.entry) interval) Never)
+        (failure_report failure)) }
 {
     match MapFile::read_owned(alloc, bytes, base, interval) {
         Ok(map) => Ok(map),
@@ -82,7 +83,8 @@ pub fn map_of(
     }
 }
 
-/// The map that bytes are, which are let go before its index is built. Without a base, it stands at the URL that frames name.
+/// The map that bytes are, which are let go before its index is built. Without a base, it stands at the URL that frames
+/// name.
 pub fn map_at_url<F: FileReader>(
     alloc: Global,
     maps: &MapReader<'_, F>,

@@ -1,5 +1,5 @@
-//! A library of tests, and not of the product: the calls that a row of `smap_rows` can name, but for those that need the arguments
-//! and the answers of the program.
+//! A library of tests, and not of the product: the calls that a row of `smap_rows` can name, but for those that need the
+//! arguments and the answers of the program.
 //!
 //! ```text
 //! let row = Row::new(&rt, "write_vlq\tA\t16", 64)?;

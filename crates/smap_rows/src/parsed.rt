@@ -18,8 +18,8 @@ pub fn answer(row: &Row<'_>, answer: &mut Answer) -> Result<(), RowFault> {
     }
 }
 
-/// A number of lines, and the words of a command line that is none: so many lines of what is said of it, and whether that ends
-/// in one LF.
+/// A number of lines, and the words of a command line that is none: so many lines of what is said of it, and whether that
+/// ends in one LF.
 pub fn mistake(row: &Row<'_>, answer: &mut Answer) -> Result<(), RowFault> {
     let count = row.number(1)? as usize;
     match parse(row.alloc(), row.words(2)?) {

@@ -1,5 +1,5 @@
-//! The tests of runs that no row of smap_rows can say, and the rows that the program was specified by. There is nothing here to
-//! call.
+//! The tests of runs that no row of smap_rows can say, and the rows that the program was specified by. There is nothing here
+//! to call.
 #![tactic(auto)]
 
 #[cfg(test)]

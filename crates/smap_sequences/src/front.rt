@@ -58,7 +58,8 @@ pub fn front_of(bytes: &[u8], most: u64) -> Front
     }
 }
 
-// How a sequence goes on in these bytes, of which at most `most` are its own; whether an intermediate byte stands before them.
+// How a sequence goes on in these bytes, of which at most `most` are its own; whether an intermediate byte stands before
+// them.
 fn ending_of(bytes: &[u8], most: usize, is_behind_intermediate: bool) -> Ending
     ensures { IsEnding bytes.now most is_behind_intermediate result }
 {

@@ -6,11 +6,13 @@ ghost use Rattle.smap_sequences.specs.Turns.{AreTurns, Turn, pieces_text, turns_
 /// Each text is pieces without sequences and sequences, by turns.
 pub fn texts_are_pieces_and_sequences()
     ensures { (text : List ℕ) →
-        (turns : List Turn) × (last : List ℕ) × AreTurns turns last × (text ≡ turns_text turns last) }
+        (turns : List Turn) × (last : List ℕ) × AreTurns turns last ×
+        (text ≡ turns_text turns last) }
 {}
 
 /// Of such a text the pieces stay, and no more.
 pub fn pieces_stay()
-    ensures { (turns : List Turn) (last : List ℕ) → AreTurns turns last → length turns ≤ most_sequences →
+    ensures { (turns : List Turn) (last : List ℕ) → AreTurns turns last →
+        length turns ≤ most_sequences →
         without_sequences (turns_text turns last) ≡ pieces_text turns last }
 {}

@@ -1,5 +1,5 @@
-//! A source of bytes without the control sequences by which a terminal is told of colours and the like: ESC and `[`, and behind
-//! them any parameter bytes, any intermediate bytes and one final byte (ECMA-48).
+//! A source of bytes without the control sequences by which a terminal is told of colours and the like: ESC and `[`, and
+//! behind them any parameter bytes, any intermediate bytes and one final byte (ECMA-48).
 //!
 //! [`WithoutSequences`] stands over another source, and is one: what reads it never sees a sequence.
 //!

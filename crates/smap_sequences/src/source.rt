@@ -10,8 +10,8 @@ use crate::held::Held;
 use crate::telling::tell;
 use smap_io::{ByteSource, DeviceFault};
 
-/// The bytes of another source without its control sequences. A sequence that the end cuts off stays, as does one of more than
-/// 128 bytes, and what only begins as one. What may become a sequence waits for more, and is at most 127 bytes; after a
+/// The bytes of another source without its control sequences. A sequence that the end cuts off stays, as does one of more
+/// than 128 bytes, and what only begins as one. What may become a sequence waits for more, and is at most 127 bytes; after a
 /// failure nothing else was held back. A source that has failed fails from then on.
 #[derive(Drop)]
 pub struct WithoutSequences<R: ByteSource> {

@@ -71,7 +71,8 @@ impl<'a> Owners<'a> {
         requires last { IsAtOrBefore self.old.last (position_at line column) }
         requires done { IfNone self.old.next (self.old.rest ≡ []) }
         ensures value { result
-            ≡ owner_of (self.new.last ∷ with_next self.new.next self.new.rest) line column character }
+            ≡ owner_of (self.new.last ∷ with_next self.new.next self.new.rest) line column
+            character }
         ensures ordered { IsInOrder (self.new.last ∷ with_next self.new.next self.new.rest) }
         ensures last { IsAtOrBefore self.new.last (position_at line column) }
         ensures done { IfNone self.new.next (self.new.rest ≡ []) }

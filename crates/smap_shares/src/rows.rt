@@ -82,7 +82,8 @@ fn counted_rows(
     bytes: Option<&[u64]>,
 ) -> Result<Vec<SourceRow>, AllocError>
     ensures { IfOk result (λ rows. rows.items ≡ map
-        (counted_row segments.now (option_copied bytes.entry)) (range_with_len 0 (length segments.now))) }
+        (counted_row segments.now (option_copied bytes.entry))
+        (range_with_len 0 (length segments.now))) }
 {
     let Ok(count) = u32::try_from(segments.len()) else {
         return Err(AllocError);

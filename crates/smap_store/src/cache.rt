@@ -84,7 +84,8 @@ impl MapCache {
         self.read
     }
 
-    /// How often a URL of which a file is asked for had none, or no map could be read from its file, up to 18,446,744,073,709,551,615.
+    /// How often a URL of which a file is asked for had none, or no map could be read from its file, up to
+    /// 18,446,744,073,709,551,615.
     pub fn missing(&self) -> u64
         ensures { result ≡ self.now.missing }
     {

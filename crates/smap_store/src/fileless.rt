@@ -4,8 +4,8 @@ ghost use Rattle.smap_store.specs.Fileless.{asks_no_file, is_evaluated, is_of_no
 
 use smap_locations::Locations;
 
-/// Whether no file is asked for the map of a URL: it is that of a module of node's own, or the name that Firefox gives to a text
-/// that was evaluated, and no file is named for exactly it.
+/// Whether no file is asked for the map of a URL: it is that of a module of node's own, or the name that Firefox gives to a
+/// text that was evaluated, and no file is named for exactly it.
 pub fn asks_no_file(locations: &Locations, url: &[u8]) -> bool
     ensures { result ≡ asks_no_file locations.now url.now }
 {

@@ -28,10 +28,10 @@ pub struct TextRequest<'a, 'r, F: FileReader> {
     pub options: &'a FurtherOptions,
 }
 
-/// Rewrites the text on standard input, and gives the exit status. Where there are files for URLs alone, and no options, their
-/// maps are read before the text, and any that is refused ends it; else maps are read when the text names them. The code of
-/// the first refusal is put into `first`, where that has none. The caller gives numbers of bytes that are in their ranges, and
-/// devices that have not failed.
+/// Rewrites the text on standard input, and gives the exit status. Where there are files for URLs alone, and no options,
+/// their maps are read before the text, and any that is refused ends it; else maps are read when the text names them. The
+/// code of the first refusal is put into `first`, where that has none. The caller gives numbers of bytes that are in their
+/// ranges, and devices that have not failed.
 pub fn answer_rewrite<F: FileReader, R: ByteSource, W: ByteSink, E: ByteSink>(
     alloc: Global,
     request: &TextRequest<'_, '_, F>,

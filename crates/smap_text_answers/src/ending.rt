@@ -51,7 +51,8 @@ fn close<F: FileReader, E: ByteSink>(
     counts: &RewriteCounts,
     errors: &mut E,
 ) -> u8
-    ensures { ClosesWith end.now request.now.summary request.now.anywhere counts.now result (E.seen errors.old) (E.seen errors.new) }
+    ensures { ClosesWith end.now request.now.summary request.now.anywhere counts.now result
+        (E.seen errors.old) (E.seen errors.new) }
 {
     let short = report_shortage(end.shortages, errors);
     if !request.summary {

@@ -1,5 +1,5 @@
-//! Rewriting the text on standard input, line by line: over the maps of its arguments, or over files and folders of maps, which
-//! are read when the text names them.
+//! Rewriting the text on standard input, line by line: over the maps of its arguments, or over files and folders of maps,
+//! which are read when the text names them.
 //!
 //! ```text
 //! let options = FurtherOptions::new(alloc);

@@ -45,11 +45,13 @@ pub struct FileLoader<'m, 'r, 'e, F: FileReader, E: ByteSink> {
 impl<F: FileReader, E: ByteSink> FileLoader<'_, '_, '_, F, E> {
     // The map of a URL from the file at a path.
     pub(crate) fn read(&self, alloc: Global, url: &[u8], path: &str) -> Result<LoadedMap, Failure>
-        ensures read { IfOk result (λ loaded. IsLoaded (F.gives self.now.maps.now.files.now) self.now.paths
+        ensures read { IfOk result (λ loaded.
+            IsLoaded (F.gives self.now.maps.now.files.now) self.now.paths
             (option_copied self.now.maps.now.base) self.now.maps.now.interval self.now.number
             url.now path.now loaded.map.stated loaded.file_bytes) }
         ensures failed { IfErr result (λ failure. OrMemory (FailsToRead
-            (F.gives self.now.maps.now.files.now) self.now.paths (option_copied self.now.maps.now.base) self.now.maps.now.interval self.now.number
+            (F.gives self.now.maps.now.files.now) self.now.paths
+            (option_copied self.now.maps.now.base) self.now.maps.now.interval self.now.number
             url.now path.now) (failure_report failure)) }
     {
         match self.load_at(alloc, url, path) {
@@ -60,10 +62,12 @@ impl<F: FileReader, E: ByteSink> FileLoader<'_, '_, '_, F, E> {
 
     // The same, or why there is none, beside how that is reported.
     fn load_at(&self, alloc: Global, url: &[u8], path: &str) -> Result<LoadedMap, Unloaded>
-        ensures read { IfOk result (λ loaded. IsLoaded (F.gives self.now.maps.now.files.now) self.now.paths
+        ensures read { IfOk result (λ loaded.
+            IsLoaded (F.gives self.now.maps.now.files.now) self.now.paths
             (option_copied self.now.maps.now.base) self.now.maps.now.interval self.now.number
             url.now path.now loaded.map.stated loaded.file_bytes) }
-        ensures failed { IfErr result (λ unloaded. FailsBy (F.gives self.now.maps.now.files.now) self.now.paths
+        ensures failed { IfErr result (λ unloaded.
+            FailsBy (F.gives self.now.maps.now.files.now) self.now.paths
             (option_copied self.now.maps.now.base) self.now.maps.now.interval self.now.number
             unloaded.why url.now path.now (failure_report unloaded.failure)) }
         ensures memory { IfErr result (λ unloaded.
@@ -88,7 +92,8 @@ impl<F: FileReader, E: ByteSink> FileLoader<'_, '_, '_, F, E> {
             (option_copied self.now.maps.now.base) self.now.maps.now.interval url.now bytes.items)
             self.now.maps.now.interval) }
         ensures refused { IfErr result (MayRefuse (record_loaded self.now.paths
-            (option_copied self.now.maps.now.base) self.now.maps.now.interval url.now bytes.items)) }
+            (option_copied self.now.maps.now.base) self.now.maps.now.interval url.now
+            bytes.items)) }
     {
         if goes_by_path(self.maps, self.paths, url) {
             return read_by_path(alloc, url, bytes, self.maps.interval);

@@ -16,7 +16,8 @@ pub fn nearest_of<'a>(url: &[u8], arguments: &'a [(String, String)]) -> Option<&
 
 // Of an argument and the nearest so far the nearer.
 fn nearer<'a>(url: &[u8], nearest: Option<&'a str>, argument: &'a str) -> Option<&'a str>
-    ensures { option_copied result ≡ nearer url.now (option_copied nearest.entry) (argument.now, argument.now) }
+    ensures { option_copied result
+        ≡ nearer url.now (option_copied nearest.entry) (argument.now, argument.now) }
 {
     if ending_with(url, nearest) < common_ending(url, argument.as_bytes()) {
         Some(argument)

@@ -67,7 +67,8 @@ pub fn rewrite_from<F: FileReader, R: ByteSource, W: ByteSink, E: ByteSink>(
     requires output_works { (W.seen output.old).failed ≡ false }
     requires limit { request.now.limit_bytes < 2 ^ 63 }
     ensures { RewritesFrom (F.gives request.now.maps.now.files.now)
-        (option_copied request.now.maps.now.base) request.now.maps.now.interval (request_seen request.now) result
+        (option_copied request.now.maps.now.base) request.now.maps.now.interval
+        (request_seen request.now) result
         (streams_seen (R.seen input.old) (W.seen output.old) (E.seen errors.old) first.old)
         (streams_seen (R.seen input.new) (W.seen output.new) (E.seen errors.new) first.new) }
 {
@@ -150,11 +151,13 @@ fn over_store<F: FileReader, R: ByteSource, W: ByteSink, E: ByteSink>(
     requires output_works { (W.seen output.old).failed ≡ false }
     requires limit { request.now.limit_bytes < 2 ^ 63 }
     ensures over { IsOverStore (F.gives request.now.maps.now.files.now)
-        (option_copied request.now.maps.now.base) request.now.maps.now.interval (request_seen request.now) sources.now result
+        (option_copied request.now.maps.now.base) request.now.maps.now.interval
+        (request_seen request.now) sources.now result
         (streams_seen (R.seen input.old) (W.seen output.old) (E.seen errors.old) first.old)
         (streams_seen (R.seen input.new) (W.seen output.new) (E.seen errors.new) first.new) }
     ensures noted { IsNotedOver (F.gives request.now.maps.now.files.now)
-        (option_copied request.now.maps.now.base) request.now.maps.now.interval (request_seen request.now) sources.now result
+        (option_copied request.now.maps.now.base) request.now.maps.now.interval
+        (request_seen request.now) sources.now result
         (notes_seen notes.new) (notes_seen others.new)
         (streams_seen (R.seen input.old) (W.seen output.old) (E.seen errors.old) first.old)
         (streams_seen (R.seen input.new) (W.seen output.new) (E.seen errors.new) first.new) }
@@ -239,7 +242,8 @@ fn rewrite_text<L: MapLoader, R: ByteSource, W: ByteSink>(
         (store_of asked.now.sources.now cache.new loader.new)) }
     ensures noted { asked.now.explain ≡ true → IfOk result (λ counts.
         RewritesTextNoted asked.now.anywhere (FindsIn L.Loads) (places_of asked.now.sources.now)
-        (known_of asked.now.sources.now) (hiding_seen asked.now.options.hiding) asked.now.options.most
+        (known_of asked.now.sources.now) (hiding_seen asked.now.options.hiding)
+        asked.now.options.most
         (devices_seen (R.seen input.old) (W.seen output.old))
         (devices_seen (R.seen input.new) (W.seen output.new))
         (store_of asked.now.sources.now cache.old loader.old)
@@ -318,8 +322,10 @@ fn say_urls<F: FileReader, E: ByteSink>(
     errors: &mut E,
 ) -> u8
     ensures { SaysUrls (F.gives request.now.maps.now.files.now)
-        (option_copied request.now.maps.now.base) request.now.maps.now.interval (request_seen request.now) sources.now end.now
-        (notes_seen notes.now) (notes_seen others.now) result (E.seen errors.old) (E.seen errors.new) }
+        (option_copied request.now.maps.now.base) request.now.maps.now.interval
+        (request_seen request.now) sources.now end.now
+        (notes_seen notes.now) (notes_seen others.now) result (E.seen errors.old)
+        (E.seen errors.new) }
 {
     if says_urls(request, end) {
         tell_urls(alloc, request, sources, notes, others, errors)

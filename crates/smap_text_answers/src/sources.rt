@@ -44,7 +44,8 @@ pub fn sources_of<F: FileReader>(
     list: Option<&str>,
 ) -> Result<MapSources, Failure>
     ensures { GathersSources (F.gives maps.now.files.now) paths anywhere
-        (option_copied maps.now.base) maps.now.interval (map argument_of arguments.now) (option_copied list.entry)
+        (option_copied maps.now.base) maps.now.interval (map argument_of arguments.now)
+        (option_copied list.entry)
         (or_reported result) }
 {
     let locations = rules_of(alloc, arguments)?;
@@ -58,7 +59,8 @@ pub fn sources_of<F: FileReader>(
 
 // The rules among the arguments.
 fn rules_of(alloc: Global, arguments: &[(String, String)]) -> Result<Locations, Failure>
-    ensures { NamesRules (map argument_of arguments.now) (record { files = []; folders = []; patterns = [] })
+    ensures { NamesRules (map argument_of arguments.now)
+        (record { files = []; folders = []; patterns = [] })
         (or_reported result) }
 {
     let mut locations = Locations::new(alloc);

@@ -52,7 +52,8 @@ fn rewritten(end: Result<Summary, RewriteFault>) -> Result<Reply, Failure>
 }
 
 /// The maps of the files at the paths of the arguments, each under its URL, and with its sources named by the path that this
-/// is, where that is asked and there is no base; or the first file that can't be read, and then the first refusal. Rules, which have a folder or a pattern, are passed over where that is asked, and count as arguments.
+/// is, where that is asked and there is no base; or the first file that can't be read, and then the first refusal. Rules,
+/// which have a folder or a pattern, are passed over where that is asked, and count as arguments.
 pub fn table_of<F: FileReader>(
     alloc: Global,
     maps: &MapReader<'_, F>,

@@ -41,7 +41,8 @@ pub fn tell_urls<F: FileReader, E: ByteSink>(
     ensures { TellsUrls (F.gives request.now.maps.now.files.now) request.now.paths
         (option_copied request.now.maps.now.base) request.now.maps.now.interval
         (length request.now.arguments.now + 1) (map argument_of request.now.arguments.now)
-        sources.now.locations request.now.anywhere (notes_seen notes.now) (notes_seen others.now) result
+        sources.now.locations request.now.anywhere (notes_seen notes.now) (notes_seen others.now)
+        result
         (E.seen errors.old) (E.seen errors.new) }
 {
     match lines_of(alloc, request, sources, notes, others, errors) {
@@ -66,11 +67,14 @@ fn lines_of<F: FileReader, E: ByteSink>(
     errors: &mut E,
 ) -> Result<Vec<u8>, AllocError>
     ensures same { errors.new ≡ errors.old }
-    ensures enough { IfOk result (λ _. (notes.now.is_short ≡ false) × (others.now.is_short ≡ false)) }
-    ensures lines { IfOk result (λ text. AreAllLines (F.gives request.now.maps.now.files.now) request.now.paths
+    ensures enough { IfOk result (λ _. (notes.now.is_short ≡ false) ×
+        (others.now.is_short ≡ false)) }
+    ensures lines { IfOk result (λ text.
+        AreAllLines (F.gives request.now.maps.now.files.now) request.now.paths
         (option_copied request.now.maps.now.base) request.now.maps.now.interval
         (length request.now.arguments.now + 1) (map argument_of request.now.arguments.now)
-        sources.now.locations request.now.anywhere (map note_seen notes.now.notes.items ++ map note_seen others.now.notes.items)
+        sources.now.locations request.now.anywhere
+        (map note_seen notes.now.notes.items ++ map note_seen others.now.notes.items)
         text.items) }
 {
     if notes.is_short || others.is_short {
@@ -108,7 +112,8 @@ fn all_lines<F: FileReader, E: ByteSink>(
     notes: &[UrlNote],
     others: &[UrlNote],
 ) -> Result<Vec<u8>, AllocError>
-    ensures { IfOk result (λ text. AreAllLines (F.gives loader.now.maps.now.files.now) loader.now.paths
+    ensures { IfOk result (λ text.
+        AreAllLines (F.gives loader.now.maps.now.files.now) loader.now.paths
         (option_copied loader.now.maps.now.base) loader.now.maps.now.interval loader.now.number
         (map argument_of arguments.now) locations.now anywhere
         (map note_seen notes.now ++ map note_seen others.now) text.items) }
@@ -130,7 +135,8 @@ fn lines_of_both<F: FileReader, E: ByteSink>(
     notes: &[UrlNote],
     others: &[UrlNote],
 ) -> Result<Vec<u8>, AllocError>
-    ensures { IfOk result (λ text. AreUrlLines (F.gives loader.now.maps.now.files.now) loader.now.paths
+    ensures { IfOk result (λ text.
+        AreUrlLines (F.gives loader.now.maps.now.files.now) loader.now.paths
         (option_copied loader.now.maps.now.base) loader.now.maps.now.interval loader.now.number
         (map argument_of arguments.now) locations.now anywhere
         (map note_seen notes.now ++ map note_seen others.now) text.items) }
@@ -157,9 +163,11 @@ fn lines_by<F: FileReader, E: ByteSink>(
     anywhere: bool,
     notes: &[UrlNote],
 ) -> Result<Vec<u8>, AllocError>
-    ensures { IfOk result (λ text. AreUrlLines (F.gives loader.now.maps.now.files.now) loader.now.paths
+    ensures { IfOk result (λ text.
+        AreUrlLines (F.gives loader.now.maps.now.files.now) loader.now.paths
         (option_copied loader.now.maps.now.base) loader.now.maps.now.interval loader.now.number
-        (map argument_of arguments.now) locations.now anywhere (map note_seen notes.now) text.items) }
+        (map argument_of arguments.now) locations.now anywhere (map note_seen notes.now)
+        text.items) }
 {
     let mut text = Vec::new(alloc);
     for note in notes {
@@ -178,7 +186,8 @@ fn line_of<F: FileReader, E: ByteSink>(
     anywhere: bool,
     note: &UrlNote,
 ) -> Result<Vec<u8>, AllocError>
-    ensures { IfOk result (λ line. IsUrlLine (F.gives loader.now.maps.now.files.now) loader.now.paths
+    ensures { IfOk result (λ line.
+        IsUrlLine (F.gives loader.now.maps.now.files.now) loader.now.paths
         (option_copied loader.now.maps.now.base) loader.now.maps.now.interval loader.now.number
         (map argument_of arguments.now) locations.now anywhere (note_seen note.now) line.items) }
 {

@@ -84,7 +84,8 @@ fn has_byte(byte: u8, text: &[u8]) -> bool
 fn frame_before(line: &[u8], end: usize) -> Option<Frame<'_>>
     requires { end ≤ length line.now }
     ensures { option_map parts_seen result
-        ≡ frame_after (prefix_len is_blank (take end line.now)) (take end line.now) (drop end line.now) }
+        ≡ frame_after (prefix_len is_blank (take end line.now)) (take end line.now)
+        (drop end line.now) }
 {
     let body = &line[..end];
     let blanks = blanks(body);
@@ -103,7 +104,8 @@ fn frame_before(line: &[u8], end: usize) -> Option<Frame<'_>>
 fn call_frame(line: &[u8], start: usize, end: usize) -> Option<Frame<'_>>
     requires { (start ≤ end) × (end ≤ length line.now) }
     ensures { option_map parts_seen result
-        ≡ call_frame (take start line.now) (cut_at_call (slice_range line.now start end)) (drop end line.now) }
+        ≡ call_frame (take start line.now) (cut_at_call (slice_range line.now start end))
+        (drop end line.now) }
 {
     let (function, _) = cut_at_call(&line[start..end])?;
     if function.is_empty() {
@@ -164,7 +166,8 @@ fn unless_async(frame: Option<Frame<'_>>) -> Option<Frame<'_>>
 fn frame_at(line: &[u8], start: usize, end: usize) -> Option<Frame<'_>>
     requires { (start ≤ end) × (end ≤ length line.now) }
     ensures { option_map parts_seen result
-        ≡ parts_with (take start line.now) (location_of (slice_range line.now start end)) (drop end line.now) }
+        ≡ parts_with (take start line.now) (location_of (slice_range line.now start end))
+        (drop end line.now) }
 {
     let (url, printed_line, column) = location_of(&line[start..end])?;
     Some(Frame {

@@ -16,8 +16,8 @@ pub trait Maps {
     // What is found under a URL then.
     ghost found: { Self → (url : List ℕ) → Option MapRecord };
 
-    /// Looks for the map of a URL, which may be read for it; and says whether other maps may be found after that, of whatever
-    /// URL.
+    /// Looks for the map of a URL, which may be read for it; and says whether other maps may be found after that, of
+    /// whatever URL.
     fn find(&mut self, url: &[u8]) -> bool
         ensures finds { Finds self.old url.now self.new }
         ensures same { result ≡ false → self.new ≡ self.old };
@@ -27,7 +27,8 @@ pub trait Maps {
         ensures { option_map (λ map. map.now.stated) result ≡ found self.now url.now };
 
     // Each URL may have a map, or none.
-    ghost some: { (maps : Self) (url : List ℕ) → (stated : Option MapRecord) × Gives maps url stated };
+    ghost some: { (maps : Self) (url : List ℕ) → (stated : Option MapRecord) ×
+        Gives maps url stated };
 
     // What is found is what it may have.
     ghost given: { (maps after : Self) (url : List ℕ) → Finds maps url after →

@@ -79,7 +79,8 @@ impl<M: Maps, P: PlaceCounter> LineEditor for NotingRewriter<'_, '_, '_, '_, M, 
 fn note_line<M: Maps>(rewriter: &FrameRewriter<'_, '_, '_, M>, line: &[u8], notes: &mut UrlNotes)
     requires one { has_line_end line.now ≡ false }
     requires short { length line.now ≤ most_line_bytes }
-    ensures { IsLineNoted (hiding_seen rewriter.now.hiding) (M.found rewriter.now.maps.now) (frame_of line.now)
+    ensures { IsLineNoted (hiding_seen rewriter.now.hiding) (M.found rewriter.now.maps.now)
+        (frame_of line.now)
         (notes_seen notes.old) (notes_seen notes.new) }
 {
     if let Some(frame) = frame_of_line(line) {
@@ -90,7 +91,8 @@ fn note_line<M: Maps>(rewriter: &FrameRewriter<'_, '_, '_, M>, line: &[u8], note
 
 // What a frame is noted as, over maps of which that of its URL was looked for.
 fn naming_of<'a, M: Maps>(rewriter: &FrameRewriter<'_, '_, '_, M>, frame: &Frame<'a>) -> Naming<'a>
-    ensures { naming_seen result ≡ naming_in (hiding_seen rewriter.now.hiding) (parts_seen frame.now)
+    ensures { naming_seen result
+        ≡ naming_in (hiding_seen rewriter.now.hiding) (parts_seen frame.now)
         (M.found rewriter.now.maps.now frame.now.url.now) }
 {
     let found = rewriter.maps.map_for(frame.url).is_some();

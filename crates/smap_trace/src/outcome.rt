@@ -20,8 +20,8 @@ pub struct RewriteCounts {
     pub summary: Summary,
     /// How many of its lines have more than 65,536 bytes, the LF aside, and so are no frames.
     pub long: u64,
-    /// How many places were passed over, in lines of up to 65,536 bytes that are no frames, or whose frames have a URL without a
-    /// map and the places another; where they are counted, and as far as they are.
+    /// How many places were passed over, in lines of up to 65,536 bytes that are no frames, or whose frames have a URL
+    /// without a map and the places another; where they are counted, and as far as they are.
     pub passed: u64,
 }
 

@@ -31,7 +31,8 @@ pub fn passed_after<M: Maps, P: PlaceCounter>(
     requires one { has_line_end line.now ≡ false }
     requires short { length line.now ≤ most_line_bytes }
     ensures { result ≡ passed_after most passed
-        (passed_of (P.count places.now) (M.found rewriter.now.maps.now) (frame_of line.now) line.now) }
+        (passed_of (P.count places.now) (M.found rewriter.now.maps.now) (frame_of line.now)
+        line.now) }
 {
     if passed >= most {
         return passed;
@@ -48,7 +49,8 @@ fn passed_in<M: Maps, P: PlaceCounter>(
 ) -> u64
     requires one { has_line_end line.now ≡ false }
     requires short { length line.now ≤ most_line_bytes }
-    ensures { result ≡ passed_of (P.count places.now) (M.found rewriter.now.maps.now) (frame_of line.now) line.now }
+    ensures { result ≡ passed_of (P.count places.now) (M.found rewriter.now.maps.now)
+        (frame_of line.now) line.now }
 {
     let Some(frame) = frame_of_line(line) else {
         return places.count_in(None, line);

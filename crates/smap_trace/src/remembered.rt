@@ -21,8 +21,8 @@ const MOST_URLS: usize = 256;
 const MOST_URL_BYTES: usize = 252;
 
 // After how many places that come for the first time, while none comes again, nothing is remembered for a while; how many of
-// them one that comes again makes up for, as looking it up would cost so much more than remembering one did; and for how many
-// places nothing is remembered then.
+// them one that comes again makes up for, as looking it up would cost so much more than remembering one did; and for how
+// many places nothing is remembered then.
 const MOST_PATIENCE: u32 = 4096;
 
 const WORTH: u32 = 4;

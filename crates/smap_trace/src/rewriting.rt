@@ -120,8 +120,9 @@ pub fn rewrite_over<R: ByteSource, W: ByteSink, M: Maps>(
     Ok(counts_of(&lines, &rewriter, 0))
 }
 
-/// The same, where it is noted too what became of the first 100 different URLs that frames name, if that is asked for, and the
-/// places are counted that are passed over in lines of up to 65,536 bytes, as far as a number. The caller gives notes without any.
+/// The same, where it is noted too what became of the first 100 different URLs that frames name, if that is asked for, and
+/// the places are counted that are passed over in lines of up to 65,536 bytes, as far as a number. The caller gives notes
+/// without any.
 pub fn rewrite_noting<R: ByteSource, W: ByteSink, M: Maps, P: PlaceCounter>(
     alloc: Global,
     input: &mut R,

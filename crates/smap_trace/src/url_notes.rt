@@ -111,8 +111,10 @@ fn is_of(note: &UrlNote, url: &[u8]) -> bool
 
 // Counts a naming in the note at an index.
 fn count_at(notes: &mut Vec<UrlNote>, place: usize, naming: &Naming<'_>)
-    requires { position (λ note. is_of naming.now.url.now (note_seen note)) notes.old.items ≡ Some place }
-    ensures { map note_seen notes.new.items ≡ with_one (naming_seen naming.now) (map note_seen notes.old.items) }
+    requires { position (λ note. is_of naming.now.url.now (note_seen note)) notes.old.items
+        ≡ Some place }
+    ensures { map note_seen notes.new.items
+        ≡ with_one (naming_seen naming.now) (map note_seen notes.old.items) }
 {
     count(&mut notes[place], naming);
 }

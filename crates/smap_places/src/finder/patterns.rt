@@ -38,7 +38,8 @@ impl<'t> PlaceFinder<'t> {
         None
     }
 
-    // The first place that begins at byte `from` or after it, and before these numbers, which are the first that stand after it.
+    // The first place that begins at byte `from` or after it, and before these numbers, which are the first that stand after
+    // it.
     fn next_at<'l>(&self, text: &'l [u8], from: usize, numbers: usize) -> Option<FoundPlace<'l, 't>>
         requires from { from < numbers }
         requires numbers { numbers < length text.now }
@@ -54,8 +55,8 @@ impl<'t> PlaceFinder<'t> {
         }
     }
 
-    // The place with the URL of a pattern that ends at these numbers, where it begins at byte `from` or after it. No place with
-    // another URL begins there before the numbers.
+    // The place with the URL of a pattern that ends at these numbers, where it begins at byte `from` or after it. No place
+    // with another URL begins there before the numbers.
     fn place_of_pattern<'l>(
         &self,
         text: &'l [u8],

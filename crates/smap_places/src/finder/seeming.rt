@@ -89,7 +89,8 @@ impl<'t> PlaceFinder<'t> {
 fn seeming_before(window: &[u8], numbers: usize) -> Option<Naming<'_>>
     requires { numbers ≤ length window.now }
     ensures { option_map naming_seen result
-        ≡ option_map (λ place. naming_by place false false) (begun_at seeming_at window.now numbers) }
+        ≡ option_map (λ place. naming_by place false false)
+        (begun_at seeming_at window.now numbers) }
 {
     let (line, column, _) = numbers_after(&window[numbers..])?;
     let url = &window[url_start(window, numbers)..numbers];
