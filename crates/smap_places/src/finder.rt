@@ -128,16 +128,39 @@ impl<'t> PlaceFinder<'t> {
         let mut start = from;
         while start < high {
             let begin = self.next_beginning(text, start, high)?;
+            if let Some(place) = self.first_between(text, begin, begin + 1, begin) {
+                return Some(place);
+            }
             let numbers = find_candidate(text, begin + 1)?;
-            let near = first_start(self.longest, begin, numbers);
-            let (queried, barred) = self.bars(text, near, numbers);
-            let low = self.first_open(near, queried, barred);
-            if let Some(place) = self.first_between(text, low, numbers.min(high), barred) {
+            if let Some(place) = self.first_before(text, begin, numbers.min(high), numbers) {
                 return Some(place);
             }
             start = numbers;
         }
         None
+    }
+
+    // The first place of a text with a URL that is named or behind a prefix that begins at byte `start` or after it, and
+    // before byte `end`, which is not after these numbers, the first that stand after `start`.
+    fn first_before<'l>(
+        &self,
+        text: &'l [u8],
+        start: usize,
+        end: usize,
+        numbers: usize,
+    ) -> Option<FoundPlace<'l, 't>>
+        requires start { start ≤ numbers }
+        requires end { end ≤ numbers }
+        requires within { numbers ≤ length text.now }
+        requires none { (i : ℕ) → start < i → i < numbers → numbers_after (drop i text.now) ≡ None }
+        ensures { MatchOption result (NoneBetween (exact_at self.now) text.now start end)
+            (λ place. IsNext (exact_at self.now) text.now start place × (place.start < end) ×
+            HasMap self.now.table place) }
+    {
+        let near = first_start(self.longest, start, numbers);
+        let (queried, barred) = self.bars(text, near, numbers);
+        let low = self.first_open(near, queried, barred);
+        self.first_between(text, low, end, barred)
     }
 
     // Before which byte no named URL has a query or a fragment up to numbers that ends after byte `near`, and before which
