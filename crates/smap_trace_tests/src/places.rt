@@ -4,6 +4,7 @@ use smap_places::PlaceFinder;
 use smap_record::MapFile;
 use smap_trace::Table;
 use std::alloc::Global;
+use std::process::Abort;
 use std::test::Fail;
 
 const MAP: &str = r#"{"version":3,"sources":["a.ts"],"mappings":"AAAA,CAAC"}"#;
@@ -20,11 +21,8 @@ fn table_of_two(alloc: Global) -> Result<Table, Fail> {
     Ok(table)
 }
 
-#[test]
-fn the_next_place_is_found(rt: HostRuntime) -> Result<(), Fail> {
-    let table = table_of_two(rt.alloc())?;
-    let locations = Locations::new(rt.alloc());
-    let finder = PlaceFinder::new(rt.alloc(), &table, &locations)?;
+// A call by itself: where an assertion fails in it, nothing is to be dropped.
+fn finds_two(rt: &impl Abort, finder: &PlaceFinder<'_>) -> Result<(), Fail> {
     let line = b"at /u:3:14, /x /u:5:9";
     let first = finder.next(line, 0).ok_or("there is no first place")?;
     assert_eq!(rt;
@@ -45,4 +43,12 @@ fn the_next_place_is_found(rt: HostRuntime) -> Result<(), Fail> {
     // From inside the second place on, there is another.
     assert!(rt; finder.next(line, 13).is_some());
     Ok(())
+}
+
+#[test]
+fn the_next_place_is_found(rt: HostRuntime) -> Result<(), Fail> {
+    let table = table_of_two(rt.alloc())?;
+    let locations = Locations::new(rt.alloc());
+    let finder = PlaceFinder::new(rt.alloc(), &table, &locations)?;
+    finds_two(&rt, &finder)
 }
