@@ -94,7 +94,7 @@ const TAKING = [
   { call: 'maps write_record', answer: TWO_WRITTEN, memory: 'memory' },
   { call: 'maps compose', answer: `0,0,1,0,0 0,5,1,1,4 ${COMPOSED}`, memory: 'Memory' },
   { call: 'maps compose_all', answer: `0,0,1,0,0 0,5,1,1,4 ${COMPOSED}`, memory: 'Memory' },
-  { call: 'maps Composed::prune', answer: `0,0,0,0,0 0,5,0,1,4 ${PRUNED}`, memory: 'Memory' },
+  { call: 'maps compose_all, pruned', answer: `0,0,0,0,0 0,5,0,1,4 ${PRUNED}`, memory: 'Memory' },
   { call: 'maps Composed::write', answer: COMPOSED, memory: 'memory' },
   { call: 'traces add to an empty table', answer: REPLACED, memory: KEPT },
   { call: 'traces add to a table of 1', answer: REPLACED, memory: KEPT },
