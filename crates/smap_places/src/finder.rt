@@ -1,23 +1,21 @@
 //! The places in a text.
-ghost use Rattle.std.specs.Prelude.{◌≡◌, ◌<◌, ◌≤◌, ◌+◌, ℕ, IfOk, IfSome, IsSomeAnd, MatchOption, None, drop, is_some, length};
-ghost use Rattle.std.specs.Prelude.{max, option_map, true};
+ghost use Rattle.std.specs.Prelude.{◌≡◌, ◌<◌, ◌≤◌, IfOk, IfSome, MatchOption, drop, is_some, length, max, option_map};
 ghost use Rattle.smap_places.specs.Candidates.{candidate_at, has_named, has_prefix, named_bytes, own_bytes, place_of_bytes, prefix_bytes, run_end};
-ghost use Rattle.smap_places.specs.Places.{numbers_after};
-ghost use Rattle.smap_places.specs.PlaceAt.{exact_at, is_named, is_prefix, place_at};
+ghost use Rattle.smap_places.specs.PlaceAt.{is_named, is_prefix, place_at};
 ghost use Rattle.smap_places.specs.PlaceSeen.{HasMap, IsNext, NoNext, NoneBetween, place_seen};
-ghost use Rattle.smap_places.specs.Private.Finder.{HasOwnMap, HasOwnNumbers, IsBarred, IsLongest, IsOpen, IsUnqueried};
+ghost use Rattle.smap_places.specs.Private.Finder.{HasOwnMap, HasOwnNumbers, IsBarred, IsLongest};
 
 mod beginning;
+mod exact;
 mod patterns;
 pub(crate) mod reach;
 mod seeming;
 
-use crate::begins::may_begin;
 use crate::lengths::Lengths;
 use crate::line_ends::has_line_end;
-use crate::numbers::{find_candidate, numbers_behind};
+use crate::numbers::numbers_behind;
 use crate::place::{FoundPlace, FoundUrl};
-use crate::runs::{MOST_RUN, barred_end, has_query_between, query_of, run_length};
+use crate::runs::{MOST_RUN, query_of, run_length};
 use beginning::beginning_of;
 use memchr::memmem::Finder;
 use smap_locations::Locations;
@@ -114,110 +112,6 @@ impl<'t> PlaceFinder<'t> {
         } else {
             self.next_exact(text, from, high)
         }
-    }
-
-    // The first place of a text with a URL that is named or behind a prefix that begins at byte `from` or after it, and
-    // before byte `high`.
-    fn next_exact<'l>(&self, text: &'l [u8], from: usize, high: usize) -> Option<FoundPlace<'l, 't>>
-        requires from { from ≤ length text.now }
-        requires high { high ≤ length text.now }
-        ensures { MatchOption result (NoneBetween (exact_at self.now) text.now from high)
-            (λ place. IsNext (exact_at self.now) text.now from place × (place.start < high) ×
-            HasMap self.now.table place) }
-    {
-        let mut start = from;
-        while start < high {
-            let begin = self.next_beginning(text, start, high)?;
-            if let Some(place) = self.first_between(text, begin, begin + 1, begin) {
-                return Some(place);
-            }
-            let numbers = find_candidate(text, begin + 1)?;
-            if let Some(place) = self.first_before(text, begin, numbers.min(high), numbers) {
-                return Some(place);
-            }
-            start = numbers;
-        }
-        None
-    }
-
-    // The first place of a text with a URL that is named or behind a prefix that begins at byte `start` or after it, and
-    // before byte `end`, which is not after these numbers, the first that stand after `start`.
-    fn first_before<'l>(
-        &self,
-        text: &'l [u8],
-        start: usize,
-        end: usize,
-        numbers: usize,
-    ) -> Option<FoundPlace<'l, 't>>
-        requires start { start ≤ numbers }
-        requires end { end ≤ numbers }
-        requires within { numbers ≤ length text.now }
-        requires none { (i : ℕ) → start < i → i < numbers → numbers_after (drop i text.now) ≡ None }
-        ensures { MatchOption result (NoneBetween (exact_at self.now) text.now start end)
-            (λ place. IsNext (exact_at self.now) text.now start place × (place.start < end) ×
-            HasMap self.now.table place) }
-    {
-        let near = first_start(self.longest, start, numbers);
-        let (queried, barred) = self.bars(text, near, numbers);
-        let low = self.first_open(near, queried, barred);
-        self.first_between(text, low, end, barred)
-    }
-
-    // Before which byte no named URL has a query or a fragment up to numbers that ends after byte `near`, and before which
-    // no URL runs behind a prefix that ends after it, where these numbers are the first that stand after it.
-    fn bars(&self, line: &[u8], near: usize, numbers: usize) -> (usize, usize)
-        requires near { near ≤ numbers }
-        requires within { numbers ≤ length line.now }
-        requires none { (i : ℕ) → near < i → i < numbers → numbers_after (drop i line.now) ≡ None }
-        ensures queries { IsUnqueried line.now near result.0 }
-        ensures runs { IsBarred line.now near result.1 }
-    {
-        if has_query_between(line, near, numbers) {
-            let barred = barred_end(line, near, numbers);
-            return (barred, barred);
-        }
-        if self.prefixes.greatest == 0 {
-            return (numbers, near);
-        }
-        (numbers, barred_end(line, near, numbers))
-    }
-
-    // The first byte from `near` on where a named URL may begin that ends at `queried` or after it, or a prefix that ends at
-    // `barred` or after it.
-    fn first_open(&self, near: usize, queried: usize, barred: usize) -> usize
-        ensures after { near ≤ result }
-        ensures open { IsOpen self.now near result queried barred }
-    {
-        let named = queried.saturating_sub(self.named.greatest);
-        if self.prefixes.greatest == 0 {
-            return named.max(near);
-        }
-        let in_folder = barred.saturating_sub(self.prefixes.greatest);
-        named.min(in_folder).max(near)
-    }
-
-    // The first place that begins from `low` on and before `high`. No URL runs behind a prefix that ends before `barred`.
-    fn first_between<'l>(
-        &self,
-        line: &'l [u8],
-        low: usize,
-        high: usize,
-        barred: usize,
-    ) -> Option<FoundPlace<'l, 't>>
-        requires high { high ≤ length line.now }
-        requires barred { IsBarred line.now low barred }
-        ensures { MatchOption result (NoneBetween (exact_at self.now) line.now low high)
-            (λ place. IsNext (exact_at self.now) line.now low place × (place.start < high) ×
-            HasMap self.now.table place) }
-    {
-        for start in low..high {
-            if may_begin(line, start) {
-                if let Some(place) = self.place_at(line, start, barred) {
-                    return Some(place);
-                }
-            }
-        }
-        None
     }
 
     // The place that begins at `start`. No URL runs behind a prefix that ends before `barred`.
@@ -404,16 +298,4 @@ fn longest_url(named: usize, prefix: usize) -> Option<usize>
     ensures { IfSome result (IsLongest named prefix) }
 {
     named.max(prefix).checked_add(MOST_RUN)
-}
-
-// The first byte from `start` on where a URL of at most so many bytes may begin that ends before these numbers.
-fn first_start(longest: Option<usize>, start: usize, numbers: usize) -> usize
-    ensures after { start ≤ result }
-    ensures before { start ≤ numbers → result ≤ numbers }
-    ensures near { start < result → IsSomeAnd longest (λ bytes. result + bytes ≤ numbers) }
-{
-    match longest {
-        Some(longest) => numbers.saturating_sub(longest).max(start),
-        None => start,
-    }
 }
