@@ -155,3 +155,12 @@ pub const M17: &Row = &Row {
     cause: "The map is large, or many maps are held at once.",
     remedy: "Give the process more memory, or read fewer maps at once.",
 };
+
+pub const M18: &Row = &Row {
+    code: Code::M18,
+    meaning: "\
+        The names of all sources together are made of more bytes than the library's caller takes. The \
+        program has no such bound.",
+    cause: "A long `sourceRoot`, or a long base, stands before each of many sources.",
+    remedy: "Write the folder once, into the base; or, for a map that is trusted, raise the bound.",
+};

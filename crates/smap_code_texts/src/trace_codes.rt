@@ -70,3 +70,12 @@ pub const X4: &Row = &Row {
     cause: "The maps are large, or there are many.",
     remedy: "Give the process more memory, or give fewer maps at once.",
 };
+
+pub const X5: &Row = &Row {
+    code: Code::X5,
+    meaning: "\
+        The rewritten text would have more bytes than the library's caller takes. The program has no \
+        such bound.",
+    cause: "A map has sources with very long names, which stand in the place of short URLs.",
+    remedy: "See whether the map is to be trusted, and raise the bound or hand the text over in parts.",
+};

@@ -1,11 +1,11 @@
 -- All codes, and how each is called.
 use Rattle.std.specs.Prelude.{◌++◌, ◌∷◌, List, [], codes, ℕ}
 use Rattle.smap_codes.specs.declared.code.Code.{Code}
-use Rattle.smap_codes.specs.declared.code.Code.TheVariants.{M1, M2, M3, M4, M5, M6, M7, M8, M9, M10, M11, M12, M13, M14, M15, M16, M17}
+use Rattle.smap_codes.specs.declared.code.Code.TheVariants.{M1, M2, M3, M4, M5, M6, M7, M8, M9, M10, M11, M12, M13, M14, M15, M16, M17, M18}
 use Rattle.smap_codes.specs.declared.code.Code.TheVariants.{F1, F2, F3, F4, F5, F6, F7, F8, F9, F10, F11}
 use Rattle.smap_codes.specs.declared.code.Code.TheVariants.{B1, B2, B3, B4, B5}
 use Rattle.smap_codes.specs.declared.code.Code.TheVariants.{O1, O2, C1, C2, C3, C4, E1, E2, E3, E4, U1, U2}
-use Rattle.smap_codes.specs.declared.code.Code.TheVariants.{A1, A2, A3, P1, P2, X1, X2, X3, X4}
+use Rattle.smap_codes.specs.declared.code.Code.TheVariants.{A1, A2, A3, P1, P2, X1, X2, X3, X4, X5}
 use Rattle.smap_codes.specs.declared.code.Code.TheVariants.{TextTooLong, NotUtf8, Device, Memory, Usage, Refused}
 
 -- a label, as `M14`, of which this is the number, and a name, as `Text`, and both as they are printed
@@ -45,6 +45,7 @@ called M14 = coded (codes "M14") 14 (codes "Text")
 called M15 = coded (codes "M15") 15 (codes "Build")
 called M16 = coded (codes "M16") 16 (codes "Url")
 called M17 = coded (codes "M17") 17 (codes "Memory")
+called M18 = coded (codes "M18") 18 (codes "LongNames")
 called F1 = coded (codes "F1") 1 (codes "BadDigit")
 called F2 = coded (codes "F2") 2 (codes "Unended")
 called F3 = coded (codes "F3") 3 (codes "TooLong")
@@ -82,6 +83,7 @@ called X1 = coded (codes "X1") 1 (codes "Read")
 called X2 = coded (codes "X2") 2 (codes "Write")
 called X3 = coded (codes "X3") 3 (codes "TooMuch")
 called X4 = coded (codes "X4") 4 (codes "Memory")
+called X5 = coded (codes "X5") 5 (codes "LongOutput")
 called TextTooLong = alone (codes "TextTooLong")
 called NotUtf8 = alone (codes "NotUtf8")
 called Device = alone (codes "device")
@@ -107,7 +109,7 @@ text_of code = (called code).text
 
 -- why a map file is refused
 abbrev pub map_codes : List Code
-map_codes = M1 ∷ M2 ∷ M3 ∷ M4 ∷ M5 ∷ M6 ∷ M7 ∷ M8 ∷ M9 ∷ M10 ∷ M11 ∷ M12 ∷ M13 ∷ M14 ∷ M15 ∷ M16 ∷ M17 ∷ []
+map_codes = M1 ∷ M2 ∷ M3 ∷ M4 ∷ M5 ∷ M6 ∷ M7 ∷ M8 ∷ M9 ∷ M10 ∷ M11 ∷ M12 ∷ M13 ∷ M14 ∷ M15 ∷ M16 ∷ M17 ∷ M18 ∷ []
 
 -- the faults of a `mappings` text
 abbrev pub mappings_codes : List Code
@@ -123,7 +125,7 @@ writing_codes = O1 ∷ O2 ∷ C1 ∷ C2 ∷ C3 ∷ C4 ∷ E1 ∷ E2 ∷ E3 ∷ E
 
 -- why a trace or positions are not answered to their end, and why a word of `rewrite` gives no map
 abbrev pub trace_codes : List Code
-trace_codes = A1 ∷ A2 ∷ A3 ∷ P1 ∷ P2 ∷ X1 ∷ X2 ∷ X3 ∷ X4 ∷ []
+trace_codes = A1 ∷ A2 ∷ A3 ∷ P1 ∷ P2 ∷ X1 ∷ X2 ∷ X3 ∷ X4 ∷ X5 ∷ []
 
 -- what is reported by a word alone
 abbrev pub word_codes : List Code
