@@ -40,7 +40,7 @@ _smap() {
     elif [[ -z $command || $command == help ]]; then
         mapfile -t COMPREPLY < <(compgen -W 'lookup positions mappings sources rewrite locate check show compose fit explain raw help' -- "$current")
     elif [[ $command == explain ]]; then
-        mapfile -t COMPREPLY < <(compgen -W 'M1 M2 M3 M4 M5 M6 M7 M8 M9 M10 M11 M12 M13 M14 M15 M16 M17 F1 F2 F3 F4 F5 F6 F7 F8 F9 F10 F11 B1 B2 B3 B4 B5 O1 C1 C2 C4 A1 A2 P1 P2 X1 X2 X3' -- "$current")
+        mapfile -t COMPREPLY < <(compgen -W 'M1 M2 M3 M4 M5 M6 M7 M8 M9 M10 M11 M12 M13 M14 M15 M16 M17 M18 F1 F2 F3 F4 F5 F6 F7 F8 F9 F10 F11 B1 B2 B3 B4 B5 O1 C1 C2 C4 A1 A2 P1 P2 X1 X2 X3 X5' -- "$current")
     elif [[ $command != raw ]]; then
         # The last `=` of a pair of `rewrite`, `locate` or `compose` stands before the path, and by default arguments are cut there.
         compopt -o filenames

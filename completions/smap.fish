@@ -38,6 +38,6 @@ complete -c smap -n '__fish_seen_subcommand_from rewrite' -l summary -d 'Print c
 complete -c smap -n '__fish_seen_subcommand_from rewrite' -l strip-ansi -d 'Leave colours and other control sequences of a terminal out'
 complete -c smap -n '__fish_seen_subcommand_from compose' -l inner -r -F -d 'The map of a source by its name: NAME=FILE'
 complete -c smap -n '__fish_seen_subcommand_from compose' -l inners -r -F -d 'A list of more maps, each a name, a TAB and a file'
-complete -c smap -n '__fish_seen_subcommand_from explain' -x -a 'M1 M2 M3 M4 M5 M6 M7 M8 M9 M10 M11 M12 M13 M14 M15 M16 M17 F1 F2 F3 F4 F5 F6 F7 F8 F9 F10 F11 B1 B2 B3 B4 B5 O1 C1 C2 C4 A1 A2 P1 P2 X1 X2 X3'
+complete -c smap -n '__fish_seen_subcommand_from explain' -x -a 'M1 M2 M3 M4 M5 M6 M7 M8 M9 M10 M11 M12 M13 M14 M15 M16 M17 M18 F1 F2 F3 F4 F5 F6 F7 F8 F9 F10 F11 B1 B2 B3 B4 B5 O1 C1 C2 C4 A1 A2 P1 P2 X1 X2 X3 X5'
 complete -c smap -n '__fish_seen_subcommand_from show compose' -l no-content -d 'Leave out the texts of the sources'
 complete -c smap -n '__fish_seen_subcommand_from show compose' -l prune -d 'Leave out sources and names that no mapping has'

@@ -50,10 +50,10 @@ typedef struct smap_text { const uint8_t *bytes; size_t length; } smap_text;
 #define SMAP_TEXT { (const uint8_t *)"", 0 }
 #endif
 
-/* Why a map is not read: the number of the refusal, M1 to M17, or one of those of the base. The others are 0 where the
+/* Why a map is not read: the number of the refusal, M1 to M18, or one of those of the base. The others are 0 where the
  * refusal has no such part. */
 #define SMAP_BASE_NO_URL 0    /* the base is no URL */
-#define SMAP_BASE_TOO_LONG 18 /* the base has more bytes than can be worked on, about 4,294,967,296 */
+#define SMAP_BASE_TOO_LONG 19 /* the base has more bytes than can be worked on, about 4,294,967,296 */
 
 typedef struct smap_refusal {
     uint32_t number;
@@ -154,6 +154,10 @@ typedef struct smap_rewrite_options { bool hide_ignored, anywhere, strip_ansi, c
 /* What was in a trace: its lines, how many were frames, and how many of these were replaced and hidden. */
 typedef struct smap_trace_count { uint64_t lines, frames, mapped, hidden; } smap_trace_count;
 
+/* Why a text is not rewritten: it has too many bytes (3, X3); more bytes would come out than are taken (5, X5), and `lines` is how
+ * many whole lines of them fit; or places are asked for anywhere and a map is under `*` alone (0). */
+typedef struct smap_rewrite_refusal { uint32_t number; uint64_t lines; } smap_rewrite_refusal;
+
 /* Where the URL of a frame stands in a trace, how many bytes it has, and where the line after the frame begins, or the
  * trace ends. */
 typedef struct smap_frame_url { size_t start, length, next; } smap_frame_url;
@@ -163,6 +167,12 @@ typedef struct smap_frame_url { size_t start, length, next; } smap_frame_url;
  * is usual, and 1 to 4096 are taken. Where it returns 1, `refusal` says why. The bytes are not kept. */
 uint32_t smap_map_read(const uint8_t *bytes, size_t length, const uint8_t *base, size_t base_length,
                        uint32_t interval, smap_map *map, smap_refusal *refusal);
+
+/* The same, where the names of all sources may be made of at most `most_names` bytes: each of those of the base, of what `sourceRoot`
+ * puts before it, and of its own text. Where there are more, it is refused (18, M18) before a name is made. Without a bound a file of
+ * 64 KiB can ask for 350 MB of names, and one of 1 MiB for 90 GB. A name has at most three times as many bytes as it is made of. */
+uint32_t smap_map_read_within(const uint8_t *bytes, size_t length, const uint8_t *base, size_t base_length, uint32_t interval,
+                              uint64_t most_names, smap_map *map, smap_refusal *refusal);
 
 /* Names the sources of a map by the URL at which it stands, where that is a path: without its query and its fragment it begins with
  * `/`, or with a letter, `:` and `/` or `\`. Each source whose name is a relative path, as the map gives it, gets the path that
@@ -339,13 +349,13 @@ void smap_table_free(smap_table *table);
 
 /* Rewrites a trace: each frame whose URL has a map in the table and whose place has an original gets it in its place, and every
  * other byte stays. With `hide_ignored` lines of frames from ignored sources are dropped. Returns 1 where the trace has
- * more than 1,073,741,824 bytes. `counts` is set where it returns 0. The bytes are freed by smap_bytes_free. */
+ * more than 1,073,741,824 bytes, or more would come out. `counts` is set where it returns 0. The bytes are freed by smap_bytes_free. */
 uint32_t smap_rewrite(smap_table *table, const uint8_t *trace, size_t length, bool hide_ignored,
                       smap_bytes *bytes, smap_trace_count *counts);
 
 /* Rewrites a text: each place URL:line:column, wherever it stands in a line, whose URL has a map in the table and which has an
- * original gets it in its stead, and every other byte stays. Returns 1 where the text has more than 1,073,741,824 bytes, and where the
- * table has a map under `*` alone.
+ * original gets it in its stead, and every other byte stays. Returns 1 where the text has more than 1,073,741,824 bytes, where more
+ * would come out, and where the table has a map under `*` alone.
  * `counts` is set where it returns 0: `frames` are the places, and none is hidden. The bytes are freed by
  * smap_bytes_free. */
 uint32_t smap_rewrite_anywhere(smap_table *table, const uint8_t *text, size_t length, smap_bytes *bytes,
@@ -356,8 +366,12 @@ uint32_t smap_rewrite_anywhere(smap_table *table, const uint8_t *text, size_t le
 uint32_t smap_rewrite_with(smap_table *table, const uint8_t *text, size_t length, const smap_rewrite_options *options,
                            smap_bytes *bytes, smap_trace_count *counts);
 
-/* Lends what the program prints where a text has too many bytes for the three, which is refusal 3: "X3 TooMuch". Returns 1 for
- * another number. */
+/* The same, where at most `most` bytes may come out. A long name of a source stands in the place of each short frame, so a map of 64 KiB
+ * makes gigabytes of a trace of 1 MB. Where it returns 1, `refusal` says why, and how far it came. */
+uint32_t smap_rewrite_within(smap_table *table, const uint8_t *text, size_t length, const smap_rewrite_options *options, uint64_t most,
+                             smap_bytes *bytes, smap_trace_count *counts, smap_rewrite_refusal *refusal);
+
+/* Lends what is said of these refusals, of 3 "X3 TooMuch" and of 5 "X5 LongOutput". Returns 1 for another number. */
 uint32_t smap_rewrite_refusal_text(uint32_t refusal, smap_text *text);
 
 /* Finds the URL of the next frame of a trace, from byte `from` on, at which a line begins: 0, or `next` of the frame

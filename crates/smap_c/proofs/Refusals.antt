@@ -8,7 +8,7 @@ use Rattle.smap_mappings.specs.declared.fault.FaultKind.TheVariants as faults
 use Rattle.smap_index.specs.declared.refusal.BuildRefusal.TheVariants as builds
 use Rattle.smap_record.specs.declared.refusal.MapRefusal.{MapRefusal}
 use Rattle.smap_record.specs.declared.refusal.MapRefusal.TheVariants.{TooLarge, NotJson, NotObject, Version, Sections, SectionOffset, Nested, Sources}
-use Rattle.smap_record.specs.declared.refusal.MapRefusal.TheVariants.{Names, SourcesContent, IgnoreList, FileOrRoot, Mappings, Text, Build, Url}
+use Rattle.smap_record.specs.declared.refusal.MapRefusal.TheVariants.{Names, SourcesContent, IgnoreList, FileOrRoot, Mappings, Text, Build, Url, LongNames}
 use Rattle.smap_record.specs.declared.refusal.MapRefusal.TheVariants.{Memory}
 use Rattle.smap_c.specs.Refusal.{kind_in, numbers_of, refusal_in}
 
@@ -51,4 +51,5 @@ reads_back (Build (builds.SectionOverlap section)) map build = refl
 reads_back (Build (builds.PositionRange section)) map build = refl
 reads_back (Build builds.Memory) map build = absurd (build refl)
 reads_back Url map build = refl
+reads_back LongNames map build = refl
 reads_back Memory map build = absurd (map refl)

@@ -1,12 +1,16 @@
 -- Rewriting over the maps of a table, for devices in memory.
-use Rattle.std.proofs.Common.{◌≡◌, ◌⊎◌, inl, inr, true≢false, IsSome, ◌∙◌, ◌++◌, ◌<◌, ◌≤◌, ℕ, [], List, Bool, Option, Some, None, MatchOption, true, false, ap, append-nil, arith, length, length-append, refl, subst, sym}
+use Rattle.std.proofs.Common.{◌≡◌, ◌∙◌, ◌++◌, ◌∷◌, ◌<◌, ◌≤◌, ℕ, [], List, Bool, Option, Some, None, MatchOption, true, false, ap, append-nil, arith, length, length-append, refl, subst, sym}
 use Rattle.std.specs.Io.KnownBytes.{IsAtEnd}
 use Rattle.std.specs.Option.{IfSome, option_or}
-use Rattle.std.specs.Prelude.{⊤}
+use Rattle.std.specs.Prelude.{⊤, unwrap_or}
 use Rattle.std.proofs.lemmas.Bool.{cond-false, cond-true}
 use Rattle.smap_by_text.specs.ByText.{value_under}
 use Rattle.smap_io.specs.Device.{Gives, Takes}
+use Rattle.smap_lines.specs.Edited.{IsEdited}
 use Rattle.smap_lines.specs.Editing.{DevicesSeen}
+use Rattle.smap_lines.specs.Lines.{Line}
+use Rattle.smap_lines.specs.Laws.OneText.{Only, edited_is}
+use Rattle.smap_lines.specs.Laws.Step.{edited_wider}
 use Rattle.smap_lines.specs.Limits.{most_text_bytes}
 use Rattle.smap_lines.specs.declared.fault.LineFault.{LineFault}
 use Rattle.smap_lines.specs.declared.fault.LineFault.TheVariants.{Memory, TooMuch}
@@ -15,17 +19,22 @@ use Rattle.smap_places.specs.Laws.PlacesBy.{places_by}
 use Rattle.smap_places.specs.PlaceAt.{place_at}
 use Rattle.smap_places.specs.PlacesBeside.{FindsBeside, found_beside}
 use Rattle.smap_places.specs.PlacesBy.{RewritesPlacesBy}
-use Rattle.smap_places.specs.PlacesOver.{RewritesPlacesOver}
+use Rattle.smap_places.specs.PlacesOver.{MayBe, MayBecome, RewritesPlacesFrontOver, RewritesPlacesOver}
+use Rattle.smap_places.specs.PlacesRewritten.{part_text, parts_text, replacement}
+use Rattle.smap_places.specs.Places.{Part, found, other, parts_of}
 use Rattle.smap_tables.specs.UrlTable.{UrlTableSeen, map_by_pattern, map_of_cut, map_under}
 use Rattle.smap_tables.specs.declared.url_maps.UrlMaps.{UrlMaps}
-use Rattle.smap_trace.specs.Hiding.{only_ignored}
-use Rattle.smap_trace.specs.MapsOf.{RewritesBy, counts_by, rewritten_by}
-use Rattle.smap_trace.specs.Rewriting.{RewritesOver}
+use Rattle.smap_trace.specs.Frame.{FrameParts}
+use Rattle.smap_trace.specs.FrameOf.{frame_of}
+use Rattle.smap_trace.specs.Hiding.{HidingSeen, only_ignored}
+use Rattle.smap_trace.specs.MapsOf.{MapsByUrl, RewritesBy, counts_by, fate_by, line_by, rewritten_by}
+use Rattle.smap_trace.specs.Rewriting.{BecomesFrame, RewritesFrontOver, RewritesOver}
+use Rattle.smap_trace.specs.Rewritten.{Fate, MayMeet, fate_at, line_after, original_in}
 use Rattle.smap_trace.specs.Laws.MapsOf.{rewrites_by}
 use Rattle.smap_trace.specs.declared.outcome.RewriteCounts.{RewriteCounts}
 use Rattle.smap_trace.specs.declared.outcome.Summary.{Summary}
-use Rattle.smap_c.specs.Private.Rewriting.{IsRewritten, IsTooMuch}
-use Rattle.smap_c.specs.Trace.{place_counts_by, placed_by, places_of}
+use Rattle.smap_c.specs.Private.Rewriting.{HasFront, IsRewritten, IsTooMuch}
+use Rattle.smap_c.specs.Trace.{place_counts_by, placed_by, places_of, text_of}
 use Rattle.smap_c.specs.declared.trace.RewriteOptions.{RewriteOptions}
 
 module _ (table : UrlTableSeen) (cut : Bool) where
@@ -90,6 +99,38 @@ module _ (table : UrlTableSeen) where
       (found_under new url stays, stays))
       (place_at (places_of table)) most_text_bytes before after old new summary all tt is
 
+-- ---- a front of a text
+
+module _ (maps : MapsByUrl) (hide : HidingSeen) where
+  may_meet : (parts : Option FrameParts) (met : Fate) → MayMeet (λ url stated. stated ≡ maps url) hide parts met → met ≡ fate_by maps hide parts
+  may_meet None met may = may
+  may_meet (Some parts) met may = may.2 ∙ ap (λ found. fate_at hide parts (original_in parts found)) may.1
+
+  becomes_by : (line : Line) (text : List ℕ) → BecomesFrame (λ url stated. stated ≡ maps url) hide line text → text ≡ line_by maps hide line
+  becomes_by line text may = may.2 ∙ ap (line_after line) (may_meet (frame_of line.bytes) may.0 may.1)
+
+  -- what lines may become over these maps is what they make of them
+  frames_by : (bytes text : List ℕ) → IsEdited (BecomesFrame (λ url stated. stated ≡ maps url) hide) bytes text → text ≡ rewritten_by maps hide bytes
+  frames_by bytes text is =
+      edited_is (line_by maps hide) bytes text
+      (edited_wider (BecomesFrame (λ url stated. stated ≡ maps url) hide) (Only (line_by maps hide)) becomes_by bytes text is)
+
+module _ (maps : MapsByUrl) (Allows : (url : List ℕ) → Option MapRecord → Type 0)
+    (allowed : (url : List ℕ) (stated : Option MapRecord) → Allows url stated → stated ≡ maps url) where
+  part_by : (part : Part) (text : List ℕ) → MayBe Allows part text → text ≡ part_text maps part
+  part_by (other byte) text is = is
+  part_by (found place bytes) text is = is.2 ∙ ap (λ f. unwrap_or (replacement f place) bytes) (allowed place.url is.0 is.1)
+
+  -- and so are parts
+  parts_by : (parts : List Part) (text : List ℕ) → MayBecome Allows parts text → text ≡ parts_text maps parts
+  parts_by [] text is = is
+  parts_by (part ∷ parts) text is = is.4 ∙ (λ i. part_by part is.0 is.2 i ++ parts_by parts is.1 is.3 i)
+
+-- a map that is the one under a URL, or the table's own
+beside_is : (own rest stated : Option MapRecord) → MatchOption own (stated ≡ option_or own rest) (λ map. stated ≡ Some map) → stated ≡ option_or own rest
+beside_is None rest stated is = is
+beside_is (Some own) rest stated is = is
+
 -- ---- devices in memory
 
 -- what holds of the bytes that an input shows
@@ -124,6 +165,23 @@ refused_read left after bytes fault gives many =
 
 pub memory_read : (left : Option (List ℕ)) → IfSome left (λ read. IsTooMuch read Memory)
 memory_read left = if_read left (λ read. IsTooMuch read Memory) (λ read is too. absurd (cc))
+
+-- and it is a front
+given_front : (text bytes : List ℕ) (left : Option (List ℕ)) → Gives (Some text) left bytes → (rest : List ℕ) × (text ≡ bytes ++ rest)
+given_front text bytes None gives = absurd (cc)
+given_front text bytes (Some left) gives = (left, cc)
+
+-- where nothing was written
+pub none_front : (options : RewriteOptions) (table : UrlTableSeen) (left : Option (List ℕ)) (written : List ℕ) → written ≡ []
+    → IfSome left (λ read. HasFront options table read written)
+none_front options table left written none =
+    if_read left (λ read. HasFront options table read written) (λ read is. record {
+      front = [];
+      rest = read;
+      later = text_of options table [];
+      is_front = refl;
+      made = ap (λ w. w ++ text_of options table []) (sym none);
+    })
 
 -- and what was made of it was written
 all_taken : (written made : List ℕ) → Takes (Some []) (Some written) made → written ≡ made
@@ -168,13 +226,43 @@ module _ (options : RewriteOptions) (table : UrlTableSeen) (read written : List 
         fits = subst (λ l. length l ≤ most_text_bytes) all is.fits;
       }
 
--- ---- a table
+  front_read : (bytes : List ℕ) → Gives before.input.left after.input.left bytes → (rest : List ℕ) × (read ≡ bytes ++ rest)
+  front_read bytes gives = given_front read bytes after.input.left (subst (λ o. Gives o after.input.left bytes) at_first gives)
 
--- where frames are asked for, only a text that is too long is refused
-pub long_only : (held : Option UrlTableSeen) → IsSome held → (refused long : Type 0) → IfSome held (λ maps. refused → long ⊎ (false ≡ true)) → refused → long
-long_only None some refused long each is = absurd (true≢false (sym some))
-long_only (Some maps) some refused long each is = go (each is)
-  where
-    go : long ⊎ (false ≡ true) → long
-    go (inl fact) = fact
-    go (inr other) = absurd (true≢false (sym other))
+  pub frames_front : (most : ℕ) (fault : LineFault) → options.anywhere ≡ false
+      → RewritesFrontOver (λ url stated. stated ≡ map_under options.cut table url) (only_ignored options.hide_ignored) most before after fault
+      → HasFront options table read written
+  frames_front most fault by_frames is =
+      let maps = map_under options.cut table in
+      let hide = only_ignored options.hide_ignored in
+      let front = front_read is.bytes is.read in
+      record {
+        front = is.bytes;
+        rest = front.0;
+        later = is.later;
+        is_front = front.1;
+        made = cond-false options.anywhere (placed_by table is.bytes) (rewritten_by maps hide is.bytes) by_frames
+            ∙ sym (frames_by maps hide is.bytes (is.written ++ is.later) is.front)
+            ∙ ap (λ w. w ++ is.later) (sym (all_written is.written is.taken));
+      }
+
+  pub places_front : (most : ℕ) (fault : LineFault) → options.anywhere ≡ true
+      → RewritesPlacesFrontOver (λ url stated. MatchOption (value_under url table.words) (stated ≡ map_under true table url) (λ own. stated ≡ Some own))
+      (place_at (places_of table)) most before after fault
+      → HasFront options table read written
+  unfolding placed_by
+  places_front most fault anywhere is =
+      let maps = map_under true table in
+      let hide = only_ignored options.hide_ignored in
+      let front = front_read is.bytes is.read in
+      record {
+        front = is.bytes;
+        rest = front.0;
+        later = is.later;
+        is_front = front.1;
+        made = cond-true options.anywhere (placed_by table is.bytes) (rewritten_by (map_under options.cut table) hide is.bytes) anywhere
+            ∙ sym (parts_by maps (λ url stated. MatchOption (value_under url table.words) (stated ≡ map_under true table url) (λ own. stated ≡ Some own))
+            (λ url stated is. beside_is (value_under url table.words) (option_or (map_of_cut true table url) (map_by_pattern table url)) stated is)
+            (parts_of (place_at (places_of table)) is.bytes) (is.written ++ is.later) is.front)
+            ∙ ap (λ w. w ++ is.later) (sym (all_written is.written is.taken));
+      }

@@ -5,7 +5,7 @@ use Rattle.url.specs.Parser.{parse_url, IsOutOfRoom}
 use Rattle.url.specs.Parts.{Parts}
 use Rattle.url.specs.declared.error.ParseError.{ParseError}
 use Rattle.smap_record.specs.MapFile.{Map}
-use Rattle.smap_record.specs.Record.{record_of}
+use Rattle.smap_record.specs.Record.{record_of_within}
 use Rattle.smap_record.specs.Sources.{NamesASource}
 use Rattle.smap_record.specs.declared.refusal.MapRefusal.{MapRefusal}
 use Rattle.smap_record.specs.declared.refusal.MapRefusal.TheVariants.{Url}
@@ -29,21 +29,34 @@ NamesNoBase (byte ∷ bytes) =
     (IsUtf8 (byte ∷ bytes) → ⊥)
     ⊎ ((error : ParseError) × (parse_url None (byte ∷ bytes) ≡ Err error) × (IsOutOfRoom error → ⊥))
 
--- the map that a file of these bytes states at the base that is named, with checkpoints at this interval
-abbrev pub IsReadAs : (bytes base : List ℕ) → (interval : ℕ) → Map → Type 0
-IsReadAs bytes base interval map = ((used : Option Parts) × NamesBase base used × (record_of bytes used interval ≡ Ok map.stated)) × (map.k ≡ interval)
+-- the map that a file of these bytes states at the base that is named, with checkpoints at this interval, where the names of
+-- its sources are made of at most so many bytes, if there is a bound
+abbrev pub IsReadWithin : (most : Option ℕ) → (bytes base : List ℕ) → (interval : ℕ) → Map → Type 0
+IsReadWithin most bytes base interval map =
+    ((used : Option Parts) × NamesBase base used × (record_of_within most bytes used interval ≡ Ok map.stated)) × (map.k ≡ interval)
 
--- why the file is refused at this base: its record is; or one of its sources has a name, of which the parser of URLs says
--- that its URL is too long
+-- the same without a bound
+abbrev pub IsReadAs : (bytes base : List ℕ) → (interval : ℕ) → Map → Type 0
+IsReadAs = IsReadWithin None
+
+-- why the file is refused at this base and within this bound: its record is; or one of its sources has a name, of which the
+-- parser of URLs says that its URL is too long
+abbrev pub IsRefusedAtWithin : (most : Option ℕ) → (bytes : List ℕ) → Option Parts → (interval : ℕ) → MapRefusal → Type 0
+IsRefusedAtWithin most bytes base interval why =
+    (record_of_within most bytes base interval ≡ Err why)
+    ⊎ ((why ≡ Url) × IsOkAnd (record_of_within most bytes base interval) (λ stated. NamesASource stated.sources))
+
 abbrev pub IsRefusedAt : (bytes : List ℕ) → Option Parts → (interval : ℕ) → MapRefusal → Type 0
-IsRefusedAt bytes base interval why =
-    (record_of bytes base interval ≡ Err why)
-    ⊎ ((why ≡ Url) × IsOkAnd (record_of bytes base interval) (λ stated. NamesASource stated.sources))
+IsRefusedAt = IsRefusedAtWithin None
 
 -- why nothing is read, as numbers: the base is no URL, or the parser of URLs says that it is too long, or the file is
 -- refused
-abbrev pub IsRefusedAs : (bytes base : List ℕ) → (interval : ℕ) → Refusal → Type 0
-IsRefusedAs bytes base interval refusal =
+abbrev pub IsRefusedWithin : (most : Option ℕ) → (bytes base : List ℕ) → (interval : ℕ) → Refusal → Type 0
+IsRefusedWithin most bytes base interval refusal =
     ((refusal ≡ numbered 0 0) × NamesNoBase base)
-    ⊎ ((refusal ≡ numbered 18 0) × AsksForBase base)
-    ⊎ ((used : Option Parts) × NamesBase base used × (why : MapRefusal) × (refusal ≡ numbers_of why) × IsRefusedAt bytes used interval why)
+    ⊎ ((refusal ≡ numbered 19 0) × AsksForBase base)
+    ⊎ ((used : Option Parts) × NamesBase base used × (why : MapRefusal) × (refusal ≡ numbers_of why)
+    × IsRefusedAtWithin most bytes used interval why)
+
+abbrev pub IsRefusedAs : (bytes base : List ℕ) → (interval : ℕ) → Refusal → Type 0
+IsRefusedAs = IsRefusedWithin None

@@ -11,7 +11,7 @@ use Rattle.smap_index.specs.declared.refusal.BuildRefusal.TheVariants as builds
 use Rattle.smap_record.specs.Codes.{map_code}
 use Rattle.smap_record.specs.declared.refusal.MapRefusal.{MapRefusal}
 use Rattle.smap_record.specs.declared.refusal.MapRefusal.TheVariants.{TooLarge, NotJson, NotObject, Version, Sections, SectionOffset, Nested, Sources}
-use Rattle.smap_record.specs.declared.refusal.MapRefusal.TheVariants.{Names, SourcesContent, IgnoreList, FileOrRoot, Mappings, Text, Build, Url}
+use Rattle.smap_record.specs.declared.refusal.MapRefusal.TheVariants.{Names, SourcesContent, IgnoreList, FileOrRoot, Mappings, Text, Build, Url, LongNames}
 use Rattle.smap_c.specs.declared.refusal.Refusal.{Refusal}
 
 -- the refusal of this number, with a section
@@ -56,7 +56,7 @@ build_in number section = find (λ refusal. number_of (build_code refusal) == nu
 abbrev pub refusal_with : (number section : ℕ) → Option MapRefusal
 refusal_with number section = find (λ refusal. number_of (map_code refusal) == number) (
     TooLarge ∷ NotJson ∷ NotObject ∷ Version ∷ Sections ∷ SectionOffset section ∷ Nested section ∷ Sources ∷ Names
-    ∷ SourcesContent ∷ IgnoreList ∷ FileOrRoot ∷ Mappings ∷ Url ∷ [])
+    ∷ SourcesContent ∷ IgnoreList ∷ FileOrRoot ∷ Mappings ∷ Url ∷ LongNames ∷ [])
 
 -- the refusal that has these numbers, if there is one
 unfoldable pub refusal_in : Refusal → Option MapRefusal

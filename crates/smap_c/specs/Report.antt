@@ -2,7 +2,7 @@
 use Rattle.std.specs.Prelude.{ℕ, ◌==◌, List, [], ◌∷◌, Option, None, Some, find, if◌then◌else◌, option_map}
 use Rattle.smap_codes.specs.Codes.{name_of, number_of, text_of}
 use Rattle.smap_codes.specs.declared.code.Code.{Code}
-use Rattle.smap_codes.specs.declared.code.Code.TheVariants.{A1, A2, C1, C2, C4, M1, NotUtf8, O1, X3}
+use Rattle.smap_codes.specs.declared.code.Code.TheVariants.{A1, A2, C1, C2, C4, M1, NotUtf8, O1, X3, X5}
 
 -- the text of the first of these codes that has this number
 abbrev pub text_among : List Code → (number : ℕ) → Option (List ℕ)
@@ -22,7 +22,7 @@ write_refusal_text = text_among (O1 ∷ [])
 
 -- that a text is not rewritten
 abbrev pub rewrite_refusal_text : ℕ → Option (List ℕ)
-rewrite_refusal_text = text_among (X3 ∷ [])
+rewrite_refusal_text = text_among (X3 ∷ X5 ∷ [])
 
 -- that a generated file is refused, by name
 abbrev pub generated_refusal_text : ℕ → Option (List ℕ)

@@ -1,6 +1,10 @@
 -- What becomes of a text that is rewritten over a table, and what is said of it.
-use Rattle.std.specs.Prelude.{ℕ, ◌&&◌, Bool, List, [], true, filter, if◌then◌else◌, is_some, length}
+use Rattle.std.specs.Prelude.{◌≡◌, ◌<◌, ◌⊎◌, ℕ, ◌&&◌, ◌++◌, Bool, List, [], false, true, filter, if◌then◌else◌, is_some, length, take}
+use Rattle.memchr.specs.Find.{is_byte, places}
 use Rattle.smap_by_text.specs.ByText.{value_under}
+use Rattle.smap_codes.specs.Codes.{number_of}
+use Rattle.smap_codes.specs.declared.code.Code.TheVariants.{X3, X5}
+use Rattle.smap_lines.specs.Limits.{most_text_bytes}
 use Rattle.smap_lines.specs.Lines.{lines_with_ends}
 use Rattle.smap_places.specs.PlaceAt.{MapsSeen, place_at}
 use Rattle.smap_places.specs.Places.{parts_of}
@@ -11,6 +15,7 @@ use Rattle.smap_trace.specs.Hiding.{only_ignored}
 use Rattle.smap_trace.specs.MapsOf.{counts_by, rewritten_by}
 use Rattle.smap_trace.specs.Rewritten.{Counts}
 use Rattle.smap_c.specs.declared.trace.RewriteOptions.{RewriteOptions}
+use Rattle.smap_c.specs.declared.trace.RewriteRefusal.{RewriteRefusal}
 use Rattle.smap_c.specs.declared.trace.TraceCounts.{TraceCounts}
 
 abbrev pub counts_seen : TraceCounts → Counts
@@ -63,3 +68,40 @@ counts_with options table text = counts_of options table (text_read options text
 -- it is refused, however long it is
 abbrev pub is_for_all : RewriteOptions → UrlTableSeen → Bool
 is_for_all options table = options.anywhere && has_map_of_all table
+
+-- ---- why it is refused
+
+-- how many bytes come out where nothing else is asked for
+abbrev pub most_output_bytes : ℕ
+most_output_bytes = 1073741824
+
+abbrev pub rewrite_refused : (number lines : ℕ) → RewriteRefusal
+rewrite_refused number lines = record { number = number; lines = lines }
+
+-- how many LFs stand in a text
+abbrev pub line_ends : (text : List ℕ) → ℕ
+line_ends text = length (places (is_byte 10) text)
+
+-- a front of what is read already comes to more bytes; so many lines of that are whole as far as it fits
+pub record IsLong (options : RewriteOptions) (table : UrlTableSeen) (read : List ℕ) (most : ℕ) (refusal : RewriteRefusal) : Type 0 where
+  pub front : List ℕ
+  pub rest : List ℕ
+  pub is_front : read ≡ front ++ rest
+  pub long : most < length (text_of options table front)
+  pub refused : refusal ≡ rewrite_refused (number_of X5) (line_ends (take most (text_of options table front)))
+
+-- a map is for each URL and places are asked for anywhere; or else the text that is read is too long; or what would come out is
+abbrev pub IsRefusedFor : RewriteOptions → UrlTableSeen → (text : List ℕ) → (most : ℕ) → RewriteRefusal → Type 0
+IsRefusedFor options table text most refusal =
+    ((is_for_all options table ≡ true) × (refusal ≡ rewrite_refused 0 0))
+    ⊎ ((is_for_all options table ≡ false) × (most_text_bytes < length (text_read options text))
+    × (refusal ≡ rewrite_refused (number_of X3) 0))
+    ⊎ ((is_for_all options table ≡ false) × IsLong options table (text_read options text) most refusal)
+
+-- ---- the options of the two calls that have none
+
+abbrev pub frames_alone : (hide_ignored : Bool) → RewriteOptions
+frames_alone hide_ignored = record { hide_ignored = hide_ignored; anywhere = false; strip_ansi = false; cut = false }
+
+abbrev pub places_alone : RewriteOptions
+places_alone = record { hide_ignored = false; anywhere = true; strip_ansi = false; cut = false }

@@ -17,6 +17,7 @@
 mod bytes;
 mod composing;
 mod counts;
+mod devices;
 mod encoding;
 mod fit;
 mod frames;
@@ -33,6 +34,7 @@ mod read;
 mod reason;
 mod refusal;
 mod report;
+mod rewriting;
 mod shares;
 mod size;
 mod status;

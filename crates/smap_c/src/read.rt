@@ -1,6 +1,6 @@
 //! Reading a map, and letting it go.
-ghost use Rattle.std.specs.Prelude.{◌≡◌, ◌≢◌, ◌⊎◌, None, IsSome, IsSomeAnd, IfErr, IfOk, option_map};
-ghost use Rattle.smap_c.specs.Read.{IsReadAs, IsRefusedAs, NamesBase};
+ghost use Rattle.std.specs.Prelude.{◌≡◌, ◌≢◌, ◌⊎◌, None, Some, IsSome, IsSomeAnd, IfErr, IfOk, option_map};
+ghost use Rattle.smap_c.specs.Read.{IsReadAs, IsReadWithin, IsRefusedAs, IsRefusedWithin, NamesBase};
 ghost use Rattle.smap_c.specs.Private.Base.{IsFaultOf};
 
 use crate::handles::MapHandle;
@@ -29,6 +29,50 @@ pub extern "C" fn smap_map_read(
     ensures unreported { result ≢ 1 → refusal.new ≡ refusal.old }
     ensures status { (result ≡ 0) ⊎ (result ≡ 1) ⊎ (result ≡ 3) }
 {
+    read_within(alloc, bytes, base, interval, None, map, refusal)
+}
+
+/// The same, where the names of all sources together may be made of at most `most_names` bytes: each of those of the base, of
+/// what `sourceRoot` puts before it, and of its own text. Where there are more, the map is refused before a name is made.
+#[unsafe(no_mangle)]
+pub extern "C" fn smap_map_read_within(
+    alloc: Global,
+    bytes: &[u8],
+    base: &[u8],
+    interval: u32,
+    most_names: u64,
+    map: &mut MapHandle,
+    refusal: &mut Refusal,
+) -> u32
+    ensures read { result ≡ 0 → IsSomeAnd map.new.held
+        (IsReadWithin (Some most_names) bytes.now base.now interval) }
+    ensures refused { result ≡ 1 →
+        IsRefusedWithin (Some most_names) bytes.now base.now interval refusal.new }
+    ensures stays { result ≢ 0 → map.new.held ≡ map.old.held }
+    ensures unreported { result ≢ 1 → refusal.new ≡ refusal.old }
+    ensures status { (result ≡ 0) ⊎ (result ≡ 1) ⊎ (result ≡ 3) }
+{
+    read_within(alloc, bytes, base, interval, Some(most_names), map, refusal)
+}
+
+// Reads a map within a bound, if there is one.
+fn read_within(
+    alloc: Global,
+    bytes: &[u8],
+    base: &[u8],
+    interval: u32,
+    most_names: Option<u64>,
+    map: &mut MapHandle,
+    refusal: &mut Refusal,
+) -> u32
+    ensures read { result ≡ 0 → IsSomeAnd map.new.held
+        (IsReadWithin most_names bytes.now base.now interval) }
+    ensures refused { result ≡ 1 →
+        IsRefusedWithin most_names bytes.now base.now interval refusal.new }
+    ensures stays { result ≢ 0 → map.new.held ≡ map.old.held }
+    ensures unreported { result ≢ 1 → refusal.new ≡ refusal.old }
+    ensures status { (result ≡ 0) ⊎ (result ≡ 1) ⊎ (result ≡ 3) }
+{
     let base = match base_named(alloc, base) {
         Ok(base) => base,
         Err(BaseFault::NoUrl) => {
@@ -36,12 +80,12 @@ pub extern "C" fn smap_map_read(
             return REFUSED;
         }
         Err(BaseFault::TooLong) => {
-            *refusal = numbered(18, 0);
+            *refusal = numbered(19, 0);
             return REFUSED;
         }
         Err(BaseFault::Memory) => return NO_MEMORY,
     };
-    match MapFile::read(alloc, bytes, base.as_ref(), interval) {
+    match MapFile::read_within(alloc, bytes, base.as_ref(), interval, most_names) {
         Ok(file) => match MapHandle::new(alloc, file) {
             Ok(handle) => {
                 *map = handle;

@@ -12,12 +12,12 @@ ghost use Rattle.smap_c.specs.Refusal.{numbers_of, refusal_in, refusal_with};
 use smap_codes::Code;
 use smap_record::{BuildRefusal, Fault, FaultKind, MapRefusal};
 
-/// Why a map is refused. `number` is that of the refusal, 1 to 17, or 0 where the base is no URL, or 18 where the base is
+/// Why a map is refused. `number` is that of the refusal, 1 to 18, or 0 where the base is no URL, or 19 where the base is
 /// too long a URL. The other numbers are 0 where the refusal has no such part.
 #[repr(C)]
 #[derive(Clone, Copy)]
 pub struct Refusal {
-    /// That of the refusal, M1 to M17, or 0 or 18.
+    /// That of the refusal, M1 to M18, or 0 or 19.
     pub number: u32,
     /// That of the fault of the mappings, F1 to F11.
     pub fault: u32,
@@ -133,6 +133,7 @@ fn refusal_with(number: u32, section: u64) -> Option<MapRefusal>
         MapRefusal::FileOrRoot,
         MapRefusal::Mappings,
         MapRefusal::Url,
+        MapRefusal::LongNames,
     ];
     refusal_among(&all, number).copied()
 }

@@ -65,14 +65,13 @@ pub extern "C" fn smap_write_refusal_text(number: u32, text: &mut Text<'_>) -> u
     lend(text_among(&[Code::O1], number), text)
 }
 
-/// Lends the number and the name of this refusal of `smap_rewrite` and `smap_rewrite_anywhere`, where they have one of this
-/// number.
+/// Lends the number and the name of this refusal of the calls that rewrite a text, where they have one of this number.
 #[unsafe(no_mangle)]
 pub extern "C" fn smap_rewrite_refusal_text(number: u32, text: &mut Text<'_>) -> u32
     ensures { MatchOption (rewrite_refusal_text number) ((result ≡ 1) × (text.new ≡ text.old))
         (λ reported. (result ≡ 0) × (text.new.text.now ≡ reported)) }
 {
-    lend(text_among(&[Code::X3], number), text)
+    lend(text_among(&[Code::X3, Code::X5], number), text)
 }
 
 /// Lends the name of this refusal of `smap_bytes_by_source`, where it has one of this number.

@@ -1,6 +1,7 @@
 //! Each call once on its happy path, with ample memory, and that what is freed can be had again.
 ghost use Rattle.std.specs.Prelude.{◌≡◌, IfOk, IsSome};
 
+mod bounds;
 mod composing;
 mod encoding;
 mod explaining;
@@ -271,6 +272,8 @@ fn refusals_have_texts(rt: HostRuntime) -> Result<(), Fail> {
     assert_text(&rt, &text, "O1 TextTooLong");
     assert_done(&rt, smap_rewrite_refusal_text(3, &mut text));
     assert_text(&rt, &text, "X3 TooMuch");
+    assert_done(&rt, smap_rewrite_refusal_text(5, &mut text));
+    assert_text(&rt, &text, "X5 LongOutput");
     assert_done(&rt, smap_generated_refusal_text(1, &mut text));
     assert_text(&rt, &text, "NotUtf8");
     assert_done(&rt, smap_generated_refusal_text(2, &mut text));

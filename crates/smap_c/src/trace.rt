@@ -1,23 +1,29 @@
 //! A trace in memory, and its rewriting.
-ghost use Rattle.std.specs.Prelude.{◌≡◌, ◌≢◌, ◌<◌, ◌≤◌, ◌⊎◌, [], Some, true, false, IfErr, IfOk, IfSome, IsSome, length};
+ghost use Rattle.std.specs.Prelude.{◌≡◌, ◌≢◌, ◌<◌, ◌≤◌, ◌⊎◌, Some, false, true, IfErr, IfOk, IfSome, IsSome, length, nat_lt};
+ghost use Rattle.smap_codes.specs.Codes.{number_of};
+ghost use Rattle.smap_codes.specs.declared.code.Code.TheVariants.{X3, X5};
 ghost use Rattle.smap_lines.specs.Limits.{most_text_bytes};
+ghost use Rattle.smap_lines.specs.declared.fault.LineFault.TheVariants.{TooMuch};
 ghost use Rattle.smap_tables.specs.UrlTable.{map_under};
 ghost use Rattle.smap_trace.specs.Hiding.{only_ignored};
 ghost use Rattle.smap_trace.specs.MapsOf.{counts_by, rewritten_by};
 ghost use Rattle.smap_trace.specs.Rewriting.{counts_seen as summary_seen};
-ghost use Rattle.smap_c.specs.Trace.{counts_seen, counts_with, has_map_of_all, is_for_all, place_counts_by, placed_by, text_read, text_with};
-ghost use Rattle.smap_c.specs.Private.Rewriting.{IsRewritten, IsTooMuch, fault_status};
+ghost use Rattle.smap_c.specs.Trace.{IsRefusedFor, counts_seen, counts_with, has_map_of_all, is_for_all, line_ends};
+ghost use Rattle.smap_c.specs.Trace.{most_output_bytes, place_counts_by, placed_by, rewrite_refused, text_read, text_with};
 
+use crate::devices::Output;
 use crate::handles::{BytesHandle, TableHandle};
+use crate::rewriting::rewrite_text;
 use crate::status::{DONE, NO_MEMORY, REFUSED};
 use crate::written::hand_out;
-use smap_io::{ByteSink, ByteSource, DeviceFault};
-use smap_lines::MOST_TEXT_BYTES;
-use smap_places::{PlaceFinder, rewrite_places_over};
-use smap_sequences::WithoutSequences;
-use smap_tables::{UrlMaps, UrlTable};
-use smap_trace::{Hiding, RewriteFault, RewriteOptions as FrameOptions, Summary, rewrite_over};
+use memchr::memchr_iter;
+use smap_codes::Code;
+use smap_tables::UrlTable;
+use smap_trace::{RewriteFault, Summary};
 use std::alloc::Global;
+
+/// How many bytes come out where nothing else is asked for: 1 GiB.
+const MOST_OUTPUT_BYTES: u64 = 1073741824;
 
 /// What was in a trace that was rewritten, or in a text whose places were.
 #[repr(C)]
@@ -32,73 +38,14 @@ pub struct TraceCounts {
     pub hidden: u64,
 }
 
-// The bytes of a trace that are left to read.
-#[derive(Drop)]
-struct Input<'a> {
-    left: &'a [u8],
-}
-
-impl<'a> ByteSource for Input<'a> {
-    ghost seen = { λ input. record { left = Some input.left.now; failed = false } };
-
-    fn read(&mut self, room: &mut [u8]) -> Result<usize, DeviceFault> {
-        let count = room.len().min(self.left.len());
-        room[..count].copy_from_slice(&self.left[..count]);
-        self.left = &self.left[count..];
-        Ok(count)
-    }
-
-    fn failed(&self) -> bool {
-        false
-    }
-}
-
-// The bytes that were written. A write fails where memory runs out.
-#[derive(Drop)]
-struct Output {
-    bytes: Vec<u8>,
-    failed: bool,
-    flushed: bool,
-}
-
-impl Output {
-    fn new(alloc: Global) -> Output
-        ensures { (result.bytes.items ≡ []) × (result.failed ≡ false) }
-    {
-        Output {
-            bytes: Vec::new(alloc),
-            failed: false,
-            flushed: false,
-        }
-    }
-}
-
-impl ByteSink for Output {
-    ghost seen = { λ output. record {
-      taken = Some output.bytes.items;
-      flushed = output.flushed;
-      failed = output.failed;
-    } };
-
-    fn write(&mut self, bytes: &[u8]) -> Result<usize, DeviceFault> {
-        self.flushed = false;
-        match self.bytes.extend_from_slice(bytes) {
-            Ok(()) => Ok(bytes.len()),
-            Err(_) => {
-                self.failed = true;
-                Err(DeviceFault)
-            }
-        }
-    }
-
-    fn flush(&mut self) -> Result<(), DeviceFault> {
-        self.flushed = true;
-        Ok(())
-    }
-
-    fn failed(&self) -> bool {
-        self.failed
-    }
+/// Why a text is not rewritten: the number of X3 where it has too many bytes, that of X5 where too many would come out, and 0
+/// where places are asked for anywhere and a map is under `*` alone.
+#[repr(C)]
+#[derive(Clone, Copy)]
+pub struct RewriteRefusal {
+    pub number: u32,
+    /// Of X5, how many LFs stand in what would come out as far as it fits.
+    pub lines: u64,
 }
 
 /// How a text is rewritten.
@@ -118,7 +65,8 @@ pub struct RewriteOptions {
 
 /// Rewrites a trace: a frame whose URL has a map in the table and whose place has an original gets it in its place, and
 /// every other byte stays. With `hide_ignored` the lines of frames whose original is in an ignored source are dropped. A
-/// trace of more than 1,073,741,824 bytes is refused. `bytes` and `counts` are written where the trace was rewritten.
+/// trace of more than 1,073,741,824 bytes is refused, and one of which more would come out. `bytes` and `counts` are
+/// written where the trace was rewritten.
 #[unsafe(no_mangle)]
 pub extern "C" fn smap_rewrite(
     alloc: Global,
@@ -135,8 +83,11 @@ pub extern "C" fn smap_rewrite(
     ensures counts { IfSome table.old.held (λ maps.
         result ≡ 0 → counts_seen counts.new
         ≡ counts_by (map_under false maps) (only_ignored hide_ignored) trace.now) }
-    ensures refused { result ≡ 1 → most_text_bytes < length trace.now }
-    ensures fits { result ≡ 0 → length trace.now ≤ most_text_bytes }
+    ensures refused { IfSome table.old.held (λ maps. result ≡ 1 → (refusal : RewriteRefusal) × IsRefusedFor
+        (frames_alone hide_ignored) maps trace.now most_output_bytes refusal) }
+    ensures fits { IfSome table.old.held (λ maps. result ≡ 0 → (length trace.now ≤ most_text_bytes)
+        × (length (rewritten_by (map_under false maps) (only_ignored hide_ignored) trace.now)
+        ≤ most_output_bytes)) }
     ensures stays { (table.new.held ≡ table.old.held)
         × (result ≢ 0 → (bytes.new.held ≡ bytes.old.held) × (counts.new ≡ counts.old)) }
     ensures status { (result ≡ 0) ⊎ (result ≡ 1) ⊎ (result ≡ 3) }
@@ -151,8 +102,8 @@ pub extern "C" fn smap_rewrite(
 }
 
 /// Rewrites a text: a place `URL:line:column`, wherever it stands in a line, whose URL has a map in the table and which has
-/// an original gets it in its stead, and every other byte stays. A text of more than 1,073,741,824 bytes is refused, and any
-/// where the table has a map under `*` alone. `bytes` and `counts`, which has places in place of frames, are written where
+/// an original gets it in its stead, and every other byte stays. A text of more than 1,073,741,824 bytes is refused, one of
+/// which more would come out, and any where the table has a map under `*` alone. `bytes` and `counts`, which has places in place of frames, are written where
 /// the text was rewritten.
 #[unsafe(no_mangle)]
 pub extern "C" fn smap_rewrite_anywhere(
@@ -167,10 +118,11 @@ pub extern "C" fn smap_rewrite_anywhere(
         result ≡ 0 → bytes.new.held ≡ Some (placed_by maps text.now)) }
     ensures counts { IfSome table.old.held (λ maps.
         result ≡ 0 → counts_seen counts.new ≡ place_counts_by maps text.now) }
-    ensures refused { IfSome table.old.held (λ maps. result ≡ 1 →
-        (most_text_bytes < length text.now) ⊎ (has_map_of_all maps ≡ true)) }
+    ensures refused { IfSome table.old.held (λ maps. result ≡ 1 → (refusal : RewriteRefusal) × IsRefusedFor
+        places_alone maps text.now most_output_bytes refusal) }
     ensures sound { IfSome table.old.held (λ maps. has_map_of_all maps ≡ true → result ≡ 1) }
-    ensures fits { result ≡ 0 → length text.now ≤ most_text_bytes }
+    ensures fits { IfSome table.old.held (λ maps. result ≡ 0 → (length text.now ≤ most_text_bytes)
+        × (length (placed_by maps text.now) ≤ most_output_bytes)) }
     ensures stays { (table.new.held ≡ table.old.held)
         × (result ≢ 0 → (bytes.new.held ≡ bytes.old.held) × (counts.new ≡ counts.old)) }
     ensures status { (result ≡ 0) ⊎ (result ≡ 1) ⊎ (result ≡ 3) }
@@ -201,22 +153,72 @@ pub extern "C" fn smap_rewrite_with(
         result ≡ 0 → bytes.new.held ≡ Some (text_with options.now maps text.now)) }
     ensures counts { IfSome table.old.held (λ maps.
         result ≡ 0 → counts_seen counts.new ≡ counts_with options.now maps text.now) }
-    ensures refused { IfSome table.old.held (λ maps. result ≡ 1 →
-        (most_text_bytes < length (text_read options.now text.now)) ⊎
-        (is_for_all options.now maps ≡ true)) }
+    ensures refused { IfSome table.old.held (λ maps. result ≡ 1 → (refusal : RewriteRefusal) × IsRefusedFor
+        options.now maps text.now most_output_bytes refusal) }
     ensures sound { IfSome table.old.held (λ maps.
         is_for_all options.now maps ≡ true → result ≡ 1) }
-    ensures fits { result ≡ 0 → length (text_read options.now text.now) ≤ most_text_bytes }
+    ensures fits { IfSome table.old.held (λ maps. result ≡ 0 →
+        (length (text_read options.now text.now) ≤ most_text_bytes)
+        × (length (text_with options.now maps text.now) ≤ most_output_bytes)) }
     ensures stays { (table.new.held ≡ table.old.held)
         × (result ≢ 0 → (bytes.new.held ≡ bytes.old.held) × (counts.new ≡ counts.old)) }
     ensures status { (result ≡ 0) ⊎ (result ≡ 1) ⊎ (result ≡ 3) }
 {
+    let mut refusal = refused(0, 0);
+    smap_rewrite_within(
+        alloc,
+        table,
+        text,
+        options,
+        MOST_OUTPUT_BYTES,
+        bytes,
+        counts,
+        &mut refusal,
+    )
+}
+
+/// The same, where at most `most` bytes may come out. Where more would, it ends with the first that does not fit, nothing is
+/// handed out, and `refusal` says how far it came.
+#[unsafe(no_mangle)]
+pub extern "C" fn smap_rewrite_within(
+    alloc: Global,
+    table: &mut TableHandle,
+    text: &[u8],
+    options: &RewriteOptions,
+    most: u64,
+    bytes: &mut BytesHandle,
+    counts: &mut TraceCounts,
+    refusal: &mut RewriteRefusal,
+) -> u32
+    requires { IsSome table.old.held }
+    ensures text { IfSome table.old.held (λ maps.
+        result ≡ 0 → bytes.new.held ≡ Some (text_with options.now maps text.now)) }
+    ensures counts { IfSome table.old.held (λ maps.
+        result ≡ 0 → counts_seen counts.new ≡ counts_with options.now maps text.now) }
+    ensures refused { IfSome table.old.held (λ maps. result ≡ 1 →
+        IsRefusedFor options.now maps text.now most refusal.new) }
+    ensures sound { IfSome table.old.held (λ maps.
+        is_for_all options.now maps ≡ true → result ≡ 1) }
+    ensures fits { IfSome table.old.held (λ maps. result ≡ 0 →
+        (length (text_read options.now text.now) ≤ most_text_bytes)
+        × (length (text_with options.now maps text.now) ≤ most)) }
+    ensures stays { (table.new.held ≡ table.old.held)
+        × (result ≢ 0 → (bytes.new.held ≡ bytes.old.held) × (counts.new ≡ counts.old)) }
+    ensures unreported { result ≢ 1 → refusal.new ≡ refusal.old }
+    ensures status { (result ≡ 0) ⊎ (result ≡ 1) ⊎ (result ≡ 3) }
+{
     if is_for_all(options, table.lend()) {
+        *refusal = refused(0, 0);
         return REFUSED;
     }
-    let mut output = Output::new(alloc);
+    let mut output = Output::new(alloc, most);
     let outcome = rewrite_text(alloc, table.lend(), text, options, &mut output);
-    reported(alloc, outcome, output.bytes, bytes, counts)
+    let written = output.bytes;
+    if written.len() as u64 > most {
+        *refusal = refused(Code::X5.number(), line_ends(&written[..most as usize]));
+        return REFUSED;
+    }
+    reported(alloc, outcome, written, bytes, counts, refusal)
 }
 
 // Whether places are asked for anywhere over a map of all URLs.
@@ -226,101 +228,6 @@ fn is_for_all(options: &RewriteOptions, table: &UrlTable) -> bool
     options.anywhere && table.has_map_of_all()
 }
 
-// Rewrites a text, or what is left of it without its control sequences, into an output that has nothing yet.
-fn rewrite_text(
-    alloc: Global,
-    table: &UrlTable,
-    text: &[u8],
-    options: &RewriteOptions,
-    output: &mut Output,
-) -> Result<Summary, RewriteFault>
-    requires empty { (output.old.bytes.items ≡ []) × (output.old.failed ≡ false) }
-    ensures rewritten { IfOk result (IsRewritten options.now table.now
-        (text_read options.now text.now) output.new.bytes.items) }
-    ensures refused { IfErr result (IsTooMuch (text_read options.now text.now)) }
-{
-    let mut input = Input { left: text };
-    if options.strip_ansi {
-        let mut stripped = WithoutSequences::new(input);
-        rewrite_read(alloc, table, &mut stripped, options, output)
-    } else {
-        rewrite_read(alloc, table, &mut input, options, output)
-    }
-}
-
-// Rewrites what an input has left, into an output that has nothing yet.
-fn rewrite_read<R: ByteSource>(
-    alloc: Global,
-    table: &UrlTable,
-    input: &mut R,
-    options: &RewriteOptions,
-    output: &mut Output,
-) -> Result<Summary, RewriteFault>
-    requires works { (R.seen input.old).failed ≡ false }
-    requires empty { (output.old.bytes.items ≡ []) × (output.old.failed ≡ false) }
-    ensures rewritten { IfOk result (λ summary. IfSome (R.seen input.old).left (λ read.
-        IsRewritten options.now table.now read output.new.bytes.items summary)) }
-    ensures refused { IfErr result (λ fault. IfSome (R.seen input.old).left (λ read.
-        IsTooMuch read fault)) }
-{
-    if options.anywhere {
-        rewrite_places(alloc, table, input, options, output)
-    } else {
-        rewrite_frames(alloc, table, input, options, output)
-    }
-}
-
-// The same by its places anywhere.
-fn rewrite_places<R: ByteSource>(
-    alloc: Global,
-    table: &UrlTable,
-    input: &mut R,
-    options: &RewriteOptions,
-    output: &mut Output,
-) -> Result<Summary, RewriteFault>
-    requires anywhere { options.now.anywhere ≡ true }
-    requires works { (R.seen input.old).failed ≡ false }
-    requires empty { (output.old.bytes.items ≡ []) × (output.old.failed ≡ false) }
-    ensures rewritten { IfOk result (λ summary. IfSome (R.seen input.old).left (λ read.
-        IsRewritten options.now table.now read output.new.bytes.items summary)) }
-    ensures refused { IfErr result (λ fault. IfSome (R.seen input.old).left (λ read.
-        IsTooMuch read fault)) }
-{
-    let Ok(finder) = PlaceFinder::new(alloc, table.words(), table.locations()) else {
-        return Err(RewriteFault::Memory);
-    };
-    let mut maps = UrlMaps { table, cut: true };
-    rewrite_places_over(alloc, input, output, &finder, &mut maps, MOST_TEXT_BYTES)
-}
-
-// The same by its frames.
-fn rewrite_frames<R: ByteSource>(
-    alloc: Global,
-    table: &UrlTable,
-    input: &mut R,
-    options: &RewriteOptions,
-    output: &mut Output,
-) -> Result<Summary, RewriteFault>
-    requires frames { options.now.anywhere ≡ false }
-    requires works { (R.seen input.old).failed ≡ false }
-    requires empty { (output.old.bytes.items ≡ []) × (output.old.failed ≡ false) }
-    ensures rewritten { IfOk result (λ summary. IfSome (R.seen input.old).left (λ read.
-        IsRewritten options.now table.now read output.new.bytes.items summary)) }
-    ensures refused { IfErr result (λ fault. IfSome (R.seen input.old).left (λ read.
-        IsTooMuch read fault)) }
-{
-    let mut maps = UrlMaps {
-        table,
-        cut: options.cut,
-    };
-    let by_frames = FrameOptions {
-        hiding: Hiding::only_ignored(options.hide_ignored),
-        most: MOST_TEXT_BYTES,
-    };
-    let counts = rewrite_over(alloc, input, output, &mut maps, by_frames)?;
-    Ok(counts.summary)
-}
-
 // Hands out what was written and says what was counted, where a text was rewritten; and its status.
 fn reported(
     alloc: Global,
@@ -328,11 +235,14 @@ fn reported(
     written: Vec<u8>,
     bytes: &mut BytesHandle,
     counts: &mut TraceCounts,
+    refusal: &mut RewriteRefusal,
 ) -> u32
     ensures done { IfOk outcome (λ summary. result ≡ 0 → (bytes.new.held ≡ Some written.items)
         × (counts_seen counts.new ≡ summary_seen summary)) }
     ensures refused { IfOk outcome (λ summary. (result ≡ 0) ⊎ (result ≡ 3)) }
-    ensures failed { IfErr outcome (λ fault. result ≡ fault_status fault) }
+    ensures failed { IfErr outcome (λ fault. ((result ≡ 1) × (fault ≡ TooMuch)
+        × (refusal.new ≡ rewrite_refused (number_of X3) 0)) ⊎ (result ≡ 3)) }
+    ensures unreported { result ≢ 1 → refusal.new ≡ refusal.old }
     ensures stays { result ≢ 0 → (bytes.new.held ≡ bytes.old.held) × (counts.new ≡ counts.old) }
 {
     match outcome {
@@ -348,16 +258,24 @@ fn reported(
             }
             status
         }
-        Err(fault) => fault_status(fault),
+        Err(RewriteFault::TooMuch) => {
+            *refusal = refused(Code::X3.number(), 0);
+            REFUSED
+        }
+        // No read fails here, and a write within the bound fails where memory runs out.
+        Err(RewriteFault::Read | RewriteFault::Write | RewriteFault::Memory) => NO_MEMORY,
     }
 }
 
-// The status of a rewriting that failed.
-fn fault_status(fault: RewriteFault) -> u32
-    ensures { result ≡ fault_status fault }
+fn refused(number: u32, lines: u64) -> RewriteRefusal
+    ensures { result ≡ rewrite_refused number lines }
 {
-    match fault {
-        RewriteFault::TooMuch => REFUSED,
-        RewriteFault::Read | RewriteFault::Write | RewriteFault::Memory => NO_MEMORY,
-    }
+    RewriteRefusal { number, lines }
+}
+
+// How many LFs stand in a text.
+fn line_ends(text: &[u8]) -> u64
+    ensures { result ≡ line_ends text.now }
+{
+    memchr_iter(b'\n', text).count() as u64
 }

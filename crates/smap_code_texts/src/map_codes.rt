@@ -159,8 +159,8 @@ pub const M17: &Row = &Row {
 pub const M18: &Row = &Row {
     code: Code::M18,
     meaning: "\
-        The names of all sources together are made of more bytes than the library's caller takes. The \
+        The names of all sources are made of more bytes than the caller of the library takes. The \
         program has no such bound.",
     cause: "A long `sourceRoot`, or a long base, stands before each of many sources.",
-    remedy: "Write the folder once, into the base; or, for a map that is trusted, raise the bound.",
+    remedy: "Raise the bound if the map is trusted, or shorten `sourceRoot` and the base.",
 };

@@ -74,8 +74,8 @@ pub const X4: &Row = &Row {
 pub const X5: &Row = &Row {
     code: Code::X5,
     meaning: "\
-        The rewritten text would have more bytes than the library's caller takes. The program has no \
-        such bound.",
-    cause: "A map has sources with very long names, which stand in the place of short URLs.",
-    remedy: "See whether the map is to be trusted, and raise the bound or hand the text over in parts.",
+        The rewritten text would have more bytes than the caller of the library takes. The program has \
+        no such bound.",
+    cause: "The map has very long names of sources, which stand in the place of short URLs.",
+    remedy: "Raise the bound if the map is trusted, or hand the text over in parts.",
 };

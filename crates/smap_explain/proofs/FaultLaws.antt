@@ -22,7 +22,7 @@ use Rattle.smap_record.specs.IndexMap.{SectionEntry, StatedSections, entries_in,
 use Rattle.smap_record.specs.Json.{field, list_of, number_below, or_absent, readings, text_or_null}
 use Rattle.smap_record.specs.Limits.{most_file_bytes, most_listed}
 use Rattle.smap_record.specs.Outer.{StatedOuter, is_three, outer_in, version_in}
-use Rattle.smap_record.specs.Record.{indexed, members_in, record_in, record_of}
+use Rattle.smap_record.specs.Record.{indexed, members_in, record_in, record_of, record_of_within, record_within}
 use Rattle.smap_record.specs.Refusals.{◌>>=◌, unless}
 use Rattle.smap_record.specs.Section.{contents_in, few, ignored_in, mappings_in, names_in, part_at, section_in, short_text, sources_in, text_in}
 use Rattle.smap_record.specs.declared.index_map.Offset.{Offset}
@@ -459,7 +459,7 @@ outer_read value outer h =
 
 in_object : (members : Members) (base : Option Parts) (k section : ℕ) (fault : Fault) → record_in members base k ≡ Err (Text section fault)
     → Explained (stated_mappings members section) fault
-unfolding record_in
+unfolding record_within
 in_object members base k section fault h =
     elim (first_or_later (outer_in (object members)) _ (Text section fault) h) [
       | inl first ↦ absurd (in_outer section fault (object members) first)
@@ -484,7 +484,7 @@ in_object members base k section fault h =
 
 in_record : (bytes : List ℕ) (base : Option Parts) (k section : ℕ) (fault : Fault) → record_of bytes base k ≡ Err (Text section fault)
     → (members : Members) × (members_in bytes ≡ Ok members) × Explained (stated_mappings members section) fault
-unfolding record_of
+unfolding record_of_within
 in_record bytes base k section fault h =
     elim (first_or_later (members_in bytes) (λ (members : Members). record_in members base k) (Text section fault) h) [
       | inl first ↦ absurd (in_members section fault bytes first)

@@ -125,6 +125,7 @@ IsExplained bytes (refusals.Text section fault) explanation = IsTextReported byt
 IsExplained bytes (refusals.Build refusal) explanation = explanation ≡ build_explained (build_facts_of bytes refusal)
 IsExplained bytes refusals.Url explanation = explanation ≡ kinds.Nothing
 IsExplained bytes refusals.Memory explanation = explanation ≡ kinds.Nothing
+IsExplained bytes refusals.LongNames explanation = explanation ≡ kinds.Nothing
 
 -- the explanation is of a segment of this section that has this fault
 pub record ReportsFault (section : ℕ) (fault : Fault) (explanation : Explanation) : Type 0 where

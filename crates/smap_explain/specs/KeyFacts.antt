@@ -200,3 +200,4 @@ key_facts entries (refusals.Text number fault) = None
 key_facts entries (refusals.Build refusal) = None
 key_facts entries refusals.Url = None
 key_facts entries refusals.Memory = None
+key_facts entries refusals.LongNames = None

@@ -52,7 +52,7 @@ pub fn explain(alloc: Global, bytes: &[u8], refusal: MapRefusal) -> Result<Expla
         MapRefusal::Build(refusal) => {
             Ok(build_explained(build_facts_of(alloc, bytes, refusal)?))
         }
-        MapRefusal::Url | MapRefusal::Memory => Ok(Explanation::Nothing),
+        MapRefusal::Url | MapRefusal::Memory | MapRefusal::LongNames => Ok(Explanation::Nothing),
     }
 }
 

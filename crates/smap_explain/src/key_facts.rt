@@ -45,7 +45,8 @@ pub fn key_facts(
         | MapRefusal::Text(_, _)
         | MapRefusal::Build(_)
         | MapRefusal::Url
-        | MapRefusal::Memory => Ok(None),
+        | MapRefusal::Memory
+        | MapRefusal::LongNames => Ok(None),
     }
 }
 

@@ -26,7 +26,7 @@ use Rattle.smap_record.specs.FileText.{byte_order_mark}
 use Rattle.smap_record.specs.Sources.{StatedSource}
 use Rattle.smap_record.specs.IndexMap.{entries_in, sections_after}
 use Rattle.smap_record.specs.Outer.{outer_in}
-use Rattle.smap_record.specs.Record.{MapRecord, record_in, record_of, answer_of_map}
+use Rattle.smap_record.specs.Record.{MapRecord, record_of, record_of_within, record_within, answer_of_map}
 use Rattle.smap_record.specs.Section.{mappings_in, section_in}
 use Rattle.smap_record.specs.Written.{written}
 use Rattle.smap_record.specs.declared.refusal.MapRefusal.{MapRefusal}
@@ -42,7 +42,7 @@ called text = record { name = Some (kept text); content = None; ignored = false 
 
 -- what an example unfolds to compute the record of a file
 unfoldable record_on_literals : ⊤
-unfolding record_of record_in outer_in entries_in sections_after section_in mappings_in source_name parse_url split_scheme scheme_len
+unfolding record_of_within record_within outer_in entries_in sections_after section_in mappings_in source_name parse_url split_scheme scheme_len
     split_once strip_tabs_and_new_lines trim_c0_control_and_space is_utf8 chars serde_json_on_literals whole called build_fault part_fault
     order_fault overlap_fault range_fault placed mappings_of mapping_after deltas_of first_fault first_faulty spelling_fault delta_fault values_on
     segments_of segments_from segments_on fields_of number_of unsigned_of digit_of

@@ -6,7 +6,7 @@ use Rattle.url.specs.Parts.{Parts}
 use Rattle.smap_index.specs.declared.part.Part.{Part}
 use Rattle.smap_record.specs.IndexMap.{StatedSections, no_sections, sections_after}
 use Rattle.smap_record.specs.Outer.{StatedOuter, outer_in}
-use Rattle.smap_record.specs.Record.{indexed, members_in, record_in, record_of}
+use Rattle.smap_record.specs.Record.{indexed, members_in, record_of, record_of_within, record_within}
 use Rattle.smap_record.specs.Refusals.{unless}
 use Rattle.smap_record.specs.Sources.{sources_stated}
 use Rattle.smap_record.specs.declared.refusal.MapRefusal.{MapRefusal}
@@ -23,6 +23,6 @@ pub stated : (bytes : List ℕ) (base : Option Parts) (k : ℕ) (ms : Members) (
       names = sections.names;
       file = outer.file;
     })
-unfolding record_of record_in
+unfolding record_of_within record_within
 stated bytes base k ms outer sections parts members_read outer_read sections_read built =
     rw (members_read, outer_read, sections_read, built) refl

@@ -25,6 +25,7 @@ map_code (maps.Text section fault) = codes.M14
 map_code (maps.Build refusal) = codes.M15
 map_code maps.Url = codes.M16
 map_code maps.Memory = codes.M17
+map_code maps.LongNames = codes.M18
 
 -- why a map is not written
 abbrev pub write_code : WriteRefusal → Code

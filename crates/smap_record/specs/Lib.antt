@@ -8,6 +8,7 @@ pub mod Ignored
 pub mod Sources
 pub mod Section
 pub mod IndexMap
+pub mod NameBytes
 pub mod Outer
 pub mod Record
 pub mod Written

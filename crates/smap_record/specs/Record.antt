@@ -13,6 +13,7 @@ use Rattle.smap_index.specs.declared.part.Part.{Part}
 use Rattle.smap_record.specs.FileText.{value_of_file}
 use Rattle.smap_record.specs.IndexMap.{no_sections, sections_after}
 use Rattle.smap_record.specs.Limits.{most_file_bytes}
+use Rattle.smap_record.specs.NameBytes.{name_bytes, names_refusal}
 use Rattle.smap_record.specs.Outer.{outer_in}
 use Rattle.smap_record.specs.Refusals.{◌>>=◌, unless}
 use Rattle.smap_record.specs.Sources.{StatedSource, sources_stated}
@@ -36,22 +37,32 @@ members_in bytes = do
 abbrev pub indexed : List Part → ℕ → Result (List Part) MapRefusal
 indexed parts k = unless (option_map Build (build_fault parts k)) parts
 
--- what a map with these members states, which stands at this URL: its sections' entries, joined in order
-unfoldable pub record_in : Members → Option Parts → ℕ → Result MapRecord MapRefusal
-record_in members base k = do
+-- what a map with these members states, which stands at this URL: its sections' entries, joined in order; where there is a
+-- bound, it is refused after all else if the names of its sources are made of more bytes
+unfoldable pub record_within : (most : Option ℕ) → Members → Option Parts → ℕ → Result MapRecord MapRefusal
+record_within most members base k = do
   outer ← outer_in (object members)
   sections ← sections_after no_sections outer.entries
   parts ← indexed sections.parts k
+  named ← unless (names_refusal most (name_bytes base sections.sources)) sections.sources
   Ok (record {
     parts = parts;
-    sources = flat_map (sources_stated base) sections.sources;
+    sources = flat_map (sources_stated base) named;
     names = sections.names;
     file = outer.file;
   })
 
--- the record of a file's bytes, which stand at this URL, at an interval k; or the first refusal
-unfoldable pub record_of : (bytes : List ℕ) (base : Option Parts) (k : ℕ) → Result MapRecord MapRefusal
-record_of bytes base k = members_in bytes >>= λ members. record_in members base k
+-- the record of a file's bytes, which stand at this URL, at an interval k and within a bound on names, if there is one; or
+-- the first refusal
+unfoldable pub record_of_within : (most : Option ℕ) (bytes : List ℕ) (base : Option Parts) (k : ℕ) → Result MapRecord MapRefusal
+record_of_within most bytes base k = members_in bytes >>= λ members. record_within most members base k
+
+-- the same without a bound
+abbrev pub record_in : Members → Option Parts → ℕ → Result MapRecord MapRefusal
+record_in = record_within None
+
+abbrev pub record_of : (bytes : List ℕ) (base : Option Parts) (k : ℕ) → Result MapRecord MapRefusal
+record_of = record_of_within None
 
 -- what a map answers at a generated position
 abbrev pub answer_of_map : MapRecord → ℕ → ℕ → Answer

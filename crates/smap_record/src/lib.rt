@@ -19,6 +19,7 @@ mod index_map;
 mod joined;
 mod json;
 mod map_file;
+mod name_bytes;
 mod outer;
 mod parts;
 mod refusal;

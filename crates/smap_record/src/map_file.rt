@@ -14,7 +14,7 @@ ghost use Rattle.smap_index.specs.Marks.{marks, used_lines_in, HasFewMarksOnEach
 ghost use Rattle.smap_record.specs.Limits.{most_file_bytes};
 ghost use Rattle.smap_record.specs.MapFile.{IsAnswerWithin, IsMapOf, IsRefusalOf};
 ghost use Rattle.smap_record.specs.ReadBack.{ReadsBackAs};
-ghost use Rattle.smap_record.specs.Record.{answer_of_map, answer_of_map_from, record_in, record_of};
+ghost use Rattle.smap_record.specs.Record.{answer_of_map, answer_of_map_from, record_of, record_of_within, record_within};
 ghost use Rattle.smap_record.specs.Sources.{source_of, with_name_at};
 ghost use Rattle.smap_record.specs.Written.{written};
 ghost use Rattle.smap_record.specs.declared.refusal.MapRefusal.TheVariants as refusals;
@@ -23,6 +23,7 @@ use crate::entry::SourceEntry;
 use crate::file_text::file_members;
 use crate::index::build_index;
 use crate::joined::read_sections;
+use crate::name_bytes::check_names;
 use crate::outer::read_outer;
 use crate::refusal::MapRefusal;
 use crate::sources::sources;
@@ -60,7 +61,6 @@ impl MapFile {
     /// at the segments of number 0, `k`, 2`k` and so on of each line of a section; `k` is 1 to 4096, and any other is
     /// refused before the sources get their names. `Url` comes after all other refusals, and only where a source has a
     /// name. After a refusal nothing is kept.
-    #[tactic(auto, unfolding(crate::specs::Record::record_of))]
     pub fn read(
         alloc: Global,
         bytes: &[u8],
@@ -73,12 +73,33 @@ impl MapFile {
         ensures refused { IfErr result (IsRefusalOf
             (record_of bytes.now (option_copied base.entry) k)) }
     {
+        MapFile::read_within(alloc, bytes, base, k, None)
+    }
+
+    /// The same where there may be a bound on the bytes that the names of all sources are made of: each of those of the
+    /// URL of the map, of the prefix that `sourceRoot` makes, and of its own text. A name has at most three times as many,
+    /// as a URL writes some bytes as `%` and two digits. Where there are more, `LongNames` comes after all other refusals
+    /// but `Url` and `Memory`, before a name is made.
+    #[tactic(auto, unfolding(crate::specs::Record::record_of_within))]
+    pub fn read_within(
+        alloc: Global,
+        bytes: &[u8],
+        base: Option<&Url>,
+        k: u32,
+        most_names: Option<u64>,
+    ) -> Result<MapFile, MapRefusal>
+        ensures too_large { most_file_bytes < length bytes.now → result ≡ Err refusals.TooLarge }
+        ensures stated { IfOk result
+            (IsMapOf (record_of_within most_names bytes.now (option_copied base.entry) k) k) }
+        ensures refused { IfErr result
+            (IsRefusalOf (record_of_within most_names bytes.now (option_copied base.entry) k)) }
+    {
         let members = file_members(alloc, bytes)?;
-        MapFile::of_members(alloc, members, base, k)
+        MapFile::of_members(alloc, members, base, k, most_names)
     }
 
     /// The same of bytes that are let go once their JSON value is read, before the index is built.
-    #[tactic(auto, unfolding(crate::specs::Record::record_of))]
+    #[tactic(auto, unfolding(crate::specs::Record::record_of_within))]
     pub fn read_owned(
         alloc: Global,
         bytes: Vec<u8>,
@@ -93,28 +114,30 @@ impl MapFile {
     {
         let members = file_members(alloc, &bytes)?;
         drop(bytes);
-        MapFile::of_members(alloc, members, base, k)
+        MapFile::of_members(alloc, members, base, k, None)
     }
 
     // The map of the file with these members.
-    #[tactic(auto, unfolding(crate::specs::Record::record_in))]
+    #[tactic(auto, unfolding(crate::specs::Record::record_within))]
     fn of_members(
         alloc: Global,
         members: Map<String, Value>,
         base: Option<&Url>,
         interval: u32,
+        most_names: Option<u64>,
     ) -> Result<MapFile, MapRefusal>
         ensures stated { IfOk result
-            (IsMapOf (record_in (members_view members.entries) (option_copied base.entry) interval)
-            interval) }
+            (IsMapOf (record_within most_names (members_view members.entries)
+            (option_copied base.entry) interval) interval) }
         ensures refused { IfErr result
-            (IsRefusalOf (record_in (members_view members.entries) (option_copied base.entry)
-            interval)) }
+            (IsRefusalOf (record_within most_names (members_view members.entries)
+            (option_copied base.entry) interval)) }
     {
         let outer = read_outer(alloc, members)?;
         let joined = read_sections(alloc, outer.entries)?;
         let sections = joined.parts.len() as u64;
         let index = build_index(alloc, joined.parts, interval)?;
+        check_names(&joined.sources, base, most_names)?;
         let sources = sources(alloc, joined.sources, base)?;
         Ok(MapFile {
             index,

@@ -71,6 +71,9 @@ pub enum MapRefusal {
     /// M17: there is not enough memory.
     #[error("out of memory")]
     Memory,
+    /// M18: the names of all sources are made of more bytes than the caller takes.
+    #[error("the names of the sources are too long")]
+    LongNames,
 }
 
 impl MapRefusal {
@@ -96,6 +99,7 @@ impl MapRefusal {
             MapRefusal::Build(_) => Code::M15,
             MapRefusal::Url => Code::M16,
             MapRefusal::Memory => Code::M17,
+            MapRefusal::LongNames => Code::M18,
         }
     }
 }

@@ -88,7 +88,8 @@ fn source_name(
     }
 }
 
-fn text_of(root: &Option<String>) -> Option<&str>
+// The text of a root, where there is one.
+pub fn text_of(root: &Option<String>) -> Option<&str>
     ensures { option_copied result ≡ option_map string_bytes root.now }
 {
     match root {

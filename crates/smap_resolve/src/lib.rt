@@ -13,6 +13,6 @@ mod resolution;
 mod source_name;
 
 pub use refusal::ResolveRefusal;
-pub use resolution::resolve;
+pub use resolution::{prefix_bytes, resolve};
 pub use source_name::SourceName;
 pub use url::Url;

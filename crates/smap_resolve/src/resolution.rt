@@ -1,5 +1,5 @@
 //! A source's text, made into its name.
-ghost use Rattle.std.specs.Prelude.{◌≡◌, ◌++◌, option_copied, IfOk};
+ghost use Rattle.std.specs.Prelude.{◌≡◌, ◌++◌, length, option_copied, IfOk};
 ghost use Rattle.std.specs.Cow.{cow_str_bytes};
 ghost use Rattle.std.specs.Result.{result_ok};
 ghost use Rattle.url.specs.Parser.{parse_url};
@@ -54,6 +54,17 @@ fn prefixed<'a>(
     }
     text.push_str(source)?;
     Ok(CowStr::Owned(text))
+}
+
+/// How many bytes the prefix has that the root puts before each source of its map.
+pub fn prefix_bytes(root: Option<&str>) -> usize
+    ensures { result ≡ length (root_prefix (option_copied root.entry)) }
+{
+    let root = root.unwrap_or("");
+    if root.is_empty() || root.ends_with('/') {
+        return root.len();
+    }
+    root.len() + "/".len()
 }
 
 // The URL of a text, or none where it does not parse.

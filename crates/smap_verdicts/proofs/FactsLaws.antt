@@ -128,6 +128,7 @@ refusal_plain path (maps.Build (builds.PositionRange section)) = refl
 refusal_plain path (maps.Build builds.Memory) = refl
 refusal_plain path maps.Url = refl
 refusal_plain path maps.Memory = refl
+refusal_plain path maps.LongNames = refl
 
 -- nor of both
 pub no_float : (path : List ℕ) (refusal : MapRefusal) (explanation : Explanation) → has_float (refusal_value path refusal explanation) ≡ false

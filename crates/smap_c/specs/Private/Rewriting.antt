@@ -1,8 +1,8 @@
 -- What a rewriting comes to.
-use Rattle.std.specs.Prelude.{◌≡◌, ◌<◌, ◌≤◌, ℕ, List, length}
+use Rattle.std.specs.Prelude.{◌≡◌, ◌<◌, ◌≤◌, ◌++◌, ℕ, List, length}
 use Rattle.smap_lines.specs.Limits.{most_text_bytes}
 use Rattle.smap_lines.specs.declared.fault.LineFault.{LineFault}
-use Rattle.smap_lines.specs.declared.fault.LineFault.TheVariants.{Read, Write, TooMuch, Memory}
+use Rattle.smap_lines.specs.declared.fault.LineFault.TheVariants.{TooMuch}
 use Rattle.smap_tables.specs.UrlTable.{UrlTableSeen}
 use Rattle.smap_trace.specs.Rewriting.{counts_seen as summary_seen}
 use Rattle.smap_trace.specs.declared.outcome.Summary.{Summary}
@@ -19,10 +19,10 @@ pub record IsRewritten (options : RewriteOptions) (table : UrlTableSeen) (read w
 abbrev pub IsTooMuch : (read : List ℕ) → LineFault → Type 0
 IsTooMuch read fault = fault ≡ TooMuch → most_text_bytes < length read
 
--- the status of one that failed: a text of too many bytes is refused. No read fails here, and a write fails where memory
--- runs out
-abbrev pub fault_status : LineFault → ℕ
-fault_status Read = 3
-fault_status Write = 3
-fault_status TooMuch = 1
-fault_status Memory = 3
+-- a front of it was rewritten, and a front of what that comes to was written
+pub record HasFront (options : RewriteOptions) (table : UrlTableSeen) (read written : List ℕ) : Type 0 where
+  pub front : List ℕ
+  pub rest : List ℕ
+  pub later : List ℕ
+  pub is_front : read ≡ front ++ rest
+  pub made : text_of options table front ≡ written ++ later

@@ -22,7 +22,7 @@ const LINES: &str =
     r#"{"version":3,"sources":["a.js"],"sourcesContent":["one\r\ntwo\nthree"],"names":["f"],"mappings":"AAAAA,CACC"}"#;
 
 // A table with one map.
-fn table_of(rt: &impl Abort, alloc: Global, url: &str) -> Result<TableHandle, Fail>
+pub(super) fn table_of(rt: &impl Abort, alloc: Global, url: &str) -> Result<TableHandle, Fail>
     ensures { IfOk result (λ table. IsSome table.held) }
 {
     let mut table = no_table(alloc)?;

@@ -1,0 +1,117 @@
+//! A text in memory, rewritten by its frames or its places.
+ghost use Rattle.std.specs.Prelude.{◌≡◌, [], true, false, IfErr, IfOk, IfSome};
+ghost use Rattle.smap_c.specs.Trace.{text_read};
+ghost use Rattle.smap_c.specs.Private.Rewriting.{HasFront, IsRewritten, IsTooMuch};
+
+use crate::devices::{Input, Output};
+use crate::trace::RewriteOptions;
+use smap_io::ByteSource;
+use smap_lines::MOST_TEXT_BYTES;
+use smap_places::{PlaceFinder, rewrite_places_over};
+use smap_sequences::WithoutSequences;
+use smap_tables::{UrlMaps, UrlTable};
+use smap_trace::{Hiding, RewriteFault, RewriteOptions as FrameOptions, Summary, rewrite_over};
+use std::alloc::Global;
+
+/// Rewrites a text, or what is left of it without its control sequences, into an output that has nothing yet.
+pub fn rewrite_text(
+    alloc: Global,
+    table: &UrlTable,
+    text: &[u8],
+    options: &RewriteOptions,
+    output: &mut Output,
+) -> Result<Summary, RewriteFault>
+    requires empty { (output.old.bytes.items ≡ []) × (output.old.failed ≡ false) }
+    ensures rewritten { IfOk result (IsRewritten options.now table.now
+        (text_read options.now text.now) output.new.bytes.items) }
+    ensures refused { IfErr result (IsTooMuch (text_read options.now text.now)) }
+    ensures front { IfErr result (λ _. HasFront options.now table.now
+        (text_read options.now text.now) output.new.bytes.items) }
+{
+    let mut input = Input { left: text };
+    if options.strip_ansi {
+        let mut stripped = WithoutSequences::new(input);
+        rewrite_read(alloc, table, &mut stripped, options, output)
+    } else {
+        rewrite_read(alloc, table, &mut input, options, output)
+    }
+}
+
+// Rewrites what an input has left, into an output that has nothing yet.
+fn rewrite_read<R: ByteSource>(
+    alloc: Global,
+    table: &UrlTable,
+    input: &mut R,
+    options: &RewriteOptions,
+    output: &mut Output,
+) -> Result<Summary, RewriteFault>
+    requires works { (R.seen input.old).failed ≡ false }
+    requires empty { (output.old.bytes.items ≡ []) × (output.old.failed ≡ false) }
+    ensures rewritten { IfOk result (λ summary. IfSome (R.seen input.old).left (λ read.
+        IsRewritten options.now table.now read output.new.bytes.items summary)) }
+    ensures refused { IfErr result (λ fault. IfSome (R.seen input.old).left (λ read.
+        IsTooMuch read fault)) }
+    ensures front { IfErr result (λ _. IfSome (R.seen input.old).left (λ read.
+        HasFront options.now table.now read output.new.bytes.items)) }
+{
+    if options.anywhere {
+        rewrite_places(alloc, table, input, options, output)
+    } else {
+        rewrite_frames(alloc, table, input, options, output)
+    }
+}
+
+// The same by its places anywhere.
+fn rewrite_places<R: ByteSource>(
+    alloc: Global,
+    table: &UrlTable,
+    input: &mut R,
+    options: &RewriteOptions,
+    output: &mut Output,
+) -> Result<Summary, RewriteFault>
+    requires anywhere { options.now.anywhere ≡ true }
+    requires works { (R.seen input.old).failed ≡ false }
+    requires empty { (output.old.bytes.items ≡ []) × (output.old.failed ≡ false) }
+    ensures rewritten { IfOk result (λ summary. IfSome (R.seen input.old).left (λ read.
+        IsRewritten options.now table.now read output.new.bytes.items summary)) }
+    ensures refused { IfErr result (λ fault. IfSome (R.seen input.old).left (λ read.
+        IsTooMuch read fault)) }
+    ensures front { IfErr result (λ _. IfSome (R.seen input.old).left (λ read.
+        HasFront options.now table.now read output.new.bytes.items)) }
+{
+    let Ok(finder) = PlaceFinder::new(alloc, table.words(), table.locations()) else {
+        return Err(RewriteFault::Memory);
+    };
+    let mut maps = UrlMaps { table, cut: true };
+    rewrite_places_over(alloc, input, output, &finder, &mut maps, MOST_TEXT_BYTES)
+}
+
+// The same by its frames.
+fn rewrite_frames<R: ByteSource>(
+    alloc: Global,
+    table: &UrlTable,
+    input: &mut R,
+    options: &RewriteOptions,
+    output: &mut Output,
+) -> Result<Summary, RewriteFault>
+    requires frames { options.now.anywhere ≡ false }
+    requires works { (R.seen input.old).failed ≡ false }
+    requires empty { (output.old.bytes.items ≡ []) × (output.old.failed ≡ false) }
+    ensures rewritten { IfOk result (λ summary. IfSome (R.seen input.old).left (λ read.
+        IsRewritten options.now table.now read output.new.bytes.items summary)) }
+    ensures refused { IfErr result (λ fault. IfSome (R.seen input.old).left (λ read.
+        IsTooMuch read fault)) }
+    ensures front { IfErr result (λ _. IfSome (R.seen input.old).left (λ read.
+        HasFront options.now table.now read output.new.bytes.items)) }
+{
+    let mut maps = UrlMaps {
+        table,
+        cut: options.cut,
+    };
+    let by_frames = FrameOptions {
+        hiding: Hiding::only_ignored(options.hide_ignored),
+        most: MOST_TEXT_BYTES,
+    };
+    let counts = rewrite_over(alloc, input, output, &mut maps, by_frames)?;
+    Ok(counts.summary)
+}
