@@ -1,7 +1,7 @@
 -- What the bytes of a map file give (ECMA-426, Source map format): the first refusal, or the record of the map. This
 -- project's own are: that each fault refuses the whole file, the order of the refusals, the limits, and that a key at
 -- null counts as absent.
-use Rattle.std.specs.Prelude.{ℕ, List, Option, nat_lt, if◌then◌else◌, length, flat_map, ok_or, option_map, Result, Ok, Err}
+use Rattle.std.specs.Prelude.{ℕ, List, None, Option, nat_lt, if◌then◌else◌, length, flat_map, ok_or, option_map, Result, Ok, Err}
 use Rattle.serde_json.specs.Data.{Members, object}
 use Rattle.serde_json.specs.Find.{as_object}
 use Rattle.url.specs.Parts.{Parts}
