@@ -3,8 +3,8 @@
     try.py FOLDER LANGUAGE PROGRAM..
 
 where FOLDER is for the releases, LANGUAGE is what the service is written in, and PROGRAM is how it is started, with the script. EVENTS is how
-many events are sent, 10,000 if it is not given. Then the clients of unkind.py ask. It prints `service N`, how many frames were the same, and how many events were answered in
-a second."""
+many events are sent, 10,000 if it is not given. Then the clients of unkind.py ask. It prints `service N`, how many frames were the same,
+and how many events were answered in a second."""
 
 import bisect
 import http.client
