@@ -85,8 +85,8 @@ function answerTo(maps, frames) {
   return `{"frames":[${parts.join(',')}]}`;
 }
 
-// The body of any request: what were left of one would be taken for the next request. The server itself refuses a second length, and one
-// that is no number.
+// The body of any request: what were left of one would be taken for the next request. The server itself refuses a second length,
+// and one that is no number.
 function bodyOf(request) {
   const { 'content-length': length = request.method === 'GET' ? '0' : undefined, 'transfer-encoding': coding } = request.headers;
   if (coding !== undefined) throw new Wrong(411, 'the request is in chunks');
@@ -132,8 +132,8 @@ function refuse(error, socket) {
   if (!socket.writable || error.code === 'ECONNRESET' || error.code === 'ERR_HTTP_REQUEST_TIMEOUT') return socket.destroy();
   const reason = /CONTENT_LENGTH/.test(error.code) ? 'the request has not one length' : 'the request is no HTTP';
   const text = JSON.stringify({ reason });
-  const head = `HTTP/1.1 400 Bad Request\r\nContent-Type: application/json\r\nContent-Length: ${text.length}\r\nConnection: close\r\n\r\n`;
-  return socket.end(head + text, () => socket.destroy());
+  const head = ['HTTP/1.1 400 Bad Request', 'Content-Type: application/json', `Content-Length: ${text.length}`, 'Connection: close'];
+  return socket.end([...head, '', text].join('\r\n'), () => socket.destroy());
 }
 
 function main(prefix, folder, port = '8000', megabytes = '200') {
@@ -143,7 +143,8 @@ function main(prefix, folder, port = '8000', megabytes = '200') {
     console.error(`refused: ${url}: ${`${error.message}`.split('\n')[0]}`);
   };
   service.maps = Maps.folder(prefix, folder, { maxBytes: Number(megabytes) * 2 ** 20, refused: tell });
-  const times = { requestTimeout: MILLISECONDS, headersTimeout: MILLISECONDS, keepAliveTimeout: MILLISECONDS, connectionsCheckingInterval: 500 };
+  const [requestTimeout, headersTimeout, keepAliveTimeout] = Array(3).fill(MILLISECONDS);
+  const times = { requestTimeout, headersTimeout, keepAliveTimeout, connectionsCheckingInterval: 500 };
   const server = http.createServer(times, (request, response) => answerRequest(service, request, response));
   server.maxConnections = MOST_CLIENTS;
   server.on('clientError', refuse);

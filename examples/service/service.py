@@ -6,15 +6,16 @@ A frame of PREFIXr1/app.js has the map FOLDER/r1/app.js.map. `POST /symbolicate`
 
     {"frames": [{"filename": "https://example.test/r1/app.js", "lineno": 1, "colno": 1031}, ..]}
 
-lines and columns from 1, and answers with the frames, each with its `original`, or null: `source`, `lineno`, `colno`, `name`, `ignored`, and
-where the map has the source's content, its line and up to two before and after it in `context`: `before`, `line`, `after`, each cut to the
-whole characters among its first 500 bytes, and `cut`, which is true where one had more. `GET /health` says what is kept. Maps are kept
-while they count for at most so many megabytes, 200 if not given. PORT 0 is any that is free; the address is printed.
+lines and columns from 1, and answers with the frames, each with its `original`, or null: `source`, `lineno`, `colno`, `name`,
+`ignored`, and where the map has the source's content, its line and up to two before and after it in `context`: `before`, `line`,
+`after`, each cut to the whole characters among its first 500 bytes, and `cut`, which is true where one had more. `GET /health`
+says what is kept. Maps are kept while they count for at most so many megabytes, 200 if not given. PORT 0 is any that is free; the
+address is printed.
 
-What is wrong is answered with a reason: with 400 what is wrong with an event or a request, with 404 another path, with 411 a body in
-chunks, with 413 an event of more than 1 MiB or an answer of more than 16 MiB, and with 500 what is wrong here. A body is read whole, or
-the connection closed. A client has 10 seconds for a request, and as many for its answer. 64 clients are served at once, and more are
-closed."""
+What is wrong is answered with a reason: with 400 what is wrong with an event or a request, with 404 another path, with 411 a body
+in chunks, with 413 an event of more than 1 MiB or an answer of more than 16 MiB, and with 500 what is wrong here. A body is read
+whole, or the connection closed. A client has 10 seconds for a request, and as many for its answer. 64 clients are served at once,
+and more are closed."""
 
 import io
 import json
@@ -87,13 +88,13 @@ def symbolicated(maps, url, line, column):
 
 def shortened(context):
     """Lines of which none has too many bytes, and whether one had."""
-    before, line, after = [begin_of(line) for line in context.before], begin_of(context.line), [begin_of(line) for line in context.after]
+    before, (line,), after = map(begins_of, [context.before, [context.line], context.after])
     return {"before": before, "line": line, "after": after, "cut": (before, line, after) != context}
 
 
-def begin_of(line):
+def begins_of(lines):
     # A character that does not fit is left out whole.
-    return line.encode()[:MOST_LINE].decode(errors="ignore")
+    return [line.encode()[:MOST_LINE].decode(errors="ignore") for line in lines]
 
 
 def answer_to(maps, frames):
@@ -186,8 +187,8 @@ class Handler(BaseHTTPRequestHandler):
 
     def answer(self, status, text):
         close = "Connection: close\r\n" if self.close_connection else ""
-        head = (f"HTTP/1.1 {status} {HTTPStatus(status).phrase}\r\nDate: {self.date_time_string()}\r\nContent-Type: application/json\r\n"
-                f"Content-Length: {len(text)}\r\n{close}\r\n")
+        head = (f"HTTP/1.1 {status} {HTTPStatus(status).phrase}\r\nDate: {self.date_time_string()}\r\n"
+                f"Content-Type: application/json\r\nContent-Length: {len(text)}\r\n{close}\r\n")
         self.connection.settimeout(SECONDS)
         # A second write would wait for the client's word of the first.
         self.wfile.write((head + text).encode())

@@ -1,4 +1,4 @@
-"""Clients that ask the services of examples/service/ for what they are not to give: requests in bodies, much at once, and much time."""
+"""Clients that ask the services of examples/service/ for what they are not to give: requests in bodies, much at once, and time."""
 
 import json
 import re
@@ -126,7 +126,7 @@ def large(port, folder, prefix):
 
 
 def left(what, client, pieces, failures):
-    """The client sends a piece every half second, and the last of them again. It is left soon after the time that a request may have."""
+    """The client sends a piece every half second, the last of them again and again, and is left after the time for a request."""
     begun = time.monotonic()
     client.settimeout(0.5)
     pieces = list(pieces)
