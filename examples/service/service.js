@@ -6,9 +6,12 @@ const http = require('node:http');
 const { Maps } = require('smap');
 
 const MOST_BYTES = 1 << 20;
+const MOST_ANSWER = 16 << 20;
 const MOST_FRAMES = 1000;
+const MOST_LINE = 500;
 const MOST_NUMBER = 2 ** 31;
-// A client that sends nothing for so long is left.
+const MOST_CLIENTS = 64;
+// A client that takes longer for a whole request, or for an answer, is left.
 const MILLISECONDS = 10000;
 
 // What is answered in place of frames: a status and a reason.
@@ -50,60 +53,101 @@ function symbolicated(maps, { filename, lineno, colno }) {
   const place = maps.lookUp(filename, lineno, colno - 1);
   if (!place) return { filename, lineno, colno, original: null };
   const { source, line, column, name, ignored, index } = place;
-  const context = maps.context(filename, index, line);
+  const whole = maps.context(filename, index, line);
+  const context = whole && shortened(whole);
   return { filename, lineno, colno, original: { source, lineno: line, colno: column + 1, name, ignored, context } };
 }
 
-function answer(response, status, value, isLast = false) {
-  const text = Buffer.from(JSON.stringify(value));
-  const close = isLast ? { Connection: 'close' } : {};
-  response.writeHead(status, { 'Content-Type': 'application/json', 'Content-Length': text.length, ...close });
-  response.end(text);
+// Lines of which none has too many bytes, and whether one had.
+function shortened({ before, line, after }) {
+  const cut = [...before, line, ...after].some((each) => Buffer.byteLength(each) > MOST_LINE);
+  return { before: before.map(beginOf), line: beginOf(line), after: after.map(beginOf), cut };
 }
 
-// The body of a request, of which no more is kept than it may have.
+function beginOf(line) {
+  const bytes = Buffer.from(line);
+  let end = MOST_LINE;
+  // A character that does not fit is left out whole.
+  while ((bytes[end] & 0xc0) === 0x80) end -= 1;
+  return bytes.toString('utf8', 0, end);
+}
+
+// The text of the frames with their originals, which is made no longer than it may be.
+function answerTo(maps, frames) {
+  const parts = [];
+  let size = 0;
+  for (const frame of frames) {
+    const part = JSON.stringify(symbolicated(maps, frame));
+    size += Buffer.byteLength(part);
+    if (size > MOST_ANSWER) throw new Wrong(413, `the answer has more than ${MOST_ANSWER} bytes`);
+    parts.push(part);
+  }
+  return `{"frames":[${parts.join(',')}]}`;
+}
+
+// The body of any request: what were left of one would be taken for the next request. The server itself refuses a second length,
+// and one that is no number.
 function bodyOf(request) {
+  const { 'content-length': length = request.method === 'GET' ? '0' : undefined, 'transfer-encoding': coding } = request.headers;
+  if (coding !== undefined) throw new Wrong(411, 'the request is in chunks');
+  if (length === undefined || length.length > 15) throw new Wrong(400, 'the request has not one length');
+  if (Number(length) > MOST_BYTES) throw new Wrong(413, `the event has more than ${MOST_BYTES} bytes`);
   return new Promise((resolve, reject) => {
     const parts = [];
-    let length = Number(request.headers['content-length']) > MOST_BYTES ? Infinity : 0;
-    const refuse = () => reject(new Wrong(413, `the event has more than ${MOST_BYTES} bytes`));
-    if (length > MOST_BYTES) refuse();
-    request.on('data', (part) => {
-      length += part.length;
-      if (length > MOST_BYTES) refuse();
-      else parts.push(part);
-    });
+    request.on('data', (part) => parts.push(part));
     request.on('end', () => resolve(Buffer.concat(parts).toString()));
     request.on('close', () => reject(new Gone()));
   });
 }
 
-async function answerPost(maps, request, response) {
+function textFor(service, { method, url }, body) {
+  const { maps, refused } = service;
+  if (method === 'GET' && url === '/health') return JSON.stringify({ maps: maps.size, bytes: maps.nbytes, refused });
+  if (method === 'POST' && url === '/symbolicate') return answerTo(maps, framesOf(body));
+  throw new Wrong(404, 'there is no such path');
+}
+
+async function answerRequest(service, request, response) {
+  const answer = (status, text, headers) => {
+    const late = setTimeout(() => response.destroy(), MILLISECONDS);
+    response.on('close', () => clearTimeout(late));
+    response.writeHead(status, { 'Content-Type': 'application/json', 'Content-Length': Buffer.byteLength(text), ...headers });
+    response.end(text);
+  };
+  let isRead = false;
   try {
-    if (request.url !== '/symbolicate') throw new Wrong(404, 'there is no such path');
-    const frames = framesOf(await bodyOf(request));
-    answer(response, 200, { frames: frames.map((frame) => symbolicated(maps, frame)) });
+    if (!['GET', 'POST'].includes(request.method)) throw new Wrong(501, 'there is no such method');
+    const body = await bodyOf(request);
+    isRead = true;
+    answer(200, textFor(service, request, body));
   } catch (error) {
     if (error instanceof Gone) return;
     const [status, reason] = error instanceof Wrong ? [error.status, error.message] : [500, `${error.name} in the service`];
-    answer(response, status, { reason }, status === 413);
+    answer(status, JSON.stringify({ reason }), isRead ? {} : { Connection: 'close' });
   }
 }
 
+// What the server itself refuses, before the headers are read.
+function refuse(error, socket) {
+  if (!socket.writable || error.code === 'ECONNRESET' || error.code === 'ERR_HTTP_REQUEST_TIMEOUT') return socket.destroy();
+  const reason = /CONTENT_LENGTH/.test(error.code) ? 'the request has not one length' : 'the request is no HTTP';
+  const text = JSON.stringify({ reason });
+  const head = ['HTTP/1.1 400 Bad Request', 'Content-Type: application/json', `Content-Length: ${text.length}`, 'Connection: close'];
+  return socket.end([...head, '', text].join('\r\n'), () => socket.destroy());
+}
+
 function main(prefix, folder, port = '8000', megabytes = '200') {
-  let refused = 0;
+  const service = { refused: 0 };
   const tell = (url, error) => {
-    refused += 1;
+    service.refused += 1;
     console.error(`refused: ${url}: ${`${error.message}`.split('\n')[0]}`);
   };
-  const maps = Maps.folder(prefix, folder, { maxBytes: Number(megabytes) * 2 ** 20, refused: tell });
-  const server = http.createServer((request, response) => {
-    if (request.method === 'POST') answerPost(maps, request, response);
-    else if (request.url === '/health') answer(response, 200, { maps: maps.size, bytes: maps.nbytes, refused });
-    else answer(response, 404, { reason: 'there is no such path' });
-  });
-  server.requestTimeout = MILLISECONDS;
-  server.on('clientError', (error, socket) => socket.destroy());
+  service.maps = Maps.folder(prefix, folder, { maxBytes: Number(megabytes) * 2 ** 20, refused: tell });
+  const [requestTimeout, headersTimeout, keepAliveTimeout] = Array(3).fill(MILLISECONDS);
+  const times = { requestTimeout, headersTimeout, keepAliveTimeout, connectionsCheckingInterval: 500 };
+  const server = http.createServer(times, (request, response) => answerRequest(service, request, response));
+  server.maxConnections = MOST_CLIENTS;
+  server.on('clientError', refuse);
   server.listen(Number(port), '127.0.0.1', () => console.log(`http://127.0.0.1:${server.address().port}`));
 }
 

@@ -6,21 +6,37 @@ A frame of PREFIXr1/app.js has the map FOLDER/r1/app.js.map. `POST /symbolicate`
 
     {"frames": [{"filename": "https://example.test/r1/app.js", "lineno": 1, "colno": 1031}, ..]}
 
-lines and columns from 1, and answers with the frames, each with its `original`, or null: `source`, `lineno`, `colno`, `name`, `ignored`, and
-up to two lines before and after it, where the map has the source's content, in `context`. `GET /health` says what is kept. Maps are
-kept while they count for at most so many megabytes, 200 if not given. What is wrong with an event is answered with 400, one of more
-than a megabyte with 413, what is wrong here with 500, each with a reason. PORT 0 is any that is free; the address is printed."""
+lines and columns from 1, and answers with the frames, each with its `original`, or null: `source`, `lineno`, `colno`, `name`,
+`ignored`, and where the map has the source's content, its line and up to two before and after it in `context`: `before`, `line`,
+`after`, each cut to the whole characters among its first 500 bytes, and `cut`, which is true where one had more. `GET /health`
+says what is kept. Maps are kept while they count for at most so many megabytes, 200 if not given. PORT 0 is any that is free; the
+address is printed.
 
+What is wrong is answered with a reason: with 400 what is wrong with an event or a request, with 404 another path, with 411 a body
+in chunks, with 413 an event of more than 1 MiB or an answer of more than 16 MiB, and with 500 what is wrong here. A body is read
+whole, or the connection closed. A client has 10 seconds for a request, and as many for its answer. 64 clients are served at once,
+and more are closed."""
+
+import io
 import json
+import re
+import socket
 import sys
+import threading
+import time
+from http import HTTPStatus
 from http.server import BaseHTTPRequestHandler, ThreadingHTTPServer
 
 from smap import Maps
 
 MOST_BYTES = 1 << 20
+MOST_ANSWER = 16 << 20
 MOST_FRAMES = 1000
+MOST_LINE = 500
 MOST_NUMBER = 2**31
-# A client that sends nothing for so long is left.
+MOST_CLIENTS = 64
+LENGTH = re.compile("[0-9]{1,15}")
+# A client that takes longer for a whole request, or for an answer, is left.
 SECONDS = 10
 
 
@@ -65,57 +81,117 @@ def symbolicated(maps, url, line, column):
         context = source_map.context(place.index, place.line)
         frame["original"] = {
             "source": place.source, "lineno": place.line + 1, "colno": place.column + 1, "name": place.name,
-            "ignored": place.ignored, "context": context and context._asdict(),
+            "ignored": place.ignored, "context": context and shortened(context),
         }
     return frame
 
 
+def shortened(context):
+    """Lines of which none has too many bytes, and whether one had."""
+    before, (line,), after = map(begins_of, [context.before, [context.line], context.after])
+    return {"before": before, "line": line, "after": after, "cut": (before, line, after) != context}
+
+
+def begins_of(lines):
+    # A character that does not fit is left out whole.
+    return [line.encode()[:MOST_LINE].decode(errors="ignore") for line in lines]
+
+
+def answer_to(maps, frames):
+    """The text of the frames with their originals, which is made no longer than it may be."""
+    parts, size = [], 0
+    for frame in frames:
+        parts.append(json.dumps(symbolicated(maps, *frame)))
+        size += len(parts[-1])
+        if size > MOST_ANSWER:
+            raise Wrong(413, f"the answer has more than {MOST_ANSWER} bytes")
+    return '{"frames": [' + ", ".join(parts) + "]}"
+
+
+class Sent(io.RawIOBase):
+    """What a client sends, until a time that is set for each request."""
+
+    def __init__(self, connection):
+        self.connection, self.until = connection, 0
+
+    def readable(self):
+        return True
+
+    def readinto(self, buffer):
+        left = self.until - time.monotonic()
+        if left <= 0:
+            raise socket.timeout
+        self.connection.settimeout(left)
+        return self.connection.recv_into(buffer)
+
+
 class Handler(BaseHTTPRequestHandler):
     protocol_version = "HTTP/1.1"
-    timeout = SECONDS
+
+    def setup(self):
+        super().setup()
+        self.sent = Sent(self.connection)
+        self.rfile = io.BufferedReader(self.sent)
+
+    def handle_one_request(self):
+        self.sent.until = time.monotonic() + SECONDS
+        super().handle_one_request()
 
     def do_GET(self):
-        maps = self.server.maps
-        if self.path != "/health":
-            return self.answer(404, {"reason": "there is no such path"})
-        return self.answer(200, {"maps": len(maps), "bytes": maps.nbytes, "refused": self.server.refused})
-
-    def do_POST(self):
+        # Until its body is read, what is left of the request would be taken for the next one.
+        closes, self.close_connection = self.close_connection, True
         try:
-            if self.path != "/symbolicate":
-                raise Wrong(404, "there is no such path")
-            frames = frames_of(self.body())
-            self.answer(200, {"frames": [symbolicated(self.server.maps, *frame) for frame in frames]})
+            body = self.body()
+            self.close_connection = closes
+            self.answer(200, self.text(body))
         except Wrong as wrong:
-            self.answer(wrong.status, {"reason": str(wrong)})
+            self.refuse(wrong.status, str(wrong))
         except OSError:
             # The client is gone, or does not send what it said.
             self.close_connection = True
         except Exception as error:
-            self.answer(500, {"reason": f"{type(error).__name__} in the service"})
+            self.refuse(500, f"{type(error).__name__} in the service")
+
+    do_POST = do_GET
 
     def body(self):
-        length = self.headers.get("Content-Length", "")
-        if not (length.isascii() and length.isdigit()):
-            self.close_connection = True
-            raise Wrong(400, "the request has no length")
-        if int(length) > MOST_BYTES:
-            self.close_connection = True
+        lengths = self.headers.get_all("Content-Length", ["0"] if self.command == "GET" else [])
+        if self.headers.defects:
+            raise Wrong(400, "the request is no HTTP")
+        if "Transfer-Encoding" in self.headers:
+            raise Wrong(411, "the request is in chunks")
+        if len(lengths) != 1 or not LENGTH.fullmatch(lengths[0]):
+            raise Wrong(400, "the request has not one length")
+        if int(lengths[0]) > MOST_BYTES:
             raise Wrong(413, f"the event has more than {MOST_BYTES} bytes")
-        body = self.rfile.read(int(length))
-        if len(body) < int(length):
+        body = self.rfile.read(int(lengths[0]))
+        if len(body) < int(lengths[0]):
             raise ConnectionError
         return body
 
-    def answer(self, status, value):
-        text = json.dumps(value).encode()
-        self.send_response(status)
-        self.send_header("Content-Type", "application/json")
-        self.send_header("Content-Length", str(len(text)))
-        if self.close_connection:
-            self.send_header("Connection", "close")
-        self.end_headers()
-        self.wfile.write(text)
+    def text(self, body):
+        maps = self.server.maps
+        if (self.command, self.path) == ("GET", "/health"):
+            return json.dumps({"maps": len(maps), "bytes": maps.nbytes, "refused": self.server.refused})
+        if (self.command, self.path) == ("POST", "/symbolicate"):
+            return answer_to(maps, frames_of(body))
+        raise Wrong(404, "there is no such path")
+
+    def send_error(self, code, message=None, explain=None):
+        """What is refused before the headers are read."""
+        self.close_connection = True
+        self.refuse(*((501, "there is no such method") if code == 501 else (400, "the request is no HTTP")))
+
+    def refuse(self, status, reason):
+        self.answer(status, json.dumps({"reason": reason}))
+
+    def answer(self, status, text):
+        close = "Connection: close\r\n" if self.close_connection else ""
+        head = (f"HTTP/1.1 {status} {HTTPStatus(status).phrase}\r\nDate: {self.date_time_string()}\r\n"
+                f"Content-Type: application/json\r\nContent-Length: {len(text)}\r\n{close}\r\n")
+        self.connection.settimeout(SECONDS)
+        # A second write would wait for the client's word of the first.
+        self.wfile.write((head + text).encode())
 
     def log_message(self, *_):
         pass
@@ -125,6 +201,10 @@ class Server(ThreadingHTTPServer):
     daemon_threads = True
     request_queue_size = 128
     refused = 0
+
+    def verify_request(self, request, client_address):
+        # Each client has a thread, beside that which takes them.
+        return threading.active_count() <= MOST_CLIENTS
 
     def tell(self, url, error):
         self.refused += 1

@@ -3,11 +3,12 @@
     try.py FOLDER LANGUAGE PROGRAM..
 
 where FOLDER is for the releases, LANGUAGE is what the service is written in, and PROGRAM is how it is started, with the script. EVENTS is how
-many events are sent, 10,000 if it is not given. It prints `service N`, how many frames were the same, and how many events were answered in
-a second."""
+many events are sent, 10,000 if it is not given. Then the clients of unkind.py ask. It prints `service N`, how many frames were the same,
+and how many events were answered in a second."""
 
 import bisect
 import http.client
+import itertools
 import json
 import os
 import random
@@ -20,6 +21,9 @@ import threading
 import time
 from pathlib import Path
 from urllib.parse import urljoin
+
+import unkind
+from unkind import insist
 
 PREFIX = "https://example.test/releases/"
 EXAMPLES = Path(__file__).resolve().parent.parent.parent / "examples"
@@ -37,6 +41,12 @@ def numbers(segment):
         if not digit & 32:
             yield -(value >> 1) if value & 1 else value >> 1
             value = shift = 0
+
+
+def beginning(line):
+    """The characters that begin a line and have together at most 500 bytes."""
+    ends = itertools.accumulate(len(sign.encode()) for sign in line)
+    return "".join(sign for sign, end in zip(line, ends) if end <= 500)
 
 
 class Reader:
@@ -68,18 +78,16 @@ class Reader:
         lines = content.replace("\r\n", "\n").replace("\r", "\n").replace("\u2028", "\n").replace("\u2029", "\n").split("\n") if content is not None else []
         context = None
         if original_line < len(lines):
-            before = lines[max(0, original_line - 2):original_line]
-            context = {"before": before, "line": lines[original_line], "after": lines[original_line + 1:original_line + 3]}
+            begin = max(0, original_line - 2)
+            near = lines[begin:original_line + 3]
+            short = [beginning(line) for line in near]
+            at = original_line - begin
+            context = {"before": short[:at], "line": short[at], "after": short[at + 1:], "cut": short != near}
         return {
             "source": urljoin(self.url, self.map["sources"][source]), "lineno": original_line + 1, "colno": original_column + 1,
             "name": self.map["names"][name[0]] if name else None,
             "ignored": source in (self.map.get("ignoreList") or self.map.get("x_google_ignoreList") or []), "context": context,
         }
-
-
-def insist(what, given, wanted):
-    if given != wanted:
-        sys.exit(f"service: {what}: {given!r:.300} in place of {wanted!r:.300}")
 
 
 def releases(folder):
@@ -244,6 +252,11 @@ def main(folder, language, *program):
         damaged(port, folder)
         grown = resident(process) - at_first
         insist("memory", grown < (MEGABYTES + 60) << 20, True)
+        unkind.bodies(port)
+        unkind.in_one_piece(port)
+        unkind.large(port, folder, PREFIX)
+        unkind.slow(port, PREFIX)
+        unkind.many(port, process)
         print(f"service {sum(same)} in {language}: {events // CLIENTS * CLIENTS / seconds:.0f} events in a second, {grown / 2**20:.0f} MiB more")
         insist("that it runs", process.poll(), None)
     finally:

@@ -284,6 +284,11 @@ impl Refused {
         Refused::new(Some(String::from("* is not for places anywhere")))
     }
 
+    /// Why no folder stands under a prefix.
+    pub(crate) fn prefix() -> Refused {
+        Refused::new(Some(String::from("a prefix ends in / and is no pattern")))
+    }
+
     /// Of calls that refuse nothing.
     pub(crate) fn nothing() -> Refused {
         Refused::new(None)

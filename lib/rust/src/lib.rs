@@ -31,6 +31,7 @@ mod rewriting;
 mod sys;
 mod table;
 mod token;
+mod urls;
 
 pub use compose::ComposeOptions;
 pub use error::{Code, Error, Reason, Refused};

@@ -17,7 +17,7 @@ pub(crate) use bytes::Bytes;
 pub(crate) use inners::Inners;
 pub(crate) use map::{Map, Source, USUAL_INTERVAL};
 pub(crate) use originals::Originals;
-pub(crate) use table::{frame_urls, Table};
+pub(crate) use table::{cut_url, frame_urls, Table};
 pub(crate) use texts::{
     compose_refusal_text, generated_refusal_text, reason, refusal_text, rewrite_refusal_text,
     table_refusal_text, version, write_refusal_text,

@@ -1,14 +1,18 @@
 //! Tables of maps, and the traces that are rewritten over them.
 
+mod asking;
+
 use crate::compose::standing_at;
 use crate::error::{Error, Refused};
 use crate::library;
 use crate::map::SourceMap;
 use crate::rewriting::{Rewriting, What};
 use crate::sys;
+use crate::urls::read_in;
 use std::collections::HashSet;
 use std::fmt;
 use std::io::{self, Read, Write};
+use std::path::PathBuf;
 
 /// Maps, each under the URL that the frames of a trace name.
 ///
@@ -27,15 +31,12 @@ use std::io::{self, Read, Write};
 pub struct Table {
     table: library::Table,
     load: Option<Loader>,
-    /// The URLs of frames that have a map or were asked for.
+    /// The URLs that have a map or were asked for.
     known: HashSet<Vec<u8>>,
     has_patterns: bool,
     has_map_of_all: bool,
     refusals: Vec<(String, Error)>,
 }
-
-/// So many refusals of a loader's maps are kept.
-const MOST_REFUSALS: usize = 100;
 
 type Loader = Box<dyn FnMut(&str) -> Result<Option<library::Map>, Error> + Send>;
 
@@ -57,23 +58,26 @@ impl Table {
         })
     }
 
-    /// A table that asks for the map of each URL that it has none of, once, when a frame first
-    /// names it. `load` gives the bytes of the map file, or `None` where there is none. The map
-    /// stands at the URL where that is one. Where it is refused or `load` fails, the frames stay,
-    /// the rewriting goes on, and [`refusals`](Table::refusals) has why.
+    /// A table that asks for the map of each URL or path that it has none of, once, when a frame first
+    /// names it: for what stands before its first `?` or `#`, if that holds `://`, is an absolute path,
+    /// or ends in `.js`, `.mjs`, `.cjs` or `.bundle` and has no empty piece and no `..`. `load` gives the
+    /// bytes of the map file, or `None` where there is none. The map stands at the URL where that is
+    /// one, and serves each query. Where it is refused or `load` fails, the frames stay, the rewriting
+    /// goes on, and [`refusals`](Table::refusals) has why.
+    ///
+    /// What is asked for is from the trace, and a URL may have `..` in it. For files take
+    /// [`with_folder`](Table::with_folder).
     ///
     /// ```
     /// use smap::Table;
-    /// use std::{fs, io};
     ///
-    /// let mut table = Table::with_loader(|url| match url.strip_prefix("https://example.test/") {
-    ///     Some(path) => fs::read(format!("../../examples/{}.map", path)).map(Some),
-    ///     None => Ok(None),
+    /// let mut table = Table::with_loader(|url| match url {
+    ///     "https://ex.test/a.js" => Ok(Some(r#"{"version":3,"sources":["a.ts"],"mappings":"AAEA"}"#)),
+    ///     _ => Ok(None),
     /// })?;
-    /// let trace = "at Object.total (https://example.test/receipt.min.js:2:4472)";
     /// let mut rewritten = Vec::new();
-    /// table.rewrite(trace.as_bytes(), &mut rewritten)?;
-    /// assert_eq!(rewritten, b"at Object.total (https://example.test/src/receipt.ts:11:47)");
+    /// table.rewrite("f@https://ex.test/a.js?v=2:1:7\n".as_bytes(), &mut rewritten)?;
+    /// assert_eq!(rewritten, b"f@https://ex.test/a.ts:3:1\n");
     /// # Ok::<(), smap::Error>(())
     /// ```
     pub fn with_loader<L, B>(mut load: L) -> Result<Table, Error>
@@ -89,6 +93,32 @@ impl Table {
             load: Some(Box::new(load)),
             ..Table::new()?
         })
+    }
+
+    /// A table of the maps of the URLs that begin with this prefix, which ends in `/`, in a folder, as the
+    /// program has them of `PREFIX=FOLDER/`: that of PREFIXjs/app.js is js/app.js.map. Each is read
+    /// when a frame first names its URL, as [`with_loader`](Table::with_loader) says. No URL leads out of
+    /// the folder, and links in it are followed. A file that is not there is no map.
+    ///
+    /// ```
+    /// use smap::Table;
+    ///
+    /// let mut table = Table::with_folder("https://example.test/", "../../examples")?;
+    /// let trace = "at Object.total (https://example.test/receipt.min.js:2:4472)";
+    /// let mut rewritten = Vec::new();
+    /// table.rewrite(trace.as_bytes(), &mut rewritten)?;
+    /// assert_eq!(rewritten, b"at Object.total (https://example.test/src/receipt.ts:11:47)");
+    /// # Ok::<(), smap::Error>(())
+    /// ```
+    pub fn with_folder(
+        prefix: impl Into<String>,
+        folder: impl Into<PathBuf>,
+    ) -> Result<Table, Error> {
+        let (prefix, folder) = (prefix.into(), folder.into());
+        if !prefix.ends_with('/') || prefix.starts_with('*') {
+            return Err(Refused::prefix().into());
+        }
+        Table::with_loader(move |url| read_in(&folder, &prefix, url))
     }
 
     /// Puts a map under a URL. One that no frame can name is refused, and one that has a map. A URL
@@ -202,58 +232,6 @@ impl Table {
             return Err(Refused::places_of_all().into());
         }
         Rewriting::new(self, What::Places, writer).run(reader)
-    }
-}
-
-impl Table {
-    /// What a text comes to, whose lines are whole, with the maps of all its frames.
-    pub(crate) fn rewritten(
-        &mut self,
-        text: &[u8],
-        what: What,
-    ) -> Result<(library::Bytes, TraceCounts), Error> {
-        self.ask(text)?;
-        let options = sys::smap_rewrite_options {
-            hide_ignored: what == What::VisibleFrames,
-            anywhere: what == What::Places,
-            strip_ansi: false,
-            cut: self.has_patterns,
-        };
-        let (text, counts) = self.table.rewritten(text, &options)?;
-        Ok((text, TraceCounts::of(&counts)))
-    }
-
-    /// Asks for the maps of frames whose URLs are new, and which no pattern has. A URL that is not
-    /// UTF-8, or that no table takes, has none, and what reads as a pattern is no URL.
-    fn ask(&mut self, trace: &[u8]) -> Result<(), Error> {
-        let load = match &mut self.load {
-            Some(load) => load,
-            None => return Ok(()),
-        };
-        for bytes in library::frame_urls(trace) {
-            if self.known.contains(bytes) || bytes.starts_with(b"*") {
-                continue;
-            }
-            if self.has_patterns && self.table.has(bytes) {
-                continue;
-            }
-            if let Ok(url) = std::str::from_utf8(bytes) {
-                match load(url) {
-                    Ok(None) => (),
-                    Ok(Some(map)) => match self.table.add(url, map) {
-                        Ok(()) | Err(Error::Refused(_)) => (),
-                        Err(error) => return Err(error),
-                    },
-                    Err(error) => {
-                        if self.refusals.len() < MOST_REFUSALS {
-                            self.refusals.push((url.to_string(), error));
-                        }
-                    }
-                }
-            }
-            self.known.insert(bytes.to_vec());
-        }
-        Ok(())
     }
 }
 

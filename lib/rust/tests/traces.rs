@@ -1,6 +1,5 @@
 //! Traces and logs, rewritten as they are read. What is expected was worked out by hand.
 use smap::{Error, SourceMap, Table, TraceCounts};
-use std::cell::Cell;
 use std::io::{self, ErrorKind, Read, Write};
 use std::sync::{Arc, Mutex};
 
@@ -240,58 +239,4 @@ fn patterns_have_many_urls() {
     assert_eq!(to, b"12:30:45 {\"at\":\"any.ts:3:1\"}\n");
     table.insert("*", map("all.ts")).expect("a map of all");
     assert!(table.rewrite_anywhere(text.as_bytes(), &mut to).is_err());
-}
-
-#[test]
-fn a_loader_is_asked_when_a_frame_names_the_url() {
-    let asked = Arc::new(Mutex::new(Vec::new()));
-    let seen = asked.clone();
-    let mut table = Table::with_loader(move |url| {
-        seen.lock().expect("a lock").push(url.to_string());
-        Ok(url.ends_with("a.js").then_some(MAP))
-    })
-    .expect("a table");
-    let mut to = Vec::new();
-    let trace = b"f@https://ex.test/a.js:1:1\nf@b.js:1:1\nf@\xff:1:1\nat a.js:1:1\nf@https://ex.test/a.js:1:1\n";
-    for _ in 0..2 {
-        to.clear();
-        table.rewrite(&trace[..], &mut to).expect("a trace");
-    }
-    let made = b"f@https://ex.test/a.ts:3:1\nf@b.js:1:1\nf@\xff:1:1\nat a.ts:3:1\nf@https://ex.test/a.ts:3:1\n";
-    assert_eq!(to, made);
-    assert_eq!(
-        *asked.lock().expect("a lock"),
-        ["https://ex.test/a.js", "b.js", "a.js"]
-    );
-}
-
-#[test]
-fn a_loader_that_fails_is_told_and_the_rest_goes_on() {
-    let times = Cell::new(0);
-    let mut table = Table::with_loader(move |url| {
-        times.set(times.get() + 1);
-        assert!(times.get() <= 3, "asked again for {}", url);
-        match url {
-            "gone.js" => Err(ErrorKind::NotFound.into()),
-            "bad.js" => Ok(Some("no JSON")),
-            _ => Ok(Some(MAP)),
-        }
-    })
-    .expect("a table");
-    let mut to = Vec::new();
-    let trace = b"f@gone.js:1:1\nf@bad.js:1:1\nf@a.js:1:1\nf@bad.js:1:1\n";
-    let counts = table.rewrite(&trace[..], &mut to).expect("a trace");
-    assert_eq!(
-        to,
-        b"f@gone.js:1:1\nf@bad.js:1:1\nf@a.ts:3:1\nf@bad.js:1:1\n"
-    );
-    assert_eq!((counts.frames, counts.mapped), (4, 1));
-    let told: Vec<&str> = table
-        .refusals()
-        .iter()
-        .map(|(url, _)| url.as_str())
-        .collect();
-    assert_eq!(told, ["gone.js", "bad.js"]);
-    assert!(matches!(table.refusals()[0].1, Error::Io(_)));
-    assert_eq!(table.refusals()[1].1.to_string(), "bad.js: M2 NotJson");
 }

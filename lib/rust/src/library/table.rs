@@ -1,8 +1,9 @@
 //! Tables of maps, and what they make of texts.
 
-use super::{done, no_source, no_text, Bytes, Map};
+use super::{done, lent, no_source, no_text, Bytes, Map};
 use crate::error::{Error, Refused};
 use crate::sys;
+use std::ops::Range;
 use std::ptr;
 
 /// Maps, each under a URL.
@@ -76,16 +77,23 @@ impl Drop for Table {
     }
 }
 
-/// The URL of each frame of a trace, in turn.
-pub(crate) fn frame_urls(trace: &[u8]) -> impl Iterator<Item = &[u8]> {
+/// A URL without its query and its fragment.
+pub(crate) fn cut_url(url: &[u8]) -> &[u8] {
+    let mut text = no_text();
+    // What is lent is a part of the URL.
+    unsafe {
+        sys::smap_cut_url(url.as_ptr(), url.len(), &mut text);
+        lent(&text)
+    }
+}
+
+/// Where the URL of each frame of a trace stands, in turn.
+pub(crate) fn frame_urls(trace: &[u8]) -> impl Iterator<Item = Range<usize>> + '_ {
     let mut found = sys::smap_frame_url::default();
     std::iter::from_fn(move || {
         let from = found.next;
         let status =
             unsafe { sys::smap_next_frame_url(trace.as_ptr(), trace.len(), from, &mut found) };
-        if status != sys::SMAP_DONE {
-            return None;
-        }
-        trace.get(found.start..found.start + found.length)
+        (status == sys::SMAP_DONE).then(|| found.start..found.start + found.length)
     })
 }
