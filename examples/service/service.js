@@ -7,6 +7,7 @@ const { Maps } = require('smap');
 
 const MOST_BYTES = 1 << 20;
 const MOST_ANSWER = 16 << 20;
+const MOST_NAMES = 64 << 20;
 const MOST_FRAMES = 1000;
 const MOST_LINE = 500;
 const MOST_NUMBER = 2 ** 31;
@@ -142,7 +143,7 @@ function main(prefix, folder, port = '8000', megabytes = '200') {
     service.refused += 1;
     console.error(`refused: ${url}: ${`${error.message}`.split('\n')[0]}`);
   };
-  service.maps = Maps.folder(prefix, folder, { maxBytes: Number(megabytes) * 2 ** 20, refused: tell });
+  service.maps = Maps.folder(prefix, folder, { maxBytes: Number(megabytes) * 2 ** 20, maxNames: MOST_NAMES, refused: tell });
   const [requestTimeout, headersTimeout, keepAliveTimeout] = Array(3).fill(MILLISECONDS);
   const times = { requestTimeout, headersTimeout, keepAliveTimeout, connectionsCheckingInterval: 500 };
   const server = http.createServer(times, (request, response) => answerRequest(service, request, response));

@@ -9,8 +9,8 @@ A frame of PREFIXr1/app.js has the map FOLDER/r1/app.js.map. `POST /symbolicate`
 lines and columns from 1, and answers with the frames, each with its `original`, or null: `source`, `lineno`, `colno`, `name`,
 `ignored`, and where the map has the source's content, its line and up to two before and after it in `context`: `before`, `line`,
 `after`, each cut to the whole characters among its first 500 bytes, and `cut`, which is true where one had more. `GET /health`
-says what is kept. Maps are kept while they count for at most so many megabytes, 200 if not given. PORT 0 is any that is free; the
-address is printed.
+says what is kept. Maps are kept while they count for at most so many megabytes, 200 if not given; one whose names are made of
+more than 64 MiB is refused. PORT 0 is any that is free; the address is printed.
 
 What is wrong is answered with a reason: with 400 what is wrong with an event or a request, with 404 another path, with 411 a body
 in chunks, with 413 an event of more than 1 MiB or an answer of more than 16 MiB, and with 500 what is wrong here. A body is read
@@ -31,6 +31,7 @@ from smap import Maps
 
 MOST_BYTES = 1 << 20
 MOST_ANSWER = 16 << 20
+MOST_NAMES = 64 << 20
 MOST_FRAMES = 1000
 MOST_LINE = 500
 MOST_NUMBER = 2**31
@@ -216,7 +217,7 @@ class Server(ThreadingHTTPServer):
 
 def main(prefix, folder, port="8000", megabytes="200"):
     with Server(("127.0.0.1", int(port)), Handler) as server:
-        server.maps = Maps.folder(prefix, folder, max_bytes=int(megabytes) << 20, refused=server.tell)
+        server.maps = Maps.folder(prefix, folder, max_bytes=int(megabytes) << 20, max_names=MOST_NAMES, refused=server.tell)
         print(f"http://127.0.0.1:{server.server_port}", flush=True)
         server.serve_forever()
 

@@ -255,6 +255,7 @@ def main(folder, language, *program):
         unkind.bodies(port)
         unkind.in_one_piece(port)
         unkind.large(port, folder, PREFIX)
+        unkind.names(port, folder, PREFIX)
         unkind.slow(port, PREFIX)
         unkind.many(port, process)
         print(f"service {sum(same)} in {language}: {events // CLIENTS * CLIENTS / seconds:.0f} events in a second, {grown / 2**20:.0f} MiB more")

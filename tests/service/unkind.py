@@ -125,6 +125,15 @@ def large(port, folder, prefix):
     insist("one that is not", answer_to(port, f"{prefix}names.js", 100)[0], 200)
 
 
+def names(port, folder, prefix):
+    """A map of 1 MB is refused where its names are made of more than 64 MiB."""
+    for count, is_read in [(70, False), (60, True)]:
+        source_map = {"version": 3, "sourceRoot": "n" * 1_000_000, "sources": ["a.ts"] * count, "mappings": "AAEA"}
+        (folder / f"root{count}.js.map").write_text(json.dumps(source_map))
+        status, answer = answer_to(port, f"{prefix}root{count}.js", 1)
+        insist(f"a map with {count} long names", (status, answer["frames"][0]["original"] is not None), (200, is_read))
+
+
 def left(what, client, pieces, failures):
     """The client sends a piece every half second, the last of them again and again, and is left after the time for a request."""
     begun = time.monotonic()

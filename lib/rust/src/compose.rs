@@ -1,7 +1,7 @@
 //! A map composed with those of its sources.
 
 use crate::error::Error;
-use crate::library::{Inners, Map, USUAL_INTERVAL};
+use crate::library::{Inners, Map, Reading};
 use crate::map::SourceMap;
 use std::collections::HashMap;
 use std::io;
@@ -57,7 +57,7 @@ impl SourceMap {
                 loaded.insert(name.clone(), load(&name)?);
             }
             if let Some(Some(bytes)) = loaded.get(&name) {
-                inners.put(source, standing_at(&name, bytes.as_ref())?)?;
+                inners.put(source, standing_at(&name, bytes.as_ref(), Reading::USUAL)?)?;
             }
         }
         let ComposeOptions { prune, no_content } = options;
@@ -66,12 +66,10 @@ impl SourceMap {
 }
 
 /// The map of these bytes, which stands at a name where that is a URL.
-pub(crate) fn standing_at(name: &str, bytes: &[u8]) -> Result<Map, Error> {
-    let at_name = Map::read(bytes, Some(name), USUAL_INTERVAL);
+pub(crate) fn standing_at(name: &str, bytes: &[u8], how: Reading) -> Result<Map, Error> {
+    let at_name = Map::read(bytes, Some(name), how);
     let map = match at_name {
-        Err(Error::Refused(refused)) if refused.is_no_url() => {
-            Map::read(bytes, None, USUAL_INTERVAL)
-        }
+        Err(Error::Refused(refused)) if refused.is_no_url() => Map::read(bytes, None, how),
         other => other,
     };
     map.map_err(|error| error.of(name))

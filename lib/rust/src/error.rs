@@ -1,11 +1,9 @@
 //! Why something is not done.
 
+mod refusing;
+
 use crate::{library, sys};
 use std::{error, fmt, io};
-
-/// The numbers of O1 and X3.
-const TOO_LONG: u32 = 1;
-const TOO_MUCH: u32 = 3;
 
 /// Why something is not done.
 ///
@@ -125,6 +123,7 @@ pub struct Refused {
     text: String,
     name: Option<String>,
     map: Option<sys::smap_refusal>,
+    lines: Option<u64>,
 }
 
 impl Refused {
@@ -224,74 +223,19 @@ impl Refused {
         }
     }
 
-    fn new(text: Option<String>) -> Refused {
-        Refused {
-            text: text.unwrap_or_else(|| String::from("refused")),
-            name: None,
-            map: None,
-        }
-    }
-
-    /// Why a map is refused, or that there is no memory to say it.
-    pub(crate) fn map(refusal: sys::smap_refusal, base: Option<&str>) -> Error {
-        let (text, name) = match refusal.number {
-            sys::SMAP_BASE_NO_URL => (Ok("the base is no URL".to_string()), base),
-            sys::SMAP_BASE_TOO_LONG => (Ok("the base is too long".to_string()), None),
-            _ => (library::refusal_text(&refusal), None),
-        };
-        match text {
-            Ok(text) => Error::Refused(Refused {
-                text,
-                name: name.map(str::to_string),
-                map: Some(refusal),
-            }),
-            Err(error) => error,
-        }
-    }
-
-    /// Whether it is that of a base which is no URL.
-    pub(crate) fn is_no_url(&self) -> bool {
-        matches!(&self.map, Some(refusal) if refusal.number == sys::SMAP_BASE_NO_URL)
-    }
-
-    /// Why maps are not composed.
-    pub(crate) fn composition(number: u32) -> Refused {
-        Refused::new(library::compose_refusal_text(number))
-    }
-
-    /// Why the bytes of a generated file are not counted.
-    pub(crate) fn generated(number: u32) -> Refused {
-        Refused::new(library::generated_refusal_text(number))
-    }
-
-    /// Why a table takes no map.
-    pub(crate) fn table(number: u32) -> Refused {
-        Refused::new(library::table_refusal_text(number))
-    }
-
-    /// Why a map is not written.
-    pub(crate) fn writing() -> Refused {
-        Refused::new(library::write_refusal_text(TOO_LONG))
-    }
-
-    /// Why a text is not rewritten.
-    pub(crate) fn text() -> Refused {
-        Refused::new(library::rewrite_refusal_text(TOO_MUCH))
-    }
-
-    /// Why places are not rewritten over a map of all URLs.
-    pub(crate) fn places_of_all() -> Refused {
-        Refused::new(Some(String::from("* is not for places anywhere")))
-    }
-
-    /// Why no folder stands under a prefix.
-    pub(crate) fn prefix() -> Refused {
-        Refused::new(Some(String::from("a prefix ends in / and is no pattern")))
-    }
-
-    /// Of calls that refuse nothing.
-    pub(crate) fn nothing() -> Refused {
-        Refused::new(None)
+    /// How many lines were written, where what a text comes to has more bytes than
+    /// [`Table::set_max_output`](crate::Table::set_max_output) says.
+    ///
+    /// ```
+    /// # let mut table = smap::Table::new()?;
+    /// table.set_max_output(5);
+    /// let error = table.rewrite("a\nb\nlong\n".as_bytes(), std::io::sink()).unwrap_err();
+    /// # let refused = match error { smap::Error::Refused(refused) => refused, other => panic!("{}", other) };
+    /// assert_eq!((refused.to_string().as_str(), refused.lines()), ("X5 LongOutput", Some(2)));
+    /// # Ok::<(), smap::Error>(())
+    /// ```
+    pub fn lines(&self) -> Option<u64> {
+        self.lines
     }
 }
 

@@ -15,7 +15,7 @@ mod texts;
 
 pub(crate) use bytes::Bytes;
 pub(crate) use inners::Inners;
-pub(crate) use map::{Map, Source, USUAL_INTERVAL};
+pub(crate) use map::{Map, Reading, Source};
 pub(crate) use originals::Originals;
 pub(crate) use table::{cut_url, frame_urls, Table};
 pub(crate) use texts::{

@@ -1,7 +1,7 @@
 //! How maps are read.
 
 use crate::error::Error;
-use crate::library;
+use crate::library::{Map, Reading};
 use crate::map::SourceMap;
 
 /// How a map is read.
@@ -18,7 +18,7 @@ use crate::map::SourceMap;
 pub struct ReadOptions {
     base: Option<String>,
     path: Option<String>,
-    interval: u32,
+    how: Reading,
 }
 
 impl ReadOptions {
@@ -32,7 +32,7 @@ impl ReadOptions {
         ReadOptions {
             base: None,
             path: None,
-            interval: library::USUAL_INTERVAL,
+            how: Reading::USUAL,
         }
     }
 
@@ -71,7 +71,22 @@ impl ReadOptions {
     /// assert_eq!(refused.to_string(), "M15 Build B1 Interval");
     /// ```
     pub fn with_interval(mut self, segments: u32) -> ReadOptions {
-        self.interval = segments;
+        self.how.interval = segments;
+        self
+    }
+
+    /// Of how many bytes the names of all sources may be made together, 268,435,456 if this is not said:
+    /// each of those of the base, of what `sourceRoot` puts before it, and of its own text. They may
+    /// be many more than the file has.
+    ///
+    /// ```
+    /// let map = br#"{"version":3,"sources":["a.ts","b.ts"],"sourceRoot":"src","mappings":""}"#;
+    /// assert!(smap::ReadOptions::new().with_max_names(16).read(map).is_ok());
+    /// let refused = smap::ReadOptions::new().with_max_names(15).read(map).unwrap_err();
+    /// assert_eq!(refused.to_string(), "M18 LongNames");
+    /// ```
+    pub fn with_max_names(mut self, bytes: u64) -> ReadOptions {
+        self.how.most_names = bytes;
         self
     }
 
@@ -83,7 +98,7 @@ impl ReadOptions {
     /// # Ok::<(), smap::Error>(())
     /// ```
     pub fn read(&self, map: &[u8]) -> Result<SourceMap, Error> {
-        let mut map = library::Map::read(map, self.base.as_deref(), self.interval)?;
+        let mut map = Map::read(map, self.base.as_deref(), self.how)?;
         if let Some(path) = &self.path {
             map.use_paths(path)?;
         }

@@ -33,11 +33,14 @@ pub(crate) struct Rewriting<'a, W> {
     /// Whether the line is too long for a frame, so that its rest is passed on.
     is_passed: bool,
     counts: TraceCounts,
+    /// How many bytes may still be written.
+    most: u64,
 }
 
 impl<'a, W: Write> Rewriting<'a, W> {
     pub(crate) fn new(table: &'a mut Table, what: What, writer: W) -> Rewriting<'a, W> {
         Rewriting {
+            most: table.most_output(),
             table,
             what,
             writer,
@@ -80,7 +83,7 @@ impl<'a, W: Write> Rewriting<'a, W> {
             self.put(new + last + 1)?;
         }
         if self.held.len() > MOST_TEXT {
-            return Err(Refused::text().into());
+            return Err(Refused::too_much().into());
         }
         if self.what != What::Places && self.held.len() > MOST_LINE {
             self.pass(self.held.len())?;
@@ -96,17 +99,59 @@ impl<'a, W: Write> Rewriting<'a, W> {
         if end == 0 {
             return Ok(());
         }
-        let (text, counts) = self.table.rewritten(&self.held[..end], self.what)?;
-        self.writer.write_all(&text)?;
-        self.counts.add(&counts);
-        self.held.drain(..end);
-        Ok(())
+        match self
+            .table
+            .rewritten(&self.held[..end], self.what, self.most)
+        {
+            Err(Error::Refused(refused)) => match refused.lines() {
+                Some(fitting) => self.put_what_fits(fitting, end),
+                None => Err(refused.into()),
+            },
+            other => {
+                let (text, counts) = other?;
+                self.writer.write_all(&text)?;
+                self.most = self.most.saturating_sub(text.len() as u64);
+                self.counts.add(&counts);
+                self.held.drain(..end);
+                Ok(())
+            }
+        }
+    }
+
+    /// Writes the lines of the held text to this byte that fit: so many, and more where some of them are
+    /// left out. It says how many lines were written.
+    fn put_what_fits(&mut self, fitting: u64, mut end: usize) -> Result<(), Error> {
+        let mut next = end_of(fitting, &self.held[..end]);
+        while next < end {
+            self.put(next)?;
+            end -= next;
+            next = end_of(1, &self.held[..end]);
+        }
+        self.writer.flush()?;
+        Err(Refused::long_output(self.lines()).into())
+    }
+
+    /// How many lines were written.
+    fn lines(&self) -> u64 {
+        self.counts.lines - self.counts.hidden
     }
 
     /// Writes the held text to this byte as it is.
     fn pass(&mut self, end: usize) -> Result<(), Error> {
+        if end as u64 > self.most {
+            // A line that is passed on is counted before it ends.
+            let lines = self.lines() - u64::from(self.is_passed);
+            return Err(Refused::long_output(lines).into());
+        }
         self.writer.write_all(&self.held[..end])?;
+        self.most -= end as u64;
         self.held.drain(..end);
         Ok(())
     }
+}
+
+/// Where so many lines of a text end.
+fn end_of(lines: u64, text: &[u8]) -> usize {
+    let lengths = text.split_inclusive(|byte| *byte == LF).map(<[u8]>::len);
+    lengths.take(lines as usize).sum()
 }

@@ -8,7 +8,7 @@ pub const SMAP_REFUSED: u32 = 1;
 pub const SMAP_NO_MEMORY: u32 = 3;
 
 pub const SMAP_BASE_NO_URL: u32 = 0;
-pub const SMAP_BASE_TOO_LONG: u32 = 18;
+pub const SMAP_BASE_TOO_LONG: u32 = 19;
 
 pub const SMAP_AT_OR_BEFORE: u32 = 0;
 pub const SMAP_AT_OR_AFTER: u32 = 1;
@@ -194,6 +194,13 @@ pub struct smap_trace_count {
 
 #[repr(C)]
 #[derive(Default)]
+pub struct smap_rewrite_refusal {
+    pub number: u32,
+    pub lines: u64,
+}
+
+#[repr(C)]
+#[derive(Default)]
 pub struct smap_frame_url {
     pub start: usize,
     pub length: usize,
@@ -207,6 +214,16 @@ extern "C" {
         base: *const u8,
         base_length: usize,
         interval: u32,
+        map: *mut smap_map,
+        refusal: *mut smap_refusal,
+    ) -> u32;
+    pub fn smap_map_read_within(
+        bytes: *const u8,
+        length: usize,
+        base: *const u8,
+        base_length: usize,
+        interval: u32,
+        most_names: u64,
         map: *mut smap_map,
         refusal: *mut smap_refusal,
     ) -> u32;
@@ -369,6 +386,16 @@ extern "C" {
         options: *const smap_rewrite_options,
         bytes: *mut smap_bytes,
         counts: *mut smap_trace_count,
+    ) -> u32;
+    pub fn smap_rewrite_within(
+        table: *mut smap_table,
+        text: *const u8,
+        length: usize,
+        options: *const smap_rewrite_options,
+        most: u64,
+        bytes: *mut smap_bytes,
+        counts: *mut smap_trace_count,
+        refusal: *mut smap_rewrite_refusal,
     ) -> u32;
     pub fn smap_rewrite_refusal_text(refusal: u32, text: *mut smap_text) -> u32;
     pub fn smap_next_frame_url(

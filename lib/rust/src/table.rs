@@ -1,13 +1,15 @@
 //! Tables of maps, and the traces that are rewritten over them.
 
 mod asking;
+mod counts;
+
+pub use counts::TraceCounts;
 
 use crate::compose::standing_at;
 use crate::error::{Error, Refused};
-use crate::library;
+use crate::library::{self, Reading};
 use crate::map::SourceMap;
 use crate::rewriting::{Rewriting, What};
-use crate::sys;
 use crate::urls::read_in;
 use std::collections::HashSet;
 use std::fmt;
@@ -36,9 +38,14 @@ pub struct Table {
     has_patterns: bool,
     has_map_of_all: bool,
     refusals: Vec<(String, Error)>,
+    how: Reading,
+    most_output: u64,
 }
 
-type Loader = Box<dyn FnMut(&str) -> Result<Option<library::Map>, Error> + Send>;
+/// So many bytes are written at most, if nothing else is said.
+const USUAL_OUTPUT: u64 = 1_073_741_824;
+
+type Loader = Box<dyn FnMut(&str, Reading) -> Result<Option<library::Map>, Error> + Send>;
 
 impl Table {
     /// A table without maps.
@@ -55,6 +62,8 @@ impl Table {
             has_patterns: false,
             has_map_of_all: false,
             refusals: Vec::new(),
+            how: Reading::USUAL,
+            most_output: USUAL_OUTPUT,
         })
     }
 
@@ -85,8 +94,8 @@ impl Table {
         L: FnMut(&str) -> io::Result<Option<B>> + Send + 'static,
         B: AsRef<[u8]>,
     {
-        let load = move |url: &str| match load(url)? {
-            Some(bytes) => standing_at(url, bytes.as_ref()).map(Some),
+        let load = move |url: &str, how| match load(url)? {
+            Some(bytes) => standing_at(url, bytes.as_ref(), how).map(Some),
             None => Ok(None),
         };
         Ok(Table {
@@ -146,6 +155,35 @@ impl Table {
         self.has_patterns |= url.starts_with('*');
         self.has_map_of_all |= url == "*";
         Ok(())
+    }
+
+    /// How many bytes one call writes at most, 1,073,741,824 if this is not said. Of a text that comes to
+    /// more the lines that fit are written, and it is refused: [`Refused::lines`] says how many.
+    ///
+    /// ```
+    /// let mut table = smap::Table::new()?;
+    /// table.set_max_output(5);
+    /// let mut rewritten = Vec::new();
+    /// let error = table.rewrite("a\nb\nlong\n".as_bytes(), &mut rewritten).unwrap_err();
+    /// assert_eq!((error.to_string().as_str(), &rewritten[..]), ("X5 LongOutput", &b"a\nb\n"[..]));
+    /// # Ok::<(), smap::Error>(())
+    /// ```
+    pub fn set_max_output(&mut self, bytes: u64) {
+        self.most_output = bytes;
+    }
+
+    /// Of how many bytes the names in each map that the loader gives may be made together, as
+    /// [`ReadOptions::with_max_names`](crate::ReadOptions::with_max_names) has it.
+    ///
+    /// ```
+    /// let mut table = smap::Table::with_loader(|_| Ok(Some(r#"{"version":3,"sources":["a.ts"],"mappings":""}"#)))?;
+    /// table.set_max_names(3);
+    /// table.rewrite("f@a.js:1:7\n".as_bytes(), std::io::sink())?;
+    /// assert_eq!(table.refusals()[0].1.to_string(), "a.js: M18 LongNames");
+    /// # Ok::<(), smap::Error>(())
+    /// ```
+    pub fn set_max_names(&mut self, bytes: u64) {
+        self.how.most_names = bytes;
     }
 
     /// The URLs whose maps the loader could not give, or whose maps were refused, and why: the first
@@ -240,43 +278,5 @@ impl fmt::Debug for Table {
         to.debug_struct("Table")
             .field("urls", &self.known.len())
             .finish()
-    }
-}
-
-/// What a trace had.
-///
-/// ```
-/// let counts = smap::Table::new()?.rewrite("Error\n    at f (a.js:1:7)\n".as_bytes(), std::io::sink())?;
-/// assert_eq!((counts.lines, counts.frames, counts.mapped, counts.hidden), (2, 1, 0, 0));
-/// # Ok::<(), smap::Error>(())
-/// ```
-#[derive(Clone, Copy, Debug, Default, PartialEq, Eq)]
-#[non_exhaustive]
-pub struct TraceCounts {
-    /// Its lines.
-    pub lines: u64,
-    /// Lines that are frames, or places anywhere.
-    pub frames: u64,
-    /// Of these the ones that were replaced.
-    pub mapped: u64,
-    /// Of these the ones that were left out.
-    pub hidden: u64,
-}
-
-impl TraceCounts {
-    fn of(counts: &sys::smap_trace_count) -> TraceCounts {
-        TraceCounts {
-            lines: counts.lines,
-            frames: counts.frames,
-            mapped: counts.mapped,
-            hidden: counts.hidden,
-        }
-    }
-
-    pub(crate) fn add(&mut self, more: &TraceCounts) {
-        self.lines += more.lines;
-        self.frames += more.frames;
-        self.mapped += more.mapped;
-        self.hidden += more.hidden;
     }
 }

@@ -7,8 +7,21 @@ use std::cell::{Cell, UnsafeCell};
 use std::mem::ManuallyDrop;
 use std::ptr;
 
-/// How many segments usually stand between the checkpoints of an index.
-pub(crate) const USUAL_INTERVAL: u32 = 64;
+/// How a map is read.
+#[derive(Clone, Copy, Debug)]
+pub(crate) struct Reading {
+    /// How many segments stand between the checkpoints of the index.
+    pub interval: u32,
+    /// Of how many bytes the names of all sources may be made together.
+    pub most_names: u64,
+}
+
+impl Reading {
+    pub(crate) const USUAL: Reading = Reading {
+        interval: 64,
+        most_names: 268_435_456,
+    };
+}
 
 const NO_URL: sys::smap_refusal = sys::smap_refusal {
     number: sys::SMAP_BASE_NO_URL,
@@ -34,7 +47,7 @@ pub(crate) struct Source {
 }
 
 impl Map {
-    pub(crate) fn read(bytes: &[u8], base: Option<&str>, interval: u32) -> Result<Map, Error> {
+    pub(crate) fn read(bytes: &[u8], base: Option<&str>, how: Reading) -> Result<Map, Error> {
         let (base_bytes, base_length) = match base {
             // To the library that would be none.
             Some("") => return Err(Refused::map(NO_URL, base)),
@@ -47,8 +60,18 @@ impl Map {
         let mut refusal = sys::smap_refusal::default();
         let status = unsafe {
             let (bytes, length) = (bytes.as_ptr(), bytes.len());
+            let (interval, most) = (how.interval, how.most_names);
             let (map, why) = (&mut handle, &mut refusal);
-            sys::smap_map_read(bytes, length, base_bytes, base_length, interval, map, why)
+            sys::smap_map_read_within(
+                bytes,
+                length,
+                base_bytes,
+                base_length,
+                interval,
+                most,
+                map,
+                why,
+            )
         };
         done(status, || Refused::map(refusal, base))?;
         Ok(Map::full(handle))
@@ -185,7 +208,15 @@ impl Map {
     /// positions.
     fn read_again(&self, source: u32) -> Result<Map, Error> {
         match self.written() {
-            Ok(text) => Map::read(&text, None, USUAL_INTERVAL),
+            // Its names were taken once.
+            Ok(text) => Map::read(
+                &text,
+                None,
+                Reading {
+                    most_names: u64::MAX,
+                    ..Reading::USUAL
+                },
+            ),
             Err(Error::Refused(_)) => {
                 let is_there = u64::from(source) < self.counts().sources;
                 let number = if is_there { TOO_LARGE } else { NO_SOURCE };

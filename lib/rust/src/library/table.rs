@@ -3,6 +3,7 @@
 use super::{done, lent, no_source, no_text, Bytes, Map};
 use crate::error::{Error, Refused};
 use crate::sys;
+use std::cell::Cell;
 use std::ops::Range;
 use std::ptr;
 
@@ -56,17 +57,21 @@ impl Table {
         status == sys::SMAP_DONE
     }
 
+    /// What a text comes to, which has at most so many bytes.
     pub(crate) fn rewritten(
         &mut self,
         text: &[u8],
         options: &sys::smap_rewrite_options,
+        most: u64,
     ) -> Result<(Bytes, sys::smap_trace_count), Error> {
         let (table, bytes, length) = (&mut self.handle, text.as_ptr(), text.len());
         let mut counts = sys::smap_trace_count::default();
+        let refusal = Cell::new(sys::smap_rewrite_refusal::default());
         let call = |text| unsafe {
-            sys::smap_rewrite_with(table, bytes, length, options, text, &mut counts)
+            let why = refusal.as_ptr();
+            sys::smap_rewrite_within(table, bytes, length, options, most, text, &mut counts, why)
         };
-        let text = Bytes::of(call, Refused::text)?;
+        let text = Bytes::of(call, || Refused::text(refusal.take()))?;
         Ok((text, counts))
     }
 }

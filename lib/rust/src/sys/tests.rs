@@ -203,6 +203,7 @@ fn sizes_and_offsets_are_those_of_the_c_compiler() {
         smap_line_range: first count;
         smap_rewrite_options: hide_ignored anywhere strip_ansi cut;
         smap_trace_count: lines frames mapped hidden;
+        smap_rewrite_refusal: number lines;
         smap_frame_url: start length next;
     };
     let header = std::fs::read_to_string(env!("SMAP_HEADER")).expect("the header is there");

@@ -1,7 +1,7 @@
 //! What a table makes of a text, with the maps for which its loader is asked.
 
 use super::{Table, TraceCounts};
-use crate::error::Error;
+use crate::error::{Error, Refused};
 use crate::library;
 use crate::rewriting::What;
 use crate::sys;
@@ -11,11 +11,18 @@ use crate::urls::is_location;
 const MOST_REFUSALS: usize = 100;
 
 impl Table {
-    /// What a text comes to, whose lines are whole, with the maps of all its frames.
+    /// How many bytes one call writes at most.
+    pub(crate) fn most_output(&self) -> u64 {
+        self.most_output
+    }
+
+    /// What a text comes to, whose lines are whole, with the maps of all its frames, if that has at most
+    /// so many bytes. Where it has more, some of the lines that are said to fit may not.
     pub(crate) fn rewritten(
         &mut self,
         text: &[u8],
         what: What,
+        most: u64,
     ) -> Result<(library::Bytes, TraceCounts), Error> {
         self.ask(text)?;
         let options = sys::smap_rewrite_options {
@@ -25,11 +32,11 @@ impl Table {
             cut: self.load.is_some() || self.has_patterns,
         };
         let short = match what {
-            What::Places if self.load.is_some() => self.without_queries(text, &options)?,
+            What::Places if self.load.is_some() => self.without_queries(text, &options, most)?,
             _ => None,
         };
         let text = short.as_deref().unwrap_or(text);
-        let (text, counts) = self.table.rewritten(text, &options)?;
+        let (text, counts) = self.table.rewritten(text, &options, most)?;
         Ok((text, TraceCounts::of(&counts)))
     }
 
@@ -53,7 +60,7 @@ impl Table {
                 Ok(short) => short,
                 Err(_) => continue,
             };
-            match load(short) {
+            match load(short, self.how) {
                 Ok(None) => (),
                 Ok(Some(map)) => match self.table.add(short, map) {
                     Ok(()) | Err(Error::Refused(_)) => (),
@@ -75,6 +82,7 @@ impl Table {
         &mut self,
         text: &[u8],
         options: &sys::smap_rewrite_options,
+        most: u64,
     ) -> Result<Option<Vec<u8>>, Error> {
         let (mut queries, mut places) = (Vec::new(), Vec::new());
         for url in library::frame_urls(text) {
@@ -91,7 +99,16 @@ impl Table {
         if queries.is_empty() {
             return Ok(None);
         }
-        let (made, _) = self.table.rewritten(&places, options)?;
+        // If these come to more, the lines to the one that is too much have more than may be written.
+        let most = most.saturating_add(places.len() as u64);
+        let (made, _) = match self.table.rewritten(&places, options, most) {
+            Err(Error::Refused(refused)) => {
+                let first = refused.lines().and_then(|line| queries.get(line as usize));
+                let before = first.map(|query| lines_in(&text[..query.start]));
+                return Err(before.map_or(refused, Refused::long_output).into());
+            }
+            other => other?,
+        };
         let is_line_end = |byte: &u8| *byte == b'\n';
         let lines = places.split(is_line_end).zip(made.split(is_line_end));
         let (mut left, mut from) = (Vec::new(), 0);
@@ -104,4 +121,9 @@ impl Table {
         left.extend_from_slice(&text[from..]);
         Ok(Some(left))
     }
+}
+
+/// How many lines end in a text.
+fn lines_in(text: &[u8]) -> u64 {
+    text.iter().filter(|byte| **byte == b'\n').count() as u64
 }
