@@ -135,6 +135,12 @@ def generated(files):
         raises("a line below 0", ValueError, source_map.generated, 0, -1)
         raises("a text for a number", TypeError, source_map.generated, 0, 0, "1")
     raises("a closed one", ValueError, source_map.generated, 0, 0)
+    taken = SourceMap(text)
+    insist("before a table took it", taken.generated(1, 0, 4), [Generated(1, 2, 4)])
+    Rewriter({"x.js": taken}).close()
+    raises("what a table took", ValueError, taken.generated, 1, 0)
+    taken.__init__('{"version":3,"sources":["a"],"mappings":";;IAAA"}')
+    insist("another map in its place", taken.generated(0, 0), [Generated(2, 4, 0)])
     for path in files:
         with SourceMap(path) as source_map:
             wanted = {}
