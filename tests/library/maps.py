@@ -131,7 +131,11 @@ def generated(files):
         insist("up to", [source_map.generated(0, 0, column) for column in (0, 1, 2, 3, 9)], [first, first, second, second, third])
         insist("from", [source_map.generated(0, 0, column, True) for column in (0, 1, 2, 3, 9)], [first, second, second, third, []])
         insist("another source", source_map.generated(1, 0, 4), [Generated(1, 2, 4)])
-        insist("none", [source_map.generated(2, 0), source_map.generated(0, 1), source_map.generated(0, 2**40, 2**40)], [[], [], []])
+        insist("none", [source_map.generated(0, 1), source_map.generated(0, 2**40, 2**40)], [[], []])
+        for source in (2, -1, 2**32 - 1, 2**40):
+            for words in ((0,), (0, 0), (0, 0, True)):
+                raises(f"no source {source}", IndexError, source_map.generated, source, *words)
+            raises(f"no lines of source {source}", IndexError, source_map.context, source, 0)
         raises("a line below 0", ValueError, source_map.generated, 0, -1)
         raises("a text for a number", TypeError, source_map.generated, 0, 0, "1")
     raises("a closed one", ValueError, source_map.generated, 0, 0)

@@ -70,7 +70,9 @@ PyObject *map_generated(PyObject *self, PyObject *words) {
     if (!PyArg_ParseTuple(words, "OOOp", &given_source, &given_line, &given_column, &after)) return NULL;
     bool whole = given_column == Py_None;
     if (!index_of(given_source, "a source", &source) || !place_of(given_line, "line", &line)) return NULL;
-    if ((!whole && !place_of(given_column, "column", &column)) || !ready(&held, 1) || !indexed(held)) return NULL;
+    if ((!whole && !place_of(given_column, "column", &column)) || !ready(&held, 1)) return NULL;
+    smap_source_text text = SMAP_SOURCE;
+    if (!has_source(held, source, given_source, &text) || !indexed(held)) return NULL;
     struct places places = {NULL, 0, 0};
     PyObject *list = copy_places(held, source, line, column, whole, after, &places) ? list_of_places(&places) : NULL;
     free(places.at);
