@@ -217,6 +217,47 @@ def refusals():
     insist("what is told", (told, maps.refusals), (["https://e.test/bad.js"], []))
 
 
+# A loader that rewrites over the maps that ask it, or what is told of a refusal, each for three URLs, twice each time.
+def rewriting_within():
+    trace = "".join(f"f@https://e.test/{name}.js:1:1\n" for name in "abc")
+    for bad in (None, "{}"):
+        for make in (lambda *both: Maps(both[0], max_bytes=1 << 20, refused=both[1]), lambda *both: Rewriter({}, *both)):
+            asked, errors, told = [], [], []
+
+            def rewrites(url):
+                for _ in range(2):
+                    try:
+                        made.rewrite(trace)
+                    except RuntimeError as error:
+                        errors.append(str(error))
+
+            def load(url):
+                asked.append(url)
+                if bad is None:
+                    rewrites(url)
+                return text_of("a.ts") if bad is None else bad
+
+            def refused(url, error):
+                told.append(url)
+                rewrites(url)
+
+            made = make(load, refused)
+            insist("what is rewritten", made.rewrite(trace).decode(), trace if bad else trace.replace(".js", ".ts").replace("/b.", "/a.").replace("/c.", "/a."))
+            insist("how often is asked", (len(asked), len(told)), (3, 3 if bad else 0))
+            insist("what is raised", errors, ["rewrite is called from within load or refused of the same maps"] * 6)
+            insist("again", made.rewrite("f@https://e.test/d.js:1:1"), b"f@https://e.test/d.js:1:1" if bad else b"f@https://e.test/a.ts:1:1")
+    # What is not caught is what the loader raises.
+    for make in (lambda load: Maps(load, max_bytes=1 << 20), lambda load: Rewriter({}, load)):
+        made = make(lambda url: made.rewrite(trace))
+        insist("nothing", made.rewrite(trace).decode(), trace)
+        insist("why", [type(error) for _, error in made.refusals], [RuntimeError] * 3)
+    # It may look places up, and other maps may be rewritten over.
+    other = Rewriter({"https://e.test/c.js": text_of("c.ts")})
+    made = Maps(lambda url: text_of(other.rewrite("f@https://e.test/c.js:1:1")[-8:-4].decode()) if "a.js" in url else
+                text_of(made.look_up("https://e.test/a.js", 0, 0).source), max_bytes=1 << 20)
+    insist("what may be", made.rewrite("f@https://e.test/b.js:1:1"), b"f@https://e.test/c.ts:1:1")
+
+
 def folders(folder):
     (folder / "maps/js").mkdir(parents=True)
     (folder / "maps/js/a.js.map").write_text(text_of("a.ts"))
@@ -327,6 +368,7 @@ paths()
 generated(sorted((Path(__file__).resolve().parents[2] / "examples").glob("*.map")))
 bounded()
 refusals()
+rewriting_within()
 folders(Path(sys.argv[1]))
 paths_of_maps(Path(sys.argv[1]))
 patterns()

@@ -26,7 +26,8 @@ class Maps:
     """Maps by URL. `load` is asked for the map of a URL when it is first wanted, and gives it, or None where there is none, as for
     a `Rewriter`, as is `paths`; threads wait for each other then. Maps are kept while they count for at most `max_bytes` bytes of memory, or one
     by itself: what was longest not asked for goes first. What `load` raises, and why a map is refused, is told to `refused`, or
-    else kept in `refusals`, of which there are 100 at most; that URL has no map until it is discarded."""
+    else kept in `refusals`, of which there are 100 at most; that URL has no map until it is discarded. Where `load` or `refused` calls
+    `rewrite` of the same maps, that raises `RuntimeError`."""
 
     def __init__(self, load: Load, *, max_bytes: int, refused: Optional[Callable[[str, Exception], object]] = None,
                  paths: bool = False) -> None:
@@ -124,6 +125,7 @@ class Maps:
         done: List[bytes] = []
         counts: Dict[str, int] = {}
         with self._lock:
+            self._told.refuse_within()
             begin = 0
             for end in self._ends(text, anywhere):
                 done.append(self._rewriter.rewrite(text[begin:end], *how))
@@ -168,11 +170,12 @@ class Maps:
             return False
         self._rewriter_size += size
         self._rewriter._known[url] = False
-        try:
-            if source_map is not None:
-                self._rewriter._add(key, source_map)
-        except Exception as error:
-            self._told.tell(key, error)
+        with self._told.within():
+            try:
+                if source_map is not None:
+                    self._rewriter._add(key, source_map)
+            except Exception as error:
+                self._told.tell(key, error)
         return True
 
     def _drop_rewriter(self) -> None:
@@ -185,12 +188,13 @@ class Maps:
 
     # The map that the loader gives, which is None where it raises, or where that is refused.
     def _read(self, url: str) -> Optional[SourceMap]:
-        try:
-            given = self._load(url)
-            return None if given is None else SourceMap._under(url, given, self._paths)
-        except Exception as error:
-            self._told.tell(url, error)
-            return None
+        with self._told.within():
+            try:
+                given = self._load(url)
+                return None if given is None else SourceMap._under(url, given, self._paths)
+            except Exception as error:
+                self._told.tell(url, error)
+                return None
 
     def _keep(self, key: str, source_map: Optional[SourceMap]) -> None:
         self._drop(key)
