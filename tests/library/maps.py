@@ -305,6 +305,8 @@ def rewriting():
     maps = Maps(load, max_bytes=1 << 20)
     maps.add("https://e.test/a.js", text_of("own.ts"))
     insist("what was added", maps.rewrite("    at f (https://e.test/a.js:1:5)\n"), b"    at f (https://e.test/own.ts:2:2)\n")
+    maps.add("https://e.test/a.js", text_of("newer.ts"))
+    insist("what was added later", maps.rewrite("    at f (https://e.test/a.js:1:5)\n"), b"    at f (https://e.test/newer.ts:2:2)\n")
     rewriter = Rewriter({"https://e.test/a.js": text_of("a.ts")})
     insist("one place", rewriter.look_up("https://e.test/a.js?v=1", 0, 4), Place("https://e.test/a.ts", 1, 1, "n", True, 0))
     insist("no map", rewriter.look_up("https://e.test/b.js", 0, 4), None)

@@ -42,7 +42,7 @@ class Maps:
         self._lock = threading.RLock()
         self._kept: "OrderedDict[str, _Kept]" = OrderedDict()
         self._size = self._count = 0
-        self._rewriter, self._rewriter_size = _rewriter(), 0
+        self._rewriter, self._rewriter_size, self._is_old = _rewriter(), 0, False
         self.counts: Dict[str, int] = {}
 
     @classmethod
@@ -109,6 +109,7 @@ class Maps:
         """Puts a map under this very URL, in place of what is kept of it. Raises `Refused`. A pattern is no URL here."""
         read = SourceMap._under(_whole(url, "a URL"), given, self._paths)
         with self._lock:
+            self._is_old = self._is_old or url.encode(errors="surrogatepass") in self._rewriter._known
             self._keep(url, read)
 
     def discard(self, url: str) -> None:
@@ -126,6 +127,8 @@ class Maps:
         counts: Dict[str, int] = {}
         with self._lock:
             self._told.refuse_within()
+            if self._is_old:
+                self._drop_rewriter()
             begin = 0
             for end in self._ends(text, anywhere):
                 done.append(self._rewriter.rewrite(text[begin:end], *how))
@@ -180,7 +183,7 @@ class Maps:
 
     def _drop_rewriter(self) -> None:
         self._rewriter.close()
-        self._rewriter, self._rewriter_size = _rewriter(), 0
+        self._rewriter, self._rewriter_size, self._is_old = _rewriter(), 0, False
 
     # The text under which what a URL has is kept.
     def _key(self, url: str) -> str:
