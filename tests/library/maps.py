@@ -256,6 +256,14 @@ def rewriting_within():
     made = Maps(lambda url: text_of(other.rewrite("f@https://e.test/c.js:1:1")[-8:-4].decode()) if "a.js" in url else
                 text_of(made.look_up("https://e.test/a.js", 0, 0).source), max_bytes=1 << 20)
     insist("what may be", made.rewrite("f@https://e.test/b.js:1:1"), b"f@https://e.test/c.ts:1:1")
+    # It may ask for other maps and put some in, with room for them or without: the text keeps those that it has.
+    one = SourceMap(text_of("a.ts")).nbytes + 200
+    for what in (lambda: made.get("https://e.test/z.js"), lambda: made.add("https://e.test/a.js", text_of("z.ts")),
+                 lambda: made.add("https://e.test/z.js", text_of("z.ts")), lambda: made.discard("https://e.test/a.js")):
+        for room in (1000, 4, 3, 2, 1):
+            made = Maps(lambda url: (what() if "b.js" in url else None, text_of(f"{url[-4]}.ts"))[1], max_bytes=room * one)
+            insist(f"room for {room}", made.rewrite(trace).decode(), trace.replace(".js", ".ts"))
+            insist("the bound", made.nbytes <= room * one, True)
 
 
 def folders(folder):

@@ -43,6 +43,7 @@ class Maps:
         self._kept: "OrderedDict[str, _Kept]" = OrderedDict()
         self._size = self._count = 0
         self._rewriter, self._rewriter_size, self._is_old = _rewriter(), 0, False
+        self._is_rewriting = False
         self.counts: Dict[str, int] = {}
 
     @classmethod
@@ -109,14 +110,15 @@ class Maps:
         """Puts a map under this very URL, in place of what is kept of it. Raises `Refused`. A pattern is no URL here."""
         read = SourceMap._under(_whole(url, "a URL"), given, self._paths)
         with self._lock:
-            self._is_old = self._is_old or url.encode(errors="surrogatepass") in self._rewriter._known
+            if url.encode(errors="surrogatepass") in self._rewriter._known:
+                self._outdate_rewriter()
             self._keep(url, read)
 
     def discard(self, url: str) -> None:
         """Drops what is kept of a URL, so that its map is asked for anew."""
         with self._lock:
             self._drop(self._key(url))
-            self._drop_rewriter()
+            self._outdate_rewriter()
 
     def rewrite(self, trace: _given.Trace, hide_ignored: bool = False, anywhere: bool = False, strip_ansi: bool = False) -> bytes:
         """The trace rewritten over the maps that it names, as a `Rewriter` does, which sets `counts`. It has copies of its own of them,
@@ -127,14 +129,18 @@ class Maps:
         counts: Dict[str, int] = {}
         with self._lock:
             self._told.refuse_within()
-            if self._is_old:
-                self._drop_rewriter()
-            begin = 0
-            for end in self._ends(text, anywhere):
-                done.append(self._rewriter.rewrite(text[begin:end], *how))
-                counts = {key: counts.get(key, 0) + count for key, count in self._rewriter.counts.items()}
-                begin = end
-                if end < len(text):
+            self._is_rewriting = True
+            try:
+                begin = 0
+                for end in self._ends(text, anywhere):
+                    done.append(self._rewriter.rewrite(text[begin:end], *how))
+                    counts = {key: counts.get(key, 0) + count for key, count in self._rewriter.counts.items()}
+                    begin = end
+                    if end < len(text):
+                        self._drop_rewriter()
+            finally:
+                self._is_rewriting = False
+                if self._is_old:
                     self._drop_rewriter()
         self.counts = counts
         return b"".join(done)
@@ -181,6 +187,12 @@ class Maps:
                 self._told.tell(key, error)
         return True
 
+    # One of its maps is old, or there is no room for them. A text that is rewritten over them when a loader does this has them to its end.
+    def _outdate_rewriter(self) -> None:
+        self._is_old = True
+        if not self._is_rewriting:
+            self._drop_rewriter()
+
     def _drop_rewriter(self) -> None:
         self._rewriter.close()
         self._rewriter, self._rewriter_size, self._is_old = _rewriter(), 0, False
@@ -204,7 +216,7 @@ class Maps:
         size = _size_of(key, source_map)
         self._make_room(size)
         if self._rewriter_size and self.nbytes + size > self.max_bytes:
-            self._drop_rewriter()
+            self._outdate_rewriter()
         self._kept[key] = _Kept(source_map, size)
         self._size += size
         self._count += source_map is not None
