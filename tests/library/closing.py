@@ -22,7 +22,7 @@ PLACES = [Generated(0, column, column // 2) for column in range(12)]
 CLOSED = ("the map is closed", "the rewriter is closed", "the inner maps are closed")
 WRITTEN = {"version": 3, "file": "f.js", "sources": ["a.ts"], "sourcesContent": [CONTENT], "names": ["n"],
            "mappings": "AAGAA,CAAAA" + ",CAACA,CAAAA" * 5}
-# Composed with itself it leads to line 3 of a source of which there are no mappings.
+# A map of its source, with a mapping on line 3.
 INNER = '{"version":3,"sources":["b.ts"],"names":[],"mappings":";;;AAAA"}'
 
 reported = 0
@@ -79,7 +79,7 @@ def table_of():
     return Rewriter({"x.js": TEXT}, load=lambda url: None)
 
 
-# What closes a map when the collector runs: each gives what keeps it in place, and what takes it away.
+# What closes a map when the collector runs. Each gives what takes it away, and holds it until then.
 
 def by_callback(made):
     def close(phase, info):
