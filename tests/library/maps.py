@@ -131,10 +131,20 @@ def generated(files):
         insist("up to", [source_map.generated(0, 0, column) for column in (0, 1, 2, 3, 9)], [first, first, second, second, third])
         insist("from", [source_map.generated(0, 0, column, True) for column in (0, 1, 2, 3, 9)], [first, second, second, third, []])
         insist("another source", source_map.generated(1, 0, 4), [Generated(1, 2, 4)])
-        insist("none", [source_map.generated(2, 0), source_map.generated(0, 1), source_map.generated(0, 2**40, 2**40)], [[], [], []])
+        insist("none", [source_map.generated(0, 1), source_map.generated(0, 2**40, 2**40)], [[], []])
+        for source in (2, -1, 2**32 - 1, 2**40):
+            for words in ((0,), (0, 0), (0, 0, True)):
+                raises(f"no source {source}", IndexError, source_map.generated, source, *words)
+            raises(f"no lines of source {source}", IndexError, source_map.context, source, 0)
         raises("a line below 0", ValueError, source_map.generated, 0, -1)
         raises("a text for a number", TypeError, source_map.generated, 0, 0, "1")
     raises("a closed one", ValueError, source_map.generated, 0, 0)
+    taken = SourceMap(text)
+    insist("before a table took it", taken.generated(1, 0, 4), [Generated(1, 2, 4)])
+    Rewriter({"x.js": taken}).close()
+    raises("what a table took", ValueError, taken.generated, 1, 0)
+    taken.__init__('{"version":3,"sources":["a"],"mappings":";;IAAA"}')
+    insist("another map in its place", taken.generated(0, 0), [Generated(2, 4, 0)])
     for path in files:
         with SourceMap(path) as source_map:
             wanted = {}
@@ -207,6 +217,55 @@ def refusals():
     insist("what is told", (told, maps.refusals), (["https://e.test/bad.js"], []))
 
 
+# A loader that rewrites over the maps that ask it, or what is told of a refusal, each for three URLs, twice each time.
+def rewriting_within():
+    trace = "".join(f"f@https://e.test/{name}.js:1:1\n" for name in "abc")
+    for bad in (None, "{}"):
+        for make in (lambda *both: Maps(both[0], max_bytes=1 << 20, refused=both[1]), lambda *both: Rewriter({}, *both)):
+            asked, errors, told = [], [], []
+
+            def rewrites(url):
+                for _ in range(2):
+                    try:
+                        made.rewrite(trace)
+                    except RuntimeError as error:
+                        errors.append(str(error))
+
+            def load(url):
+                asked.append(url)
+                if bad is None:
+                    rewrites(url)
+                return text_of("a.ts") if bad is None else bad
+
+            def refused(url, error):
+                told.append(url)
+                rewrites(url)
+
+            made = make(load, refused)
+            insist("what is rewritten", made.rewrite(trace).decode(), trace if bad else trace.replace(".js", ".ts").replace("/b.", "/a.").replace("/c.", "/a."))
+            insist("how often is asked", (len(asked), len(told)), (3, 3 if bad else 0))
+            insist("what is raised", errors, ["rewrite is called from within load or refused of the same maps"] * 6)
+            insist("again", made.rewrite("f@https://e.test/d.js:1:1"), b"f@https://e.test/d.js:1:1" if bad else b"f@https://e.test/a.ts:1:1")
+    # What is not caught is what the loader raises.
+    for make in (lambda load: Maps(load, max_bytes=1 << 20), lambda load: Rewriter({}, load)):
+        made = make(lambda url: made.rewrite(trace))
+        insist("nothing", made.rewrite(trace).decode(), trace)
+        insist("why", [type(error) for _, error in made.refusals], [RuntimeError] * 3)
+    # It may look places up, and other maps may be rewritten over.
+    other = Rewriter({"https://e.test/c.js": text_of("c.ts")})
+    made = Maps(lambda url: text_of(other.rewrite("f@https://e.test/c.js:1:1")[-8:-4].decode()) if "a.js" in url else
+                text_of(made.look_up("https://e.test/a.js", 0, 0).source), max_bytes=1 << 20)
+    insist("what may be", made.rewrite("f@https://e.test/b.js:1:1"), b"f@https://e.test/c.ts:1:1")
+    # It may ask for other maps and put some in, with room for them or without: the text keeps those that it has.
+    one = SourceMap(text_of("a.ts")).nbytes + 200
+    for what in (lambda: made.get("https://e.test/z.js"), lambda: made.add("https://e.test/a.js", text_of("z.ts")),
+                 lambda: made.add("https://e.test/z.js", text_of("z.ts")), lambda: made.discard("https://e.test/a.js")):
+        for room in (1000, 4, 3, 2, 1):
+            made = Maps(lambda url: (what() if "b.js" in url else None, text_of(f"{url[-4]}.ts"))[1], max_bytes=room * one)
+            insist(f"room for {room}", made.rewrite(trace).decode(), trace.replace(".js", ".ts"))
+            insist("the bound", made.nbytes <= room * one, True)
+
+
 def folders(folder):
     (folder / "maps/js").mkdir(parents=True)
     (folder / "maps/js/a.js.map").write_text(text_of("a.ts"))
@@ -254,6 +313,8 @@ def rewriting():
     maps = Maps(load, max_bytes=1 << 20)
     maps.add("https://e.test/a.js", text_of("own.ts"))
     insist("what was added", maps.rewrite("    at f (https://e.test/a.js:1:5)\n"), b"    at f (https://e.test/own.ts:2:2)\n")
+    maps.add("https://e.test/a.js", text_of("newer.ts"))
+    insist("what was added later", maps.rewrite("    at f (https://e.test/a.js:1:5)\n"), b"    at f (https://e.test/newer.ts:2:2)\n")
     rewriter = Rewriter({"https://e.test/a.js": text_of("a.ts")})
     insist("one place", rewriter.look_up("https://e.test/a.js?v=1", 0, 4), Place("https://e.test/a.ts", 1, 1, "n", True, 0))
     insist("no map", rewriter.look_up("https://e.test/b.js", 0, 4), None)
@@ -317,6 +378,7 @@ paths()
 generated(sorted((Path(__file__).resolve().parents[2] / "examples").glob("*.map")))
 bounded()
 refusals()
+rewriting_within()
 folders(Path(sys.argv[1]))
 paths_of_maps(Path(sys.argv[1]))
 patterns()

@@ -2,7 +2,10 @@
  * modules in smap/ are what people call.
  *
  * A call that may take long lets other threads of Python go on. It does not where it reads bytes that they could change
- * meanwhile. A call with a handle that such a call is at work with waits for it. */
+ * meanwhile. A call with a handle that such a call is at work with waits for it.
+ *
+ * To make or free a list, a tuple or an error may run the collector, and with it any code, which may close what is held. So what a
+ * handle lends is read to the end before, and no handle is used behind it without `ready`. Numbers, bytes and texts run no code. */
 #ifndef EXTENSION_H
 #define EXTENSION_H
 
@@ -71,7 +74,7 @@ struct held {
 /* Waits until no call is at work with it. Returns false where a signal raised an error. */
 bool idle(struct held *held);
 
-/* The same for several, which have to be open. So they are all until this thread lets others go on. */
+/* The same for several, which have to be open. So they are all until this thread lets others go on, or runs code. */
 bool ready(struct held *const *held, size_t count);
 
 /* Begins and ends a call that may let other threads go on, with what is idle. */
@@ -95,8 +98,16 @@ PyObject *held_closed(PyObject *self, void *unused);
 /* A place that a look-up found, with its texts. */
 PyObject *place_found(const smap_found *found, const smap_source_text *source, smap_text name);
 
-/* The functions of the module, and a method of the map that mappings.c has. */
+/* Whether there is such a source, which was asked for by this value. Its texts are lent. */
+bool has_source(const struct held *held, uint32_t index, PyObject *value, smap_source_text *source);
+
+/* Methods of the map: all mappings (mappings.c), and lists (lists.c): the generated places of an original one, or of a whole line where no
+ * column is given, and the lines around a line of a source with at which of them it stands, or None. */
 PyObject *map_mappings(PyObject *self, PyObject *unused);
+PyObject *map_generated(PyObject *self, PyObject *words);
+PyObject *map_lines(PyObject *self, PyObject *words);
+
+/* The functions of the module. */
 PyObject *encode(PyObject *module, PyObject *data);
 PyObject *frame_urls(PyObject *module, PyObject *data);
 PyObject *compose(PyObject *module, PyObject *words);

@@ -131,7 +131,7 @@ void *room_of(PyObject *value, size_t *length) {
 
 /* The same where not all are given at their places, or one is missing or too many. */
 static bool words_by_name(PyObject *const *given, Py_ssize_t count, PyObject *named, const char *format, char **names, PyObject **words) {
-    PyObject *at_places = PyTuple_New(count), *by_name = named ? PyDict_New() : NULL;
+    PyObject *by_name = named ? PyDict_New() : NULL, *at_places = PyTuple_New(count);
     bool is = at_places && (by_name || !named);
     for (Py_ssize_t i = 0; is && i < count; i++) {
         Py_INCREF(given[i]);

@@ -22,6 +22,8 @@ void give_back(struct held *held) {
 
 void hand_over(struct held *map, struct held *taker) {
     map->full = false;
+    if (map->originals.at) smap_originals_free(&map->originals);
+    map->originals.at = NULL;
     taker->size += map->size;
     map->size = 0;
 }

@@ -2,14 +2,17 @@
 #include "extension.h"
 
 static PyObject *inners_new(PyTypeObject *type, PyObject *words, PyObject *named) {
-    PyObject *outer;
-    if (!PyArg_ParseTuple(words, "O!", map_type, &outer) || !ready((struct held *[]){(struct held *)outer}, 1)) return NULL;
-    struct held *held = (struct held *)held_new(type, words, named);
+    PyObject *given;
+    if (!PyArg_ParseTuple(words, "O!", map_type, &given)) return NULL;
+    struct held *held = (struct held *)held_new(type, words, named), *outer = (struct held *)given;
     if (!held) return NULL;
-    held->full = smap_inners_new(&((struct held *)outer)->map, &held->inners) == SMAP_DONE;
-    if (held->full) return (PyObject *)held;
+    if (ready(&outer, 1)) {
+        held->full = smap_inners_new(&outer->map, &held->inners) == SMAP_DONE;
+        if (held->full) return (PyObject *)held;
+        PyErr_NoMemory();
+    }
     Py_DECREF(held);
-    return PyErr_NoMemory();
+    return NULL;
 }
 
 static void inners_free(PyObject *self) {

@@ -40,7 +40,7 @@ static PyObject *map_read(PyObject *self, PyObject *words) {
     if (held->full) return PyErr_Format(PyExc_ValueError, "the map is read already");
     smap_refusal refusal = {0};
     begin(held);
-    PyThreadState *state = let_go(given.steady);
+    PyThreadState *state = let_go(given.steady && base.steady);
     uint32_t status = smap_map_read(given.bytes, given.length, base.bytes, base.length, interval, &held->map, &refusal);
     come_back(state);
     held->full = status == SMAP_DONE;
@@ -85,9 +85,10 @@ static PyObject *map_look_up_from(PyObject *self, PyObject *const *given, Py_ssi
 }
 
 PyObject *place_found(const smap_found *found, const smap_source_text *source, smap_text name) {
+    PyObject *source_name = text_if(source->named, source->name);
     PyObject *items[] = {
-        text_if(source->named, source->name), PyLong_FromUnsignedLong(found->line), PyLong_FromUnsignedLong(found->column),
-        text_if(found->named, name), PyBool_FromLong(source->ignored), PyLong_FromUnsignedLong(found->source),
+        source_name, PyLong_FromUnsignedLong(found->line), PyLong_FromUnsignedLong(found->column),
+        source_name ? text_if(found->named, name) : NULL, PyBool_FromLong(source->ignored), PyLong_FromUnsignedLong(found->source),
     };
     return tuple_of(place_class, 6, items);
 }
@@ -135,54 +136,6 @@ static PyObject *map_look_up_many(PyObject *self, PyObject *words) {
     return none();
 }
 
-/* Makes the index from original to generated, if there is none. */
-static bool indexed(struct held *held) {
-    if (held->originals.at) return true;
-    begin(held);
-    PyThreadState *state = let_go(true);
-    uint32_t status = smap_originals_new(&held->map, &held->originals);
-    come_back(state);
-    end(held);
-    if (status != SMAP_DONE) PyErr_NoMemory();
-    return status == SMAP_DONE;
-}
-
-/* Puts the generated places of one original column at the end of a list. */
-static bool put_places(PyObject *list, const smap_generated_places *places) {
-    for (size_t i = 0; i < places->count; i++) {
-        const smap_generated_place *place = &places->places[i];
-        PyObject *items[] = {
-            PyLong_FromUnsignedLong(place->line), PyLong_FromUnsignedLong(place->column), PyLong_FromUnsignedLong(place->original_column),
-        };
-        PyObject *one = tuple_of(generated_class, 3, items);
-        bool is = one && PyList_Append(list, one) == 0;
-        Py_XDECREF(one);
-        if (!is) return false;
-    }
-    return true;
-}
-
-/* The generated places of an original one, or of a whole line where no column is given. */
-static PyObject *map_generated(PyObject *self, PyObject *words) {
-    struct held *held = (struct held *)self;
-    PyObject *given_source, *given_line, *given_column;
-    int after;
-    uint32_t source, line, column = 0;
-    if (!PyArg_ParseTuple(words, "OOOp", &given_source, &given_line, &given_column, &after)) return NULL;
-    bool whole = given_column == Py_None;
-    if (!index_of(given_source, "a source", &source) || !place_of(given_line, "line", &line)) return NULL;
-    if ((!whole && !place_of(given_column, "column", &column)) || !ready(&held, 1) || !indexed(held)) return NULL;
-    PyObject *list = PyList_New(0);
-    while (list) {
-        smap_generated_places places = SMAP_PLACES;
-        smap_generated(&held->originals, source, line, column, whole || after ? SMAP_AT_OR_AFTER : SMAP_AT_OR_BEFORE, &places);
-        if (!put_places(list, &places)) Py_CLEAR(list);
-        else if (!whole || !places.count) break;
-        else column = places.places[0].original_column + 1;
-    }
-    return list;
-}
-
 static PyObject *map_counts(PyObject *self, void *unused) {
     (void)unused;
     struct held *held = (struct held *)self;
@@ -197,17 +150,20 @@ static PyObject *map_counts(PyObject *self, void *unused) {
     return tuple_of(counts_class, 6, items);
 }
 
-/* The source of a number, whose texts are lent until the next call. */
+bool has_source(const struct held *held, uint32_t index, PyObject *value, smap_source_text *source) {
+    if (smap_source(&held->map, index, source) == SMAP_DONE) return true;
+    PyErr_Format(PyExc_IndexError, "no source %S", value);
+    return false;
+}
+
+/* The source of a number, whose texts are lent until code runs. */
 static bool source_of(PyObject *self, PyObject *const *given, Py_ssize_t count, PyObject *named, const char *format, smap_source_text *source) {
     static char *names[] = {"index", NULL};
     struct held *held = (struct held *)self;
     PyObject *value;
     uint32_t index;
     if (!words_of(given, count, named, format, names, &value) || !index_of(value, "a source", &index)) return false;
-    if (!ready(&held, 1)) return false;
-    if (smap_source(&held->map, index, source) == SMAP_DONE) return true;
-    PyErr_Format(PyExc_IndexError, "no source %S", value);
-    return false;
+    return ready(&held, 1) && has_source(held, index, value, source);
 }
 
 static PyObject *map_source(PyObject *self, PyObject *const *given, Py_ssize_t count, PyObject *named) {
@@ -264,37 +220,6 @@ static PyObject *map_nbytes(PyObject *self, void *unused) {
     uint64_t size = 0;
     smap_map_size(&held->map, &size);
     return PyLong_FromUnsignedLongLong(size);
-}
-
-/* These lines of a content as a list. */
-static PyObject *texts_of(smap_text content, const smap_line_bytes *lines, size_t count) {
-    PyObject *list = PyList_New((Py_ssize_t)count);
-    for (size_t i = 0; list && i < count; i++) {
-        PyObject *text = text_if(true, (smap_text){content.bytes + lines[i].start, lines[i].length});
-        if (text) PyList_SetItem(list, (Py_ssize_t)i, text);
-        else Py_CLEAR(list);
-    }
-    return list;
-}
-
-/* The lines around a line of a source, and at which of them it stands, or None. */
-static PyObject *map_lines(PyObject *self, PyObject *words) {
-    struct held *held = (struct held *)self;
-    PyObject *source, *line;
-    unsigned int index, number, before, after;
-    if (!PyArg_ParseTuple(words, "OOII", &source, &line, &before, &after)) return NULL;
-    if (!index_of(source, "a source", &index) || !place_of(line, "line", &number) || !ready(&held, 1)) return NULL;
-    smap_source_text text = SMAP_SOURCE;
-    if (smap_source(&held->map, index, &text) != SMAP_DONE) return PyErr_Format(PyExc_IndexError, "no source %S", source);
-    size_t places = (size_t)before + 1 + after;
-    smap_line_bytes *lines = calloc(places, sizeof *lines);
-    if (!lines) return PyErr_NoMemory();
-    smap_line_range range = {0};
-    bool is = smap_source_lines(&held->map, index, number, before, after, lines, places, &range) == SMAP_DONE;
-    PyObject *list = is ? texts_of(text.content, lines, range.count) : NULL;
-    free(lines);
-    if (!is) return none();
-    return list ? Py_BuildValue("NI", list, number - range.first) : NULL;
 }
 
 static PyObject *map_written(PyObject *self, PyObject *unused) {

@@ -97,8 +97,9 @@ static PyObject *table_look_up(PyObject *self, PyObject *words) {
     PyObject *data, *given_line, *given_column;
     struct given url;
     uint32_t line, column;
-    if (!PyArg_ParseTuple(words, "OOO", &data, &given_line, &given_column) || !bytes_of(data, &url)) return NULL;
-    if (!place_of(given_line, "line", &line) || !place_of(given_column, "column", &column) || !ready(&held, 1)) return NULL;
+    if (!PyArg_ParseTuple(words, "OOO", &data, &given_line, &given_column)) return NULL;
+    if (!place_of(given_line, "line", &line) || !place_of(given_column, "column", &column)) return NULL;
+    if (!bytes_of(data, &url) || !ready(&held, 1)) return NULL;
     smap_found found = {0};
     smap_source_text source = SMAP_SOURCE;
     smap_text name = SMAP_TEXT;
@@ -108,8 +109,8 @@ static PyObject *table_look_up(PyObject *self, PyObject *words) {
 
 /* Puts a URL into the dict, and where it begins into its list, if it has a query or a fragment. */
 static bool put_url(PyObject *urls, const uint8_t *bytes, const smap_frame_url *found) {
-    const uint8_t *place = bytes + found->start;
-    PyObject *url = PyBytes_FromStringAndSize((const char *)place, (Py_ssize_t)found->length), *start = NULL;
+    PyObject *url = PyBytes_FromStringAndSize((const char *)bytes + found->start, (Py_ssize_t)found->length), *start = NULL;
+    const char *text = url ? PyBytes_AsString(url) : NULL;
     PyObject *starts = url ? PyDict_GetItemWithError(urls, url) : NULL;
     bool put = starts != NULL;
     if (url && !starts && !PyErr_Occurred()) {
@@ -117,7 +118,7 @@ static bool put_url(PyObject *urls, const uint8_t *bytes, const smap_frame_url *
         put = starts && PyDict_SetItem(urls, url, starts) == 0;
         Py_XDECREF(starts);
     }
-    if (put && (memchr(place, '?', found->length) || memchr(place, '#', found->length))) {
+    if (put && (memchr(text, '?', found->length) || memchr(text, '#', found->length))) {
         start = PyLong_FromSize_t(found->start);
         put = start && PyList_Append(starts, start) == 0;
     }

@@ -26,7 +26,8 @@ class Maps:
     """Maps by URL. `load` is asked for the map of a URL when it is first wanted, and gives it, or None where there is none, as for
     a `Rewriter`, as is `paths`; threads wait for each other then. Maps are kept while they count for at most `max_bytes` bytes of memory, or one
     by itself: what was longest not asked for goes first. What `load` raises, and why a map is refused, is told to `refused`, or
-    else kept in `refusals`, of which there are 100 at most; that URL has no map until it is discarded."""
+    else kept in `refusals`, of which there are 100 at most; that URL has no map until it is discarded. Where `load` or `refused` calls
+    `rewrite` of the same maps, that raises `RuntimeError`."""
 
     def __init__(self, load: Load, *, max_bytes: int, refused: Optional[Callable[[str, Exception], object]] = None,
                  paths: bool = False) -> None:
@@ -41,7 +42,8 @@ class Maps:
         self._lock = threading.RLock()
         self._kept: "OrderedDict[str, _Kept]" = OrderedDict()
         self._size = self._count = 0
-        self._rewriter, self._rewriter_size = _rewriter(), 0
+        self._rewriter, self._rewriter_size, self._is_old = _rewriter(), 0, False
+        self._is_rewriting = False
         self.counts: Dict[str, int] = {}
 
     @classmethod
@@ -108,13 +110,15 @@ class Maps:
         """Puts a map under this very URL, in place of what is kept of it. Raises `Refused`. A pattern is no URL here."""
         read = SourceMap._under(_whole(url, "a URL"), given, self._paths)
         with self._lock:
+            if url.encode(errors="surrogatepass") in self._rewriter._known:
+                self._outdate_rewriter()
             self._keep(url, read)
 
     def discard(self, url: str) -> None:
         """Drops what is kept of a URL, so that its map is asked for anew."""
         with self._lock:
             self._drop(self._key(url))
-            self._drop_rewriter()
+            self._outdate_rewriter()
 
     def rewrite(self, trace: _given.Trace, hide_ignored: bool = False, anywhere: bool = False, strip_ansi: bool = False) -> bytes:
         """The trace rewritten over the maps that it names, as a `Rewriter` does, which sets `counts`. It has copies of its own of them,
@@ -124,12 +128,19 @@ class Maps:
         done: List[bytes] = []
         counts: Dict[str, int] = {}
         with self._lock:
-            begin = 0
-            for end in self._ends(text, anywhere):
-                done.append(self._rewriter.rewrite(text[begin:end], *how))
-                counts = {key: counts.get(key, 0) + count for key, count in self._rewriter.counts.items()}
-                begin = end
-                if end < len(text):
+            self._told.refuse_within()
+            self._is_rewriting = True
+            try:
+                begin = 0
+                for end in self._ends(text, anywhere):
+                    done.append(self._rewriter.rewrite(text[begin:end], *how))
+                    counts = {key: counts.get(key, 0) + count for key, count in self._rewriter.counts.items()}
+                    begin = end
+                    if end < len(text):
+                        self._drop_rewriter()
+            finally:
+                self._is_rewriting = False
+                if self._is_old:
                     self._drop_rewriter()
         self.counts = counts
         return b"".join(done)
@@ -168,16 +179,23 @@ class Maps:
             return False
         self._rewriter_size += size
         self._rewriter._known[url] = False
-        try:
-            if source_map is not None:
-                self._rewriter._add(key, source_map)
-        except Exception as error:
-            self._told.tell(key, error)
+        with self._told.within():
+            try:
+                if source_map is not None:
+                    self._rewriter._add(key, source_map)
+            except Exception as error:
+                self._told.tell(key, error)
         return True
+
+    # One of its maps is old, or there is no room for them. A text that is rewritten over them when a loader does this has them to its end.
+    def _outdate_rewriter(self) -> None:
+        self._is_old = True
+        if not self._is_rewriting:
+            self._drop_rewriter()
 
     def _drop_rewriter(self) -> None:
         self._rewriter.close()
-        self._rewriter, self._rewriter_size = _rewriter(), 0
+        self._rewriter, self._rewriter_size, self._is_old = _rewriter(), 0, False
 
     # The text under which what a URL has is kept.
     def _key(self, url: str) -> str:
@@ -185,19 +203,20 @@ class Maps:
 
     # The map that the loader gives, which is None where it raises, or where that is refused.
     def _read(self, url: str) -> Optional[SourceMap]:
-        try:
-            given = self._load(url)
-            return None if given is None else SourceMap._under(url, given, self._paths)
-        except Exception as error:
-            self._told.tell(url, error)
-            return None
+        with self._told.within():
+            try:
+                given = self._load(url)
+                return None if given is None else SourceMap._under(url, given, self._paths)
+            except Exception as error:
+                self._told.tell(url, error)
+                return None
 
     def _keep(self, key: str, source_map: Optional[SourceMap]) -> None:
         self._drop(key)
         size = _size_of(key, source_map)
         self._make_room(size)
         if self._rewriter_size and self.nbytes + size > self.max_bytes:
-            self._drop_rewriter()
+            self._outdate_rewriter()
         self._kept[key] = _Kept(source_map, size)
         self._size += size
         self._count += source_map is not None

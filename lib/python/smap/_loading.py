@@ -38,7 +38,7 @@ def ask(known: Dict[bytes, bool], held: Held, anywhere: bool, is_of_pattern: Cal
         if short not in known:
             if not is_location(short) or is_of_pattern(url):
                 continue
-            # It may rewrite over the same maps itself.
+            # It may look up in the same maps itself.
             known[short] = False
             known[short] = is_loaded(short)
         if not anywhere or short == url or not known[short]:

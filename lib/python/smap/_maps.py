@@ -102,12 +102,14 @@ class SourceMap(_smap.Map):
     def generated(self, source: int, line: int, column: Optional[int] = None, after: bool = False) -> List[Generated]:
         """The places of the generated file whose original stands on this line of this source: those at the greatest original
         column at or before `column`, or with `after` at the least at or after it, in the order of the file; and without a
-        column all of the line, by original columns. The first call makes an index of 16 bytes a mapping."""
+        column all of the line, by original columns. The first call makes an index of 16 bytes a mapping. Raises `IndexError` where
+        there is no such source."""
         return self._generated(source, line, column, after)
 
     def context(self, source: int, line: int, before: int = 2, after: int = 2) -> Optional[Context]:
         """A line of this source with up to so many lines before and after it, at most 65,535 each, or None where its content has no
-        such line. Of a line those characters are given that stand in its first 65,536 bytes."""
+        such line. Of a line those characters are given that stand in its first 65,536 bytes. Raises `IndexError` where there is no
+        such source."""
         given = self._lines(source, line, _given.count(before, "before"), _given.count(after, "after"))
         if given is None:
             return None

@@ -2,7 +2,8 @@
 
 import threading
 from collections.abc import Mapping as AnyMapping
-from typing import Callable, Dict, List, Mapping, Optional, Tuple, Union
+from contextlib import contextmanager
+from typing import Callable, Dict, Iterator, List, Mapping, Optional, Tuple, Union
 
 from . import _given, _smap
 from ._answers import Place
@@ -25,13 +26,28 @@ def stripped(trace: _given.Trace) -> bytes:
 
 
 class Told:
-    """What is told of maps that are not read: to a function, or else kept."""
+    """What is told of maps that are not read: to a function, or else kept. It is used by the thread alone that has the lock of the maps."""
 
     def __init__(self, refused: Optional[Callable[[str, Exception], object]]) -> None:
         if refused is not None and not callable(refused):
             raise TypeError(f"refused is a function, not {type(refused).__name__}")
         self._refused = refused
+        self._is_within = False
         self.refusals: List[Tuple[str, Exception]] = []
+
+    @contextmanager
+    def within(self) -> Iterator[None]:
+        """While the loader is at work, and the function that is told."""
+        before, self._is_within = self._is_within, True
+        try:
+            yield
+        finally:
+            self._is_within = before
+
+    def refuse_within(self) -> None:
+        """Raises where one of both rewrites over the maps, which could ask it again without end."""
+        if self._is_within:
+            raise RuntimeError("rewrite is called from within load or refused of the same maps")
 
     def tell(self, url: str, error: Exception) -> None:
         if self._refused is not None:
@@ -55,7 +71,7 @@ class Rewriter(_smap.Table):
         `load` is asked for the map of each URL or path that is not among them, without query and fragment, once, when a
         frame or a place first names it: it gives the map, or None where there is none. What it raises, and why its map is
         refused, is told to `refused` with the URL, or else kept in `refusals`, of which there are 100 at most; the frames
-        stay.
+        stay. Where `load` or `refused` calls `rewrite` of the same rewriter, that raises `RuntimeError`.
 
         A URL that begins with `*` is a pattern: its map is that of each URL that ends with the text behind it, where a piece of
         the URL begins, with or without query and fragment, if no map is under the URL; of several the longest text decides.
@@ -101,14 +117,15 @@ class Rewriter(_smap.Table):
             url = bytes_in.decode()
         except UnicodeDecodeError:
             return False
-        try:
-            given = self._load(url) if self._load is not None else None
-            if given is None:
+        with self._told.within():
+            try:
+                given = self._load(url) if self._load is not None else None
+                if given is None:
+                    return False
+                self._add(url, given)
+            except Exception as error:
+                self._told.tell(url, error)
                 return False
-            self._add(url, given)
-        except Exception as error:
-            self._told.tell(url, error)
-            return False
         return True
 
     @property
@@ -159,4 +176,5 @@ class Rewriter(_smap.Table):
         if self._load is None:
             return []
         with self._asking:
+            self._told.refuse_within()
             return ask(self._known, held, anywhere, self._is_of_pattern, self._is_loaded)

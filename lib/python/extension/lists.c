@@ -1,0 +1,121 @@
+/* Lists of what a map lends: lines of a source, and generated places. All of it is copied before the first list or tuple is made. */
+#include "extension.h"
+#include <stdlib.h>
+#include <string.h>
+
+/* Makes the index from original to generated, if there is none. */
+static bool indexed(struct held *held) {
+    if (held->originals.at) return true;
+    begin(held);
+    PyThreadState *state = let_go(true);
+    uint32_t status = smap_originals_new(&held->map, &held->originals);
+    come_back(state);
+    end(held);
+    if (status != SMAP_DONE) PyErr_NoMemory();
+    return status == SMAP_DONE;
+}
+
+/* Generated places that were copied. */
+struct places { smap_generated_place *at; size_t count, room; };
+
+/* Copies those that are lent behind the others. */
+static bool put_places(struct places *places, const smap_generated_places *lent) {
+    size_t count = places->count + lent->count;
+    if (count > places->room) {
+        size_t room = count > 2 * places->room ? count : 2 * places->room;
+        smap_generated_place *at = realloc(places->at, room * sizeof *at);
+        if (!at) {
+            PyErr_NoMemory();
+            return false;
+        }
+        *places = (struct places){at, places->count, room};
+    }
+    if (lent->count) memcpy(places->at + places->count, lent->places, lent->count * sizeof *lent->places);
+    places->count = count;
+    return true;
+}
+
+/* Copies the generated places of an original one or, of a whole line, those of each original column. */
+static bool copy_places(const struct held *held, uint32_t source, uint32_t line, uint32_t column, bool whole, bool after, struct places *places) {
+    smap_generated_places lent;
+    do {
+        lent = (smap_generated_places)SMAP_PLACES;
+        smap_generated(&held->originals, source, line, column, whole || after ? SMAP_AT_OR_AFTER : SMAP_AT_OR_BEFORE, &lent);
+        if (!put_places(places, &lent)) return false;
+        if (lent.count) column = lent.places[0].original_column + 1;
+    } while (whole && lent.count);
+    return true;
+}
+
+/* The code that a tuple may run finds no list with places that are not filled yet. */
+static PyObject *list_of_places(const struct places *places) {
+    PyObject *list = PyList_New(0);
+    for (size_t i = 0; list && i < places->count; i++) {
+        const smap_generated_place *place = &places->at[i];
+        PyObject *items[] = {
+            PyLong_FromUnsignedLong(place->line), PyLong_FromUnsignedLong(place->column), PyLong_FromUnsignedLong(place->original_column),
+        };
+        PyObject *one = tuple_of(generated_class, 3, items);
+        if (!one || PyList_Append(list, one) < 0) Py_CLEAR(list);
+        Py_XDECREF(one);
+    }
+    return list;
+}
+
+PyObject *map_generated(PyObject *self, PyObject *words) {
+    struct held *held = (struct held *)self;
+    PyObject *given_source, *given_line, *given_column;
+    int after;
+    uint32_t source, line, column = 0;
+    if (!PyArg_ParseTuple(words, "OOOp", &given_source, &given_line, &given_column, &after)) return NULL;
+    bool whole = given_column == Py_None;
+    if (!index_of(given_source, "a source", &source) || !place_of(given_line, "line", &line)) return NULL;
+    if ((!whole && !place_of(given_column, "column", &column)) || !ready(&held, 1)) return NULL;
+    smap_source_text text = SMAP_SOURCE;
+    if (!has_source(held, source, given_source, &text) || !indexed(held)) return NULL;
+    struct places places = {NULL, 0, 0};
+    PyObject *list = copy_places(held, source, line, column, whole, after, &places) ? list_of_places(&places) : NULL;
+    free(places.at);
+    return list;
+}
+
+/* Makes texts of lines of a content, which runs no code. */
+static bool copy_lines(smap_text content, const smap_line_bytes *lines, size_t count, PyObject **texts) {
+    for (size_t i = 0; i < count; i++) {
+        texts[i] = text_if(true, (smap_text){content.bytes + lines[i].start, lines[i].length});
+        if (!texts[i]) return false;
+    }
+    return true;
+}
+
+/* A list of lines of a content. */
+static PyObject *list_of_lines(smap_text content, const smap_line_bytes *lines, size_t count) {
+    PyObject **texts = calloc(count + 1, sizeof *texts);
+    if (!texts) return PyErr_NoMemory();
+    PyObject *list = copy_lines(content, lines, count, texts) ? PyList_New((Py_ssize_t)count) : NULL;
+    for (size_t i = 0; i < count; i++) {
+        if (list) PyList_SetItem(list, (Py_ssize_t)i, texts[i]);
+        else Py_XDECREF(texts[i]);
+    }
+    free(texts);
+    return list;
+}
+
+PyObject *map_lines(PyObject *self, PyObject *words) {
+    struct held *held = (struct held *)self;
+    PyObject *source, *line;
+    unsigned int index, number, before, after;
+    if (!PyArg_ParseTuple(words, "OOII", &source, &line, &before, &after)) return NULL;
+    if (!index_of(source, "a source", &index) || !place_of(line, "line", &number) || !ready(&held, 1)) return NULL;
+    smap_source_text text = SMAP_SOURCE;
+    if (!has_source(held, index, source, &text)) return NULL;
+    size_t places = (size_t)before + 1 + after;
+    smap_line_bytes *lines = calloc(places, sizeof *lines);
+    if (!lines) return PyErr_NoMemory();
+    smap_line_range range = {0};
+    bool is = smap_source_lines(&held->map, index, number, before, after, lines, places, &range) == SMAP_DONE;
+    PyObject *list = is ? list_of_lines(text.content, lines, range.count) : NULL;
+    free(lines);
+    if (!is) return none();
+    return list ? Py_BuildValue("NI", list, number - range.first) : NULL;
+}
