@@ -204,8 +204,8 @@ def bases():
     for base in (7, b"https://e.test/", ["a"]):
         refuses(TypeError, lambda: SourceMap(SMALL, base=base), "base is a str", type(base).__name__)
     # No base of a test is so long.
-    long = refused_map(b"", Refusal(18, 0, 0, 0, 0, 0), None, "https://e.test/")
-    same((long.number, str(long)), (18, "the base is too long: 'https://e.test/'"))
+    long = refused_map(b"", Refusal(19, 0, 0, 0, 0, 0), None, "https://e.test/")
+    same((long.number, str(long)), (19, "the base is too long: 'https://e.test/'"))
     same(str(refused_map(b"", Refusal(99, 0, 0, 0, 0, 0), None, "")), "refused: 99")
 
 

@@ -15,7 +15,7 @@
 #include <smap.h>
 
 /* The classes of _answers.py. Their tuples are made here, since the way through Python takes longer than a look-up. */
-extern PyTypeObject *answer_class, *counts_class, *generated_class, *mapping_class, *place_class, *reason_class, *refusal_class, *source_class;
+extern PyTypeObject *answer_class, *counts_class, *generated_class, *mapping_class, *place_class, *reason_class, *refusal_class, *source_class, *text_refusal_class;
 
 /* The types of the extension, and what they are made of. */
 extern PyTypeObject *map_type, *table_type, *inners_type, *mappings_type;

@@ -34,14 +34,16 @@ static PyObject *map_read(PyObject *self, PyObject *words) {
     struct held *held = (struct held *)self;
     PyObject *data, *base_data;
     unsigned int interval;
+    unsigned long long most_names;
     struct given given, base;
-    if (!PyArg_ParseTuple(words, "OOI", &data, &base_data, &interval)) return NULL;
+    if (!PyArg_ParseTuple(words, "OOIK", &data, &base_data, &interval, &most_names)) return NULL;
     if (!bytes_of(data, &given) || !bytes_of(base_data, &base) || !idle(held)) return NULL;
     if (held->full) return PyErr_Format(PyExc_ValueError, "the map is read already");
     smap_refusal refusal = {0};
     begin(held);
     PyThreadState *state = let_go(given.steady && base.steady);
-    uint32_t status = smap_map_read(given.bytes, given.length, base.bytes, base.length, interval, &held->map, &refusal);
+    uint32_t status =
+        smap_map_read_within(given.bytes, given.length, base.bytes, base.length, interval, most_names, &held->map, &refusal);
     come_back(state);
     held->full = status == SMAP_DONE;
     held->size = given.length;

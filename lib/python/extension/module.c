@@ -2,7 +2,8 @@
 #include "extension.h"
 #include <string.h>
 
-PyTypeObject *answer_class, *counts_class, *generated_class, *mapping_class, *place_class, *reason_class, *refusal_class, *source_class;
+PyTypeObject *answer_class, *counts_class, *generated_class, *mapping_class, *place_class, *reason_class, *refusal_class, *source_class,
+    *text_refusal_class;
 PyTypeObject *map_type, *table_type, *inners_type, *mappings_type;
 
 static PyMethodDef functions[] = {
@@ -29,6 +30,7 @@ static bool filled(PyObject *module) {
     static const struct { const char *name; PyTypeObject **class; } classes[] = {
         {"Answer", &answer_class}, {"Counts", &counts_class}, {"Generated", &generated_class}, {"Mapping", &mapping_class},
         {"Place", &place_class}, {"Reason", &reason_class}, {"Refusal", &refusal_class}, {"Source", &source_class},
+        {"TextRefusal", &text_refusal_class},
     };
     static const struct { PyType_Spec *spec; PyTypeObject **type; } types[] = {
         {&map_spec, &map_type}, {&table_spec, &table_type}, {&inners_spec, &inners_type}, {&mappings_spec, &mappings_type},

@@ -51,9 +51,12 @@ static PyObject *table_put(PyObject *self, PyObject *words) {
     return status == SMAP_DONE ? none() : PyErr_NoMemory();
 }
 
-/* The rewritten bytes, and how many lines, frames or places, mapped and hidden ones there were. None where there is too much. */
-static PyObject *rewritten(uint32_t status, smap_bytes *bytes, const smap_trace_count *count) {
-    if (status == SMAP_REFUSED) return none();
+/* The rewritten bytes, and how many lines, frames or places, mapped and hidden ones there were; or the refusal. */
+static PyObject *rewritten(uint32_t status, smap_bytes *bytes, const smap_trace_count *count, const smap_rewrite_refusal *refusal) {
+    if (status == SMAP_REFUSED) {
+        PyObject *items[] = {PyLong_FromUnsignedLong(refusal->number), PyLong_FromUnsignedLongLong(refusal->lines)};
+        return tuple_of(text_refusal_class, 2, items);
+    }
     if (status != SMAP_DONE) return PyErr_NoMemory();
     return Py_BuildValue("N(KKKK)", taken(bytes), (unsigned long long)count->lines, (unsigned long long)count->frames,
                          (unsigned long long)count->mapped, (unsigned long long)count->hidden);
@@ -63,18 +66,20 @@ static PyObject *table_rewrite(PyObject *self, PyObject *words) {
     struct held *held = (struct held *)self;
     PyObject *data;
     int hide_ignored, anywhere, strip_ansi, cut;
+    unsigned long long most;
     struct given given;
-    if (!PyArg_ParseTuple(words, "Opppp", &data, &hide_ignored, &anywhere, &strip_ansi, &cut) || !bytes_of(data, &given)) return NULL;
-    if (!ready(&held, 1)) return NULL;
+    if (!PyArg_ParseTuple(words, "OppppK", &data, &hide_ignored, &anywhere, &strip_ansi, &cut, &most)) return NULL;
+    if (!bytes_of(data, &given) || !ready(&held, 1)) return NULL;
     smap_bytes bytes = {0};
     smap_trace_count count = {0};
+    smap_rewrite_refusal refusal = {0};
     begin(held);
     PyThreadState *state = let_go(given.steady);
     const smap_rewrite_options options = {hide_ignored, anywhere, strip_ansi, cut};
-    uint32_t status = smap_rewrite_with(&held->table, given.bytes, given.length, &options, &bytes, &count);
+    uint32_t status = smap_rewrite_within(&held->table, given.bytes, given.length, &options, most, &bytes, &count, &refusal);
     come_back(state);
     end(held);
-    return rewritten(status, &bytes, &count);
+    return rewritten(status, &bytes, &count, &refusal);
 }
 
 /* URLs are looked up with or without query and fragment. */

@@ -95,6 +95,13 @@ class Refusal(NamedTuple):
     byte: int
 
 
+class TextRefusal(NamedTuple):
+    """Why a text is not rewritten, in the library's number, and how many whole lines of what would come out fit."""
+
+    number: int
+    lines: int
+
+
 class Reason(NamedTuple):
     """What is known of why a map is refused: the value that is wrong, what it may be, the segment's column, and sentences."""
 

@@ -8,6 +8,7 @@ from typing import Callable, Dict, Iterator, List, NamedTuple, Optional, Tuple, 
 from . import _given, _smap
 from ._answers import Place
 from ._maps import SourceMap
+from ._reported import LONG_OUTPUT, Refused, refused_text
 from ._traces import Given, Load, Rewriter, Told, stripped
 from ._urls import beside_places, cut, is_location, is_plain
 
@@ -24,13 +25,13 @@ class _Kept(NamedTuple):
 
 class Maps:
     """Maps by URL. `load` is asked for the map of a URL when it is first wanted, and gives it, or None where there is none, as for
-    a `Rewriter`, as is `paths`; threads wait for each other then. Maps are kept while they count for at most `max_bytes` bytes of memory, or one
-    by itself: what was longest not asked for goes first. What `load` raises, and why a map is refused, is told to `refused`, or
-    else kept in `refusals`, of which there are 100 at most; that URL has no map until it is discarded. Where `load` or `refused` calls
-    `rewrite` of the same maps, that raises `RuntimeError`."""
+    a `Rewriter`, as are `paths` and `max_names`; threads wait for each other then. Maps are kept while they count for at most
+    `max_bytes` bytes of memory, or one by itself: what was longest not asked for goes first. What `load` raises, and why a map is
+    refused, is told to `refused`, or else kept in `refusals`, of which there are 100 at most; that URL has no map until it is
+    discarded. Where `load` or `refused` calls `rewrite` of the same maps, that raises `RuntimeError`."""
 
     def __init__(self, load: Load, *, max_bytes: int, refused: Optional[Callable[[str, Exception], object]] = None,
-                 paths: bool = False) -> None:
+                 paths: bool = False, max_names: int = _given.NAME_BYTES) -> None:
         if not callable(load):
             raise TypeError(f"load is a function, not {type(load).__name__}")
         if _given.whole(max_bytes, "max_bytes") < 0:
@@ -38,6 +39,7 @@ class Maps:
         self.max_bytes = max_bytes
         self._load = load
         self._paths = bool(paths)
+        self._most_names = _given.count(max_names, "max_names", _given.MOST_BYTES)
         self._told = Told(refused)
         self._lock = threading.RLock()
         self._kept: "OrderedDict[str, _Kept]" = OrderedDict()
@@ -48,7 +50,8 @@ class Maps:
 
     @classmethod
     def folder(cls, prefix: str, root: Union[str, "os.PathLike[str]"], *, max_bytes: int,
-               refused: Optional[Callable[[str, Exception], object]] = None, paths: bool = False) -> "Maps":
+               refused: Optional[Callable[[str, Exception], object]] = None, paths: bool = False,
+               max_names: int = _given.NAME_BYTES) -> "Maps":
         """The maps of the URLs that begin with this prefix, which ends in `/`, in a folder, as the program has them of `PREFIX=FOLDER/`:
         that of PREFIXjs/app.js is js/app.js.map. No URL leads out of the folder. A file that is not there is no map."""
         if not _whole(prefix, "prefix").endswith("/"):
@@ -65,7 +68,7 @@ class Maps:
             except (FileNotFoundError, NotADirectoryError):
                 return None
 
-        return cls(load, max_bytes=max_bytes, refused=refused, paths=paths)
+        return cls(load, max_bytes=max_bytes, refused=refused, paths=paths, max_names=max_names)
 
     @property
     def nbytes(self) -> int:
@@ -108,7 +111,7 @@ class Maps:
 
     def add(self, url: str, given: Given) -> None:
         """Puts a map under this very URL, in place of what is kept of it. Raises `Refused`. A pattern is no URL here."""
-        read = SourceMap._under(_whole(url, "a URL"), given, self._paths)
+        read = SourceMap._under(_whole(url, "a URL"), given, self._paths, self._most_names)
         with self._lock:
             if url.encode(errors="surrogatepass") in self._rewriter._known:
                 self._outdate_rewriter()
@@ -120,11 +123,13 @@ class Maps:
             self._drop(self._key(url))
             self._outdate_rewriter()
 
-    def rewrite(self, trace: _given.Trace, hide_ignored: bool = False, anywhere: bool = False, strip_ansi: bool = False) -> bytes:
+    def rewrite(self, trace: _given.Trace, hide_ignored: bool = False, anywhere: bool = False, strip_ansi: bool = False, *,
+                max_output: int = _given.OUTPUT_BYTES) -> bytes:
         """The trace rewritten over the maps that it names, as a `Rewriter` does, which sets `counts`. It has copies of its own of them,
-        within the same bound: where one more would pass it, all these go, and what stands before its line is rewritten first."""
+        within the same bound: where one more would pass it, all these go, and what stands before its line is rewritten first.
+        `max_output` is for the whole."""
         text = stripped(trace) if strip_ansi else bytes(_given.trace_bytes(trace))
-        how = (hide_ignored, anywhere)
+        how, left = (hide_ignored, anywhere), _given.count(max_output, "max_output", _given.MOST_BYTES)
         done: List[bytes] = []
         counts: Dict[str, int] = {}
         with self._lock:
@@ -133,7 +138,8 @@ class Maps:
             try:
                 begin = 0
                 for end in self._ends(text, anywhere):
-                    done.append(self._rewriter.rewrite(text[begin:end], *how))
+                    done.append(self._part(done, text[begin:end], how, left))
+                    left -= len(done[-1])
                     counts = {key: counts.get(key, 0) + count for key, count in self._rewriter.counts.items()}
                     begin = end
                     if end < len(text):
@@ -144,6 +150,15 @@ class Maps:
                     self._drop_rewriter()
         self.counts = counts
         return b"".join(done)
+
+    # A part of a text rewritten, which may have so many bytes. Where it has more, the lines before it count as well.
+    def _part(self, done: List[bytes], text: bytes, how: Tuple[bool, bool], most: int) -> bytes:
+        try:
+            return self._rewriter.rewrite(text, *how, max_output=most)
+        except Refused as refused:
+            if refused.number != LONG_OUTPUT or refused.lines is None:
+                raise
+            raise refused_text(LONG_OUTPUT, refused.lines + sum(some.count(b"\n") for some in done)) from None
 
     # Reads the maps that a text names, and gives the ends of the parts that are rewritten by themselves.
     def _ends(self, text: bytes, anywhere: bool) -> Iterator[int]:
@@ -172,7 +187,7 @@ class Maps:
         if kept is None:
             source_map = self._read(key)
         else:
-            source_map = SourceMap(kept.source_map.write()) if kept.source_map is not None else None
+            source_map = kept.source_map._copied() if kept.source_map is not None else None
         size = _size_of(key, source_map)
         self._make_room(size)
         if may_refuse and self._rewriter_size and self.nbytes + size > self.max_bytes:
@@ -206,7 +221,7 @@ class Maps:
         with self._told.within():
             try:
                 given = self._load(url)
-                return None if given is None else SourceMap._under(url, given, self._paths)
+                return None if given is None else SourceMap._under(url, given, self._paths, self._most_names)
             except Exception as error:
                 self._told.tell(url, error)
                 return None

@@ -79,7 +79,7 @@ def _ask(outer: SourceMap, places: _smap.Inners, load: Load) -> None:
 def _put(places: _smap.Inners, number: int, name: Optional[str], given: Given) -> None:
     # Puts a map in the place of a source of this name. The place owns it, so a SourceMap is copied.
     if isinstance(given, SourceMap):
-        read = SourceMap(given.write())
+        read = given._copied()
     else:
         read = SourceMap(given) if name is None else SourceMap._under(name, given)
     with read:

@@ -12,6 +12,10 @@ if TYPE_CHECKING:
 # The greatest number of 32 bits. No map has a line, a column, a source or a name of this number or a greater one.
 MOST = 2**32 - 1
 
+# The greatest bound that a caller gives, in bytes, and the bounds where none is given: on what comes out, and on the names of sources.
+MOST_BYTES = 2**63 - 1
+OUTPUT_BYTES, NAME_BYTES = 2**30, 2**28
+
 # So many lines may be asked for before one and after it.
 MOST_LINES = 65535
 
@@ -55,11 +59,11 @@ def interval(value: Any) -> int:
     return min(max(whole(value, "interval"), 0), MOST)
 
 
-def count(value: Any, what: str) -> int:
-    """How many lines are wanted."""
+def count(value: Any, what: str, most: int = MOST_LINES) -> int:
+    """How many lines are wanted, or bytes may be."""
     number = whole(value, what)
-    if not 0 <= number <= MOST_LINES:
-        raise ValueError(f"{what} is {number}: it is 0 to {MOST_LINES}")
+    if not 0 <= number <= most:
+        raise ValueError(f"{what} is {number}: it is 0 to {most}")
     return number
 
 

@@ -24,49 +24,57 @@ Base = Union[str, "os.PathLike[str]"]
 class SourceMap(_smap.Map):
     """A source map that was read. It is freed by `close`, at the end of a `with`, or when nothing names it any more."""
 
-    def __init__(self, data: _given.FileData, base: Optional[Base] = None, interval: int = 64) -> None:
+    def __init__(self, data: _given.FileData, base: Optional[Base] = None, interval: int = 64, *,
+                 max_names: int = _given.NAME_BYTES) -> None:
         """Reads a map file: its bytes, its text as a `str`, or the file at a `Path`. `base` is the URL at which it
         stands, or the `Path`, from whose folder relative sources go on. The index has a checkpoint at every `interval`-th
-        segment of a line, 1 to 4096. Raises `Refused`, or `MemoryError`."""
+        segment of a line, 1 to 4096. The names of all sources together are made of at most `max_names` bytes. Raises `Refused`,
+        or `MemoryError`."""
+        most_names = _given.count(max_names, "max_names", _given.MOST_BYTES)
         held, path, number = _given.file_bytes(data, "a map"), _given.file_name(base), _given.interval(interval)
         url = None if isinstance(base, os.PathLike) else base
         name, hint = _given.file_name(data) or path or url, _given.path_hint(data)
-        self._take(held, url, number, name, url, hint)
+        self._take(held, url, number, most_names, name, url, hint)
         if path is not None:
             # No call of the library takes a path, so the names of the sources are put into the map.
             text = placed(held, [self.source_name(index) for index in range(self.counts.sources)], path)
             self.close()
-            self._take(text, None, number, name, None)
+            self._take(text, None, number, most_names, name, None)
 
     @classmethod
     def from_file(cls: Type[_Map], path: Union[str, "os.PathLike[str]"], base: Optional[Base] = None,
-                  interval: int = 64) -> _Map:
+                  interval: int = 64, *, max_names: int = _given.NAME_BYTES) -> _Map:
         """The map of the file at a path, which may be a `str` here."""
-        return cls(Path(path), base, interval)
+        return cls(Path(path), base, interval, max_names=max_names)
 
     @classmethod
-    def _under(cls, url: str, given: "Union[_given.FileData, SourceMap]", paths: bool = False) -> "SourceMap":
+    def _under(cls, url: str, given: "Union[_given.FileData, SourceMap]", paths: bool = False,
+               most_names: int = _given.NAME_BYTES) -> "SourceMap":
         # The map that is given, or that of these bytes, which stands at the URL, or at none where that is no URL. With `paths` one
         # whose URL is an absolute path stands at none, and has its sources named by that.
         by_path = paths and _PATH.match(url) is not None
-        source_map = given if isinstance(given, SourceMap) else cls._standing(None if by_path else url, url, given)
+        source_map = given if isinstance(given, SourceMap) else cls._standing(None if by_path else url, url, given, most_names)
         if by_path:
             source_map._use_paths(url.encode(errors="surrogatepass"))
         return source_map
 
     @classmethod
-    def _standing(cls, base: Optional[str], url: str, data: _given.FileData) -> "SourceMap":
+    def _standing(cls, base: Optional[str], url: str, data: _given.FileData, most_names: int) -> "SourceMap":
         held, self = _given.file_bytes(data, "a map"), cls.__new__(cls)
         try:
-            self._take(held, base, 64, url, url)
+            self._take(held, base, 64, most_names, url, url)
         except Refused as refused:
             if refused.number != BAD_BASE:
                 raise
-            self._take(held, None, 64, url, url)
+            self._take(held, None, 64, most_names, url, url)
         return self
 
-    def _take(self, held: _given.Held, base: Optional[str], interval: int, name: Optional[str], url: Optional[str],
-              hint: str = "") -> None:
+    def _copied(self) -> "SourceMap":
+        # The same map once more. Its names were within a bound already.
+        return SourceMap(self.write(), max_names=_given.MOST_BYTES)
+
+    def _take(self, held: _given.Held, base: Optional[str], interval: int, most_names: int, name: Optional[str],
+              url: Optional[str], hint: str = "") -> None:
         base_bytes = b""
         if base is not None:
             try:
@@ -75,7 +83,7 @@ class SourceMap(_smap.Map):
                 raise refused_base(BAD_BASE, base, url) from None
             if not base_bytes:
                 raise refused_base(BAD_BASE, base, url)
-        refusal = self._read(held, base_bytes, interval)
+        refusal = self._read(held, base_bytes, interval, most_names)
         if refusal is not None:
             raise refused_map(held, refusal, name, base or "", url, hint)
 
@@ -189,5 +197,5 @@ def _composed_with_itself(source_map: SourceMap, source: int) -> bytes:
     except Refused:
         # What it would come to has the same generated positions, and so is too large as well.
         raise refused_composition(2 if source < source_map.counts.sources else 1) from None
-    with SourceMap(written) as copy:
+    with SourceMap(written, max_names=_given.MOST_BYTES) as copy:
         return compose(source_map, source, copy)

@@ -11,8 +11,9 @@ class Refused(ValueError):
     """What was given is refused: its text says why, in the program's words. Of a map that is refused its first line names the
     refusal, and the lines after it, if there are any, are the `explanation`.
 
-    `number` is the library's: for a map 1 to 17, that of M1 to M17, or 0 where the base is no URL and 18 where it is too
-    long; and 1, 2 or 4 for C1, C2 and C4, 1 to 3 for E1 to E3, and 1 or 2 for A1 and A2. Where the refusal of a map has them, there are the
+    `number` is the library's: for a map 1 to 18, that of M1 to M18, or 0 where the base is no URL and 19 where it is too
+    long; and 1, 2 or 4 for C1, C2 and C4, 1 to 3 for E1 to E3, 1 or 2 for A1 and A2, and 3 or 5 for X3 and X5. Of X5 `lines` says how
+    many whole lines of what would come out fit. Where the refusal of a map has them, there are the
     `section`, the `fault` of the mappings (1 to 11, that of F1 to F11) with its `line` and the `byte` where its segment
     begins, and `build` (1 to 5, that of B1 to B5). `url` is the base of the map, the URL under which a `Rewriter` was
     to have it, or the name of the source that it was to be of.
@@ -26,11 +27,12 @@ class Refused(ValueError):
 
     def __init__(self, text: str, number: Optional[int] = None, section: Optional[int] = None,
                  fault: Optional[int] = None, line: Optional[int] = None, byte: Optional[int] = None,
-                 build: Optional[int] = None, url: Optional[str] = None, why: Optional["Why"] = None) -> None:
+                 build: Optional[int] = None, url: Optional[str] = None, why: Optional["Why"] = None,
+                 lines: Optional[int] = None) -> None:
         explanation = why.sentences if why else ""
         super().__init__(f"{text}\n{explanation[:-1]}" if explanation else text)
         self.number, self.section, self.fault = number, section, fault
-        self.line, self.byte, self.build, self.url = line, byte, build, url
+        self.line, self.byte, self.build, self.url, self.lines = line, byte, build, url, lines
         self.value, self.limit, self.column = (why.value, why.limit, why.column) if why else (None, None, None)
         self.explanation = explanation
 
@@ -44,8 +46,8 @@ class Why(NamedTuple):
     sentences: str
 
 
-BAD_BASE, NOT_JSON, LONG_BASE = 0, 2, 18
-NO_SOURCE, TOO_LONG, TOO_MUCH = 4, 1, 3
+BAD_BASE, NOT_JSON, LONG_BASE = 0, 2, 19
+NO_SOURCE, TOO_LONG, LONG_OUTPUT = 4, 1, 5
 
 
 def refused_map(held: Held, refusal: Refusal, name: Optional[str], base: str, url: Optional[str] = None,
@@ -104,9 +106,10 @@ def refused_writing() -> Refused:
     return Refused(f"refused: {_smap.write_refusal_text(TOO_LONG)}")
 
 
-def refused_text() -> Refused:
-    """Why a text is not rewritten."""
-    return Refused(f"refused: {_smap.rewrite_refusal_text(TOO_MUCH)}", TOO_MUCH)
+def refused_text(number: int, lines: int) -> Refused:
+    """Why a text is not rewritten, of which so many lines would fit."""
+    text = f"refused: {_smap.rewrite_refusal_text(number) or number}"
+    return Refused(f"{text}: {lines} whole lines fit", number, lines=lines) if number == LONG_OUTPUT else Refused(text, number)
 
 
 def _shown(url: str) -> str:

@@ -22,7 +22,8 @@ _MOST_REFUSALS = 100
 
 def stripped(trace: _given.Trace) -> bytes:
     """A text without its control sequences. It is made first, over no map, since what is named is looked for in it."""
-    return made(lambda some: _smap.Table()._rewrite(some, False, False, True, False), _given.trace_bytes(trace))[0]
+    return made(lambda some, most: _smap.Table()._rewrite(some, False, False, True, False, most), _given.trace_bytes(trace),
+                _given.MOST_BYTES)[0]
 
 
 class Told:
@@ -64,7 +65,8 @@ class Rewriter(_smap.Table):
     """Rewrites stack traces over maps, each under the URL that frames name. It is freed as a `SourceMap` is."""
 
     def __init__(self, maps: Mapping[str, Given], load: Optional[Load] = None,
-                 refused: Optional[Callable[[str, Exception], object]] = None, paths: bool = False) -> None:
+                 refused: Optional[Callable[[str, Exception], object]] = None, paths: bool = False, *,
+                 max_names: int = _given.NAME_BYTES) -> None:
         """Takes maps, or what a `SourceMap` reads, which stands at its URL where that is one. A `SourceMap` that is given
         is closed: the rewriter has it then. Raises `Refused`, whose `url` is that of the map, or `MemoryError`.
 
@@ -76,8 +78,10 @@ class Rewriter(_smap.Table):
         A URL that begins with `*` is a pattern: its map is that of each URL that ends with the text behind it, where a piece of
         the URL begins, with or without query and fragment, if no map is under the URL; of several the longest text decides.
 
-        With `paths` relative sources go on from the folder of a URL that is an absolute path, as node prints them."""
+        With `paths` relative sources go on from the folder of a URL that is an absolute path, as node prints them. Of each map the
+        names of all sources together are made of at most `max_names` bytes."""
         self._paths = bool(paths)
+        self._most_names = _given.count(max_names, "max_names", _given.MOST_BYTES)
         self._asking = threading.RLock()
         self._load = load
         self._told = Told(refused)
@@ -101,7 +105,7 @@ class Rewriter(_smap.Table):
             bytes_in = url.encode()
         except UnicodeEncodeError:
             raise refused_url(0, url) from None
-        why = self._put(bytes_in, SourceMap._under(url, given, self._paths))
+        why = self._put(bytes_in, SourceMap._under(url, given, self._paths, self._most_names))
         if why is not None:
             raise refused_url(why, url)
         self._known[bytes_in] = True
@@ -154,11 +158,13 @@ class Rewriter(_smap.Table):
                     self._known[short] = self._is_loaded(short)
         return self._look_up(bytes_in, line, column)
 
-    def rewrite(self, trace: _given.Trace, hide_ignored: bool = False, anywhere: bool = False, strip_ansi: bool = False) -> bytes:
+    def rewrite(self, trace: _given.Trace, hide_ignored: bool = False, anywhere: bool = False, strip_ansi: bool = False, *,
+                max_output: int = _given.OUTPUT_BYTES) -> bytes:
         """The trace with each frame that has an original in its place; `counts` then has its lines, its frames, and how
         many were mapped and hidden. With `anywhere` each place URL:line:column is replaced, wherever it stands, and
         `counts` has lines, places and mapped. With `strip_ansi` the text is read without the control sequences that colour a
-        terminal."""
+        terminal. Raises `Refused` where more than `max_output` bytes would come out; `counts` stay then."""
+        most = _given.count(max_output, "max_output", _given.MOST_BYTES)
         if hide_ignored and anywhere:
             raise ValueError("hide_ignored with anywhere")
         if anywhere and b"*" in self._known:
@@ -167,7 +173,7 @@ class Rewriter(_smap.Table):
         parts = self._ask(held, bool(anywhere))
         is_cut = self._load is not None or self._has_patterns
         text, (lines, places, mapped, hidden) = cut_and_rewritten(
-            lambda some: self._rewrite(some, bool(hide_ignored), bool(anywhere), False, is_cut), held, parts)
+            lambda some, most: self._rewrite(some, bool(hide_ignored), bool(anywhere), False, is_cut, most), held, parts, most)
         self.counts = {"lines": lines, "places": places, "mapped": mapped} if anywhere else {
             "lines": lines, "frames": places, "mapped": mapped, "hidden": hidden}
         return text
