@@ -58,7 +58,7 @@ function count(value, what, most) {
 function positions(value) {
   if (!isUint32Array(value)) throw new TypeError('`positions` must be a Uint32Array');
   if (value.length % 2) throw new TypeError('`positions` must be of even length: a line and a column each');
-  return value;
+  return isSharedArrayBuffer(value.buffer) ? Uint32Array.from(value) : value;
 }
 
 // What is given, where no other thread can change it: shared bytes are copied, since those that are read have to stay.

@@ -231,12 +231,14 @@ class TraceMap {
   placeAt(line, column) {
     ask(open(this), given.line(line), given.column(column), WITH_IGNORED);
     if (room[3] !== 2) return null;
-    const [index, ignored] = [room[5], room[ROOM_IGNORED] === 1];
+    // These first: where a text is made, a setter of the user's may look up something else.
+    const [index, originalLine, originalColumn, ignored] = [room[5], room[6] + 1, room[7], room[ROOM_IGNORED] === 1];
+    const name = room[8] ? room[9] : undefined;
     return {
       source: this.sourceAt(index),
-      line: room[6] + 1,
-      column: room[7],
-      name: room[8] ? this.nameAt(room[9]) : null,
+      line: originalLine,
+      column: originalColumn,
+      name: name === undefined ? null : this.nameAt(name),
       ignored,
       index,
     };

@@ -6,6 +6,9 @@ const { ask, askFor, cutAndRewritten } = require('./loading.js');
 const { DISPOSE, TraceMap, Under, empty, standingUnder } = require('./map.js');
 const { refusedText, refusedUrl } = require('./refused.js');
 
+// What a look-up gives.
+const placeOf = (source, line, column, name, ignored, index) => ({ source, line, column, name, ignored, index });
+
 // So many of the maps that were refused are remembered.
 const MOST_REFUSALS = 100;
 
@@ -70,10 +73,7 @@ class Table extends Told {
     const bytes = given.utf8(given.text(url, 'url'), '`url`');
     const named = bytes.toString('latin1');
     if (this.load && !this.known.get(named)) askFor(this, named);
-    const found = addon.tableLookUp(open(this), bytes, given.line(line), given.column(column));
-    if (found === null) return null;
-    const [source, line0, column0, name, ignored, index] = found;
-    return { source, line: line0 + 1, column: column0, name, ignored, index };
+    return addon.tableLookUp(open(this), bytes, given.line(line), given.column(column), placeOf);
   }
 
   close() {

@@ -19,11 +19,15 @@ const OF_ORIGINAL = 2;
 function originalPositionFor(map, { line, column, bias }) {
   ask(open(map), given.line(line), given.column(column), bias === LEAST_UPPER_BOUND ? 1 : 0);
   if (room[3] !== 2) return { source: null, line: null, column: null, name: null };
+  // These first: where a text is made, a setter of the user's may look up something else.
+  const originalLine = room[6] + 1;
+  const originalColumn = room[7];
+  const name = room[8] ? room[9] : undefined;
   return {
     source: map.sourceAt(room[5]),
-    line: room[6] + 1,
-    column: room[7],
-    name: room[8] ? map.nameAt(room[9]) : null,
+    line: originalLine,
+    column: originalColumn,
+    name: name === undefined ? null : map.nameAt(name),
   };
 }
 

@@ -97,14 +97,14 @@ napi_value table_has(napi_env env, napi_callback_info info) {
     return napi_get_boolean(env, done, &has) == napi_ok ? has : NULL;
 }
 
-/* tableLookUp(table, url, line, column): what the map of a URL answers, as a list of the source's name, line, column, the name, whether
- * it is ignored, and the source's number; or null. */
+/* tableLookUp(table, url, line, column, placeOf): what the map of a URL answers, as that function makes it of the
+ * source's name, the line from 1, the column, the name, whether it is ignored, and the source's number; or null. */
 napi_value table_look_up(napi_env env, napi_callback_info info) {
-    napi_value words[WORDS], list, ignored;
+    napi_value words[WORDS], ignored;
     const uint8_t *url;
     size_t length;
     uint32_t line, column;
-    if (!words_of(env, info, 4, words)) return NULL;
+    if (!words_of(env, info, 5, words)) return NULL;
     struct held *table = held_of(env, words[0], TABLE);
     if (!table || !bytes_of(env, words[1], &url, &length)) return NULL;
     if (!number_of(env, words[2], &line) || !number_of(env, words[3], &column)) return NULL;
@@ -115,15 +115,11 @@ napi_value table_look_up(napi_env env, napi_callback_info info) {
     if (status != SMAP_DONE || found.kind != 2) return null(env);
     napi_get_boolean(env, source.ignored != 0, &ignored);
     const napi_value parts[] = {
-        source.named ? string(env, source.name) : null(env), number(env, found.line), number(env, found.column),
+        source.named ? string(env, source.name) : null(env), number(env, (double)found.line + 1), number(env, found.column),
         found.named ? string(env, name) : null(env), ignored, number(env, found.source),
     };
-    if (napi_create_array_with_length(env, 6, &list) != napi_ok) return refuse(env, "out of memory");
-    for (uint32_t i = 0; i < 6; i++) {
-        if (!parts[i]) return NULL;
-        napi_set_element(env, list, i, parts[i]);
-    }
-    return list;
+    napi_value place = NULL;
+    return parts[0] && parts[3] && napi_call_function(env, words[4], words[4], 6, parts, &place) == napi_ok ? place : NULL;
 }
 
 /* nextFrameUrl(trace, numbers): whether a frame follows byte numbers[2]; then where its URL stands, its length, and where the
