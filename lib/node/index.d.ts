@@ -194,6 +194,7 @@ export function allGeneratedPositionsFor(map: TraceMap, needle: SourceNeedle): {
 /** The segment that answers, or null. Here lines count from 0. */
 export function traceSegment(map: TraceMap, line: number, column: number): SourceMapSegment | null;
 export function eachMapping(map: TraceMap, call: (mapping: EachMapping) => void): void;
+/** Of more lines than 1,000,000, and than 16 for each byte of the map, a RangeError; so is `decodedMap`. */
 export function decodedMappings(map: TraceMap): SourceMapSegment[][];
 export function encodedMappings(map: TraceMap): string;
 export function decodedMap(map: TraceMap): DecodedSourceMap;

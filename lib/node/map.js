@@ -208,7 +208,7 @@ class TraceMap {
     const outline = outlineOf(bytes);
     // The text of no lines is that of one line without segments.
     if (Array.isArray(map.mappings) && map.mappings.length === 0) outline.least = 0;
-    this.#inner = { handle, outline, made: new Map(), sourceTexts: [], nameTexts: [] };
+    this.#inner = { handle, outline, bytes: bytes.length, made: new Map(), sourceTexts: [], nameTexts: [] };
     Object.defineProperties(this, own);
   }
 

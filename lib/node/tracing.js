@@ -62,7 +62,7 @@ function eachMapping(map, call) {
 function decodedMappings(map) {
   return once(map, 'decoded', (handle) => {
     const numbers = addon.mappings(handle);
-    return decoded(numbers, linesOf(map, numbers));
+    return decoded(numbers, linesOf(map, numbers), map.inner.bytes);
   });
 }
 
