@@ -70,8 +70,8 @@ const decodedMap = (map) => withMappings(map, decodedMappings(map));
 const encodedMap = (map) => withMappings(map, encodedMappings(map));
 
 // A map or an index map: both are read alike.
-function AnyMap(map, mapUrl) {
-  return new TraceMap(map, mapUrl);
+function AnyMap(map, mapUrl, options) {
+  return new TraceMap(map, mapUrl, options);
 }
 
 // The number of the first source that the map calls so, or else the first of this name, or -1.

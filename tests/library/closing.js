@@ -133,7 +133,7 @@ function detached() {
   const numbers = () => gone(new Float64Array(16));
   same([...addon.lookUpMany(handle, gone(new Uint32Array(2)), new Uint32Array(0))], []);
   refuses('TypeError', () => addon.lookUpMany(handle, Uint32Array.of(1, 12), gone(new Uint32Array(7))), /lengths/);
-  refuses('TypeError', () => addon.read(own(1), base, 64, numbers()), /Float64Array/);
+  refuses('TypeError', () => addon.read(own(1), base, 64, 0, numbers()), /Float64Array/);
   refuses('TypeError', () => addon.fit(handle, own(1), numbers()), /Float64Array/);
   refuses('TypeError', () => addon.refusalText(numbers()), /Float64Array/);
   refuses('TypeError', () => addon.refusalExplain(own(1), numbers(), new Float64Array(4)), /Float64Array/);
@@ -146,7 +146,7 @@ function detached() {
   same(map.bytesBySource(bytes()), { sources: [0], unmapped: 0 });
   same([...addon.members(bytes(), 0)], []);
   const table = new smap.Table({ 'b.js': read() });
-  refuses('TypeError', () => addon.rewrite(table.handle, own(1), false, false, false, numbers()), /Float64Array/);
+  refuses('TypeError', () => addon.rewrite(table.handle, own(1), false, false, false, 0, numbers()), /Float64Array/);
   same([String(smap.rewrite(table, bytes())), String(addon.stripped(bytes()))], ['', '']);
   const array = gone(new Uint8Array(1000));
   for (const call of [() => new smap.TraceMap(array), () => map.fit(array), () => smap.rewrite(table, array)]) refuses('TypeError', call, /detached/);

@@ -28,8 +28,9 @@ bool numbers_of(napi_env env, napi_value value, uint32_t **numbers, size_t *leng
  * such memory is neither detached nor transferred. But other threads may write to it. */
 uint32_t *shared_of(napi_env env, napi_value value, size_t wanted);
 
-/* A whole number of 32 bits. Another is refused, and never wrapped. */
+/* A whole number of 32 bits, or one up to 2^53 - 1. Another is refused, and never wrapped. */
 bool number_of(napi_env env, napi_value value, uint32_t *number);
+bool count_of(napi_env env, napi_value value, uint64_t *count);
 
 /* The places of a Float64Array that has so many, for numbers past 32 bits. */
 double *doubles_of(napi_env env, napi_value value, size_t wanted);

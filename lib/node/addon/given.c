@@ -73,6 +73,16 @@ bool number_of(napi_env env, napi_value value, uint32_t *number) {
     return false;
 }
 
+bool count_of(napi_env env, napi_value value, uint64_t *count) {
+    double given;
+    if (napi_get_value_double(env, value, &given) == napi_ok && given >= 0 && given < 1LL << 53 && given == (double)(uint64_t)given) {
+        *count = (uint64_t)given;
+        return true;
+    }
+    refuse_type(env, "no whole number up to 2^53 - 1");
+    return false;
+}
+
 double *doubles_of(napi_env env, napi_value value, size_t wanted) {
     void *data;
     size_t length;

@@ -7,21 +7,23 @@ static int64_t size_of(size_t length, const smap_count *count) {
     return (int64_t)(length + 32 * (count->checkpoints + count->sources + count->names) + 8 * count->lines);
 }
 
-/* read(bytes, base, interval, refusal): a map, or null, with the numbers of the refusal in a Float64Array of 6. */
+/* read(bytes, base, interval, mostNames, refusal): a map, the names of whose sources may have so many bytes together; or null,
+ * with the numbers of the refusal in a Float64Array of 6. */
 napi_value read_map(napi_env env, napi_callback_info info) {
     napi_value words[WORDS];
     const uint8_t *bytes, *base;
     size_t length, base_length;
     uint32_t interval;
+    uint64_t most;
     double *numbers;
-    if (!words_of(env, info, 4, words) || !bytes_of(env, words[0], &bytes, &length) || !bytes_of(env, words[1], &base, &base_length) ||
-        !number_of(env, words[2], &interval) || !(numbers = doubles_of(env, words[3], 6)))
+    if (!words_of(env, info, 5, words) || !bytes_of(env, words[0], &bytes, &length) || !bytes_of(env, words[1], &base, &base_length) ||
+        !number_of(env, words[2], &interval) || !count_of(env, words[3], &most) || !(numbers = doubles_of(env, words[4], 6)))
         return NULL;
     sweep(env, addon_of(env));
     struct held *held = calloc(1, sizeof *held);
     if (!held) return refuse(env, "out of memory");
     smap_refusal refusal = {0};
-    uint32_t status = smap_map_read(bytes, length, base, base_length, interval, &held->map, &refusal);
+    uint32_t status = smap_map_read_within(bytes, length, base, base_length, interval, most, &held->map, &refusal);
     if (status != SMAP_DONE) {
         free(held);
         if (status != SMAP_REFUSED) return refuse(env, "out of memory");

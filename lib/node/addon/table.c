@@ -35,25 +35,30 @@ napi_value add(napi_env env, napi_callback_info info) {
     return refuse(env, "out of memory");
 }
 
-/* rewrite(table, text, anywhere, hideIgnored, cut, numbers): the text, with its four counts in the numbers, or null where it is
- * refused. */
+/* rewrite(table, text, anywhere, hideIgnored, cut, most, numbers): the text, of at most so many bytes, with its four counts in
+ * the numbers; or null, with the number of the refusal, and how many lines of a text that would have more do fit. */
 napi_value rewrite(napi_env env, napi_callback_info info) {
     napi_value words[WORDS];
     const uint8_t *text;
     size_t length;
+    uint64_t most;
     smap_rewrite_options options = {0};
-    if (!words_of(env, info, 6, words)) return NULL;
+    if (!words_of(env, info, 7, words)) return NULL;
     struct held *table = held_of(env, words[0], TABLE);
     if (!table || !bytes_of(env, words[1], &text, &length)) return NULL;
     bool *const given[] = {&options.anywhere, &options.hide_ignored, &options.cut};
     for (int i = 0; i < 3; i++)
         if (napi_get_value_bool(env, words[2 + i], given[i]) != napi_ok) return refuse_type(env, "no boolean");
-    double *numbers = doubles_of(env, words[5], 4);
-    if (!numbers) return NULL;
+    double *numbers = doubles_of(env, words[6], 4);
+    if (!numbers || !count_of(env, words[5], &most)) return NULL;
     smap_bytes bytes = {0};
     smap_trace_count count = {0};
-    uint32_t status = smap_rewrite_with(&table->table, text, length, &options, &bytes, &count);
-    if (status == SMAP_REFUSED) return null(env);
+    smap_rewrite_refusal refusal = {0};
+    uint32_t status = smap_rewrite_within(&table->table, text, length, &options, most, &bytes, &count, &refusal);
+    if (status == SMAP_REFUSED) {
+        numbers[0] = refusal.number, numbers[1] = (double)refusal.lines;
+        return null(env);
+    }
     if (status != SMAP_DONE) return refuse(env, "out of memory");
     numbers[0] = (double)count.lines;
     numbers[1] = (double)count.frames;
