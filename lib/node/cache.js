@@ -17,8 +17,8 @@ const LF = 10;
 const sizeOf = (key, map) => Buffer.byteLength(key) + ENTRY_BYTES + (map ? map.nbytes : 0);
 
 // The map of what was given, which stands at its URL where that is one, or has its sources named by it.
-function readAs(url, data, paths) {
-  const under = new Under(url, paths);
+function readAs(url, data, paths, how) {
+  const under = new Under(url, paths, how);
   if (!(data instanceof TraceMap)) return new TraceMap(data, under);
   standingUnder(under, data);
   return data;
@@ -31,14 +31,15 @@ function whole(url, name) {
 }
 
 // Maps by URL. `load` is asked for the map of a URL when it is first wanted, and gives it, or null or undefined where there is none, as
-// for a Table, as is `paths`; `loadAsync` gives a promise of it. Maps are kept while they count for at most `maxBytes` bytes of memory, or
-// one by itself: what was longest not asked for goes first. What both throw, and why a map is refused, is told to `refused`, or else kept
+// for a Table, as are `paths` and `maxNames`; `loadAsync` gives a promise of it. Maps are kept while they count for at most
+// `maxBytes` bytes of memory, or one by itself: what was longest not asked for goes first. What both throw, and why a map is refused, is told to `refused`, or else kept
 // in `refusals`, of which there are 100 at most; that URL has no map until it is discarded.
 class Maps extends Told {
   #load;
   #loadAsync;
   #atOnce;
   #paths;
+  #reading;
   // What is kept by URL, in the order in which it was asked for: {map, size, isLent}.
   #kept = new Map();
   #size = 0;
@@ -47,14 +48,15 @@ class Maps extends Told {
   #tableSize = 0;
 
   constructor(options) {
-    const words = ['load', 'loadAsync', 'maxBytes', 'refused', 'atOnce', 'paths'];
-    const { load, loadAsync, maxBytes, refused, atOnce = 8, paths = false } = given.options(options, ...words);
+    const words = ['load', 'loadAsync', 'maxBytes', 'refused', 'atOnce', 'paths', 'maxNames'];
+    const { load, loadAsync, maxBytes, refused, atOnce = 8, paths = false, maxNames } = given.options(options, ...words);
     super(refused);
     [this.#load, this.#loadAsync] = [given.callable(load, 'load'), given.callable(loadAsync, 'loadAsync')];
     if (!load && !loadAsync) throw new TypeError('`load` or `loadAsync` is wanted');
     this.maxBytes = given.count(maxBytes, 'maxBytes', Number.MAX_SAFE_INTEGER);
     this.#atOnce = Math.max(given.count(atOnce, 'atOnce', 1000), 1);
     this.#paths = given.boolean(paths, 'paths');
+    this.#reading = given.reading({ maxNames });
     this.counts = null;
   }
 
@@ -68,7 +70,7 @@ class Maps extends Told {
       if (!url.startsWith(prefix) || !isPlain(rest)) return null;
       return readFile(path.join(folder, `${rest}.map`));
     };
-    return new Maps({ ...given.options(options, 'maxBytes', 'refused', 'paths'), load });
+    return new Maps({ ...given.options(options, 'maxBytes', 'refused', 'paths', 'maxNames'), load });
   }
 
   // For how many bytes of memory what is kept counts.
@@ -108,7 +110,7 @@ class Maps extends Told {
 
   // Puts a map under this very URL, in place of what is kept of it. A pattern is no URL here.
   add(url, map) {
-    this.#keep(whole(url, 'url'), readAs(url, map, this.#paths), map instanceof TraceMap);
+    this.#keep(whole(url, 'url'), readAs(url, map, this.#paths, this.#reading), map instanceof TraceMap);
   }
 
   // Drops what is kept of a URL, so that its map is asked for anew.
@@ -165,14 +167,18 @@ class Maps extends Told {
   }
 
   // Gives what is rewritten, and before that the URLs for whose maps is to be asked. Between, others may change what is kept.
-  *#steps(bytes, { places, hide }, fetched) {
+  // The bound on what comes out is for all parts together.
+  *#steps(bytes, { places, hide, most }, fetched) {
     const [parts, numbers] = [[], new Float64Array(4)];
-    let begin = 0;
+    let [begin, length] = [0, 0];
     do {
       const { end, wanted } = this.#end(bytes, begin, places, fetched);
       if (end > begin || !wanted.length) {
-        const part = rewritten(this.#table, bytes.subarray(begin, end), { places, hide });
+        const [lines, , , hidden] = numbers;
+        const how = { places, hide, most: most - length, fitting: lines - hidden };
+        const part = rewritten(this.#table, bytes.subarray(begin, end), how);
         parts.push(part.text);
+        length += part.text.length;
         part.numbers.forEach((number, i) => (numbers[i] += number));
         begin = end;
       }
@@ -262,7 +268,7 @@ class Maps extends Told {
   #mapOf(key, data) {
     if (data === null || data === undefined) return null;
     try {
-      return readAs(key, data, this.#paths);
+      return readAs(key, data, this.#paths, this.#reading);
     } catch (error) {
       this.tell(key, error);
       return null;

@@ -2,7 +2,7 @@
 // Maps composed with the maps of their sources.
 const addon = require('./addon.js');
 const given = require('./given.js');
-const { TraceMap, namesOf, open, read, standingAt } = require('./map.js');
+const { TraceMap, USUALLY, namesOf, open, read, standingAt } = require('./map.js');
 const { refusedComposition, refusedSource } = require('./refused.js');
 
 // The number of C1.
@@ -87,7 +87,7 @@ function ask(handle, places, load) {
 
 // Puts a map in the place of a source of this name. The place owns it, so a TraceMap is copied.
 function put(places, number, name, map) {
-  const handle = map instanceof TraceMap ? read(map.write(), '', 64) : standingAt(given.mapBytes(map), name);
+  const handle = map instanceof TraceMap ? read(map.write(), '', USUALLY) : standingAt(given.mapBytes(map), name);
   if (addon.putInner(places, number, handle)) return;
   addon.closeMap(handle);
   throw refusedComposition(NO_SOURCE);

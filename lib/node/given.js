@@ -5,6 +5,8 @@ const { encoded, numbersOf } = require('./mappings.js');
 
 // The greatest number of 32 bits. No map has a line, a column or a source of this number or a greater one.
 const MOST = 4294967295;
+// The names of the sources of a map are made of at most so many bytes, where nothing else is said.
+const MOST_NAMES = 2 ** 28;
 
 const kind = (value) => (value === null ? 'null' : typeof value === 'object' ? 'an object' : `a ${typeof value}`);
 
@@ -47,6 +49,13 @@ function interval(value) {
   return Math.min(Math.max(whole(value, 'interval'), 0), MOST);
 }
 
+// How a map is read: an interval, by itself or among others, and of how many bytes the names of its sources may be together.
+function reading(value) {
+  const words = typeof value === 'object' && value !== null ? options(value, 'interval', 'maxNames') : { interval: value };
+  const { interval: each = 64, maxNames = MOST_NAMES } = words;
+  return { interval: interval(each), maxNames: count(maxNames, 'maxNames', Number.MAX_SAFE_INTEGER) };
+}
+
 // A number from 0, up to a greatest.
 function count(value, what, most) {
   if (!Number.isInteger(value)) throw new TypeError(`\`${what}\` must be a whole number, and not ${typeof value === 'number' ? value : kind(value)}`);
@@ -58,7 +67,7 @@ function count(value, what, most) {
 function positions(value) {
   if (!isUint32Array(value)) throw new TypeError('`positions` must be a Uint32Array');
   if (value.length % 2) throw new TypeError('`positions` must be of even length: a line and a column each');
-  return value;
+  return isSharedArrayBuffer(value.buffer) ? Uint32Array.from(value) : value;
 }
 
 // What is given, where no other thread can change it: shared bytes are copied, since those that are read have to stay.
@@ -140,4 +149,4 @@ function options(value, ...known) {
   return value;
 }
 
-module.exports = { boolean, bytes, callable, column, count, interval, line, lineFromZero, mapBytes, mapUrl, options, positions, source, steady, text, utf8 };
+module.exports = { boolean, bytes, callable, column, count, line, lineFromZero, mapBytes, mapUrl, options, positions, reading, source, steady, text, utf8 };

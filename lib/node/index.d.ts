@@ -15,8 +15,8 @@ export const LEAST_UPPER_BOUND: -1;
 /** What was given is refused. The numbers are the library's; all but the first are there where a map is refused. The message is
  * the program's line and, of a map that is refused, the lines of the explanation. */
 export class Refused extends Error {
-  /** Of a map that of M1 to M17, or 0 where the base is no URL and 18 where it is too long; of others that of C1, C2 and
-   * C4, A1 and A2, E1 and E3, or X3, and of a generated file 1 where it is not UTF-8 and 2 where it is too large. */
+  /** Of a map that of M1 to M18, or 0 where the base is no URL and 19 where it is too long; of others that of C1, C2 and
+   * C4, A1 and A2, E1 and E3, or X3 and X5, and of a generated file 1 where it is not UTF-8 and 2 where it is too large. */
   number?: number;
   /** That of the fault of the mappings, F1 to F11, or 0. */
   fault?: number;
@@ -36,6 +36,8 @@ export class Refused extends Error {
   limit?: number;
   /** The generated column of the faulty segment, from 0. */
   column?: number;
+  /** Of X5 how many whole lines of what would come out fit. */
+  lines?: number;
   /** What is known of why a map is refused: sentences in lines that begin with two blanks and end with LF. In them lines and
    * columns count from 1. */
   explanation?: string;
@@ -106,11 +108,21 @@ export interface Fit {
   same: number;
 }
 
+/** The names of a map's sources may be made of so many bytes together, 268,435,456 if not given. With more it is refused, M18. */
+interface NamesOption {
+  maxNames?: number;
+}
+
+/** A checkpoint is made at every `interval`-th segment of a line. */
+export interface ReadOptions extends NamesOption {
+  interval?: number;
+}
+
 /** A source map that was read. A TraceMap that is given is itself. */
 export class TraceMap implements SourceMapMembers {
-  /** `mapUrl` is the URL or path at which the map stands; a checkpoint is made at every `interval`-th segment of a line. The
-   * mappings of an object may be decoded, and then it may leave its version out. What is given is not kept. */
-  constructor(map: string | Uint8Array | object, mapUrl?: string | URL | null, interval?: number);
+  /** `mapUrl` is the URL or path at which the map stands; a number in place of options is the interval. The mappings of an
+   * object may be decoded, and then it may leave its version out. What is given is not kept. */
+  constructor(map: string | Uint8Array | object, mapUrl?: string | URL | null, options?: number | ReadOptions);
   readonly counts: Counts;
   /** From here to `resolvedSources` what is assigned takes a member's place; no answer changes. */
   version: 3;
@@ -144,8 +156,8 @@ export class TraceMap implements SourceMapMembers {
 
 /** A map or an index map: both are read alike. */
 export const AnyMap: {
-  (map: string | Uint8Array | object, mapUrl?: string | URL | null): TraceMap;
-  new (map: string | Uint8Array | object, mapUrl?: string | URL | null): TraceMap;
+  (map: string | Uint8Array | object, mapUrl?: string | URL | null, options?: number | ReadOptions): TraceMap;
+  new (map: string | Uint8Array | object, mapUrl?: string | URL | null, options?: number | ReadOptions): TraceMap;
 };
 export const FlattenMap: typeof AnyMap;
 export function presortedDecodedMap(map: object, mapUrl?: string | URL | null): TraceMap;
@@ -194,6 +206,7 @@ export function allGeneratedPositionsFor(map: TraceMap, needle: SourceNeedle): {
 /** The segment that answers, or null. Here lines count from 0. */
 export function traceSegment(map: TraceMap, line: number, column: number): SourceMapSegment | null;
 export function eachMapping(map: TraceMap, call: (mapping: EachMapping) => void): void;
+/** Of more lines than 1,000,000, and than 16 for each byte of the map, a RangeError; so is `decodedMap`. */
 export function decodedMappings(map: TraceMap): SourceMapSegment[][];
 export function encodedMappings(map: TraceMap): string;
 export function decodedMap(map: TraceMap): DecodedSourceMap;
@@ -255,7 +268,7 @@ export interface Refusal {
   error: unknown;
 }
 
-export interface TableOptions {
+export interface TableOptions extends NamesOption {
   /** Gives the map of a URL or path that has none here, without query and fragment. It is asked once for each, when a frame or a
    * place first names it. */
   load?: (url: string) => Given | null | undefined;
@@ -280,7 +293,7 @@ export class Table {
   [Symbol.dispose](): void;
 }
 
-export interface MapsOptions {
+export interface MapsOptions extends NamesOption {
   /** As a table's. One of the two is wanted. */
   load?: (url: string) => Given | null | undefined;
   loadAsync?: (url: string) => Promise<Given | null | undefined>;
@@ -297,7 +310,7 @@ export interface MapsOptions {
 export class Maps {
   constructor(options: MapsOptions);
   /** Those of URLs with this prefix, which ends in `/`, in a folder: that of PREFIXjs/app.js is js/app.js.map. */
-  static folder(prefix: string, root: string, options: Pick<MapsOptions, 'maxBytes' | 'refused' | 'paths'>): Maps;
+  static folder(prefix: string, root: string, options: Pick<MapsOptions, 'maxBytes' | 'refused' | 'paths' | 'maxNames'>): Maps;
   maxBytes: number;
   /** For how many bytes what is kept counts, and how many maps are kept. */
   readonly nbytes: number;
@@ -324,6 +337,9 @@ export interface RewriteOptions {
   hideIgnored?: boolean;
   anywhere?: boolean;
   stripAnsi?: boolean;
+  /** So many bytes may come out, 1,073,741,824 if not given. Where it would be more the text is refused, X5, and nothing comes
+   * out. In a stream this is for each part that is rewritten at once: the whole lines of what is written to it. */
+  maxOutput?: number;
 }
 
 export function rewrite(table: Table | Maps, trace: string | Uint8Array, options?: RewriteOptions): Buffer;

@@ -4,8 +4,8 @@ const addon = require('./addon.js');
 const { refusedText } = require('./refused.js');
 const { BEFORE, BEHIND, MOST_BYTES, besidePlaces, cut, isLocation, ofFrames } = require('./urls.js');
 
-// So many places are tried at once.
-const MOST_PARTS = 1 << 16;
+// So many places are tried at once, and come to at most so many bytes. A place that is not replaced has far less.
+const [MOST_PARTS, MOST_TRIED] = [1 << 16, 1 << 24];
 const POSITION = /^:\d+:\d+/;
 
 // Asks a table's loader for the map of each URL that the text names, without query and fragment, and that was not asked for and has not
@@ -54,12 +54,18 @@ function isLoaded(table, key, tell) {
   }
 }
 
-// The text of these bytes, with its numbers of lines, frames or places, mapped and hidden ones.
-function rewritten(handle, bytes, { places, hide, cut: isCut = false }) {
+// The text of these bytes, with its numbers of lines, frames or places, mapped and hidden ones; or null, and why.
+function tried(handle, bytes, { places, hide, cut: isCut = false, most }) {
   const numbers = new Float64Array(4);
-  const text = addon.rewrite(handle, bytes, places, hide, isCut, numbers);
-  if (text === null) throw refusedText();
-  return { text, numbers };
+  return { text: addon.rewrite(handle, bytes, places, hide, isCut, most, numbers), numbers };
+}
+
+// The same where it is not refused. Of what comes out so many lines fit before it.
+function rewritten(handle, bytes, how) {
+  const reported = tried(handle, bytes, how);
+  const [number, lines] = reported.numbers;
+  if (reported.text === null) throw refusedText(number, lines + (how.fitting || 0));
+  return reported;
 }
 
 const answered = ({ numbers: [, , mapped, hidden] }) => mapped + hidden;
@@ -74,7 +80,10 @@ function withOriginal(handle, parts, how) {
   if (!parts.length) return parts;
   if (parts.length > MOST_PARTS) return halvesOf(parts).flatMap((half) => withOriginal(handle, half, how));
   const lines = parts.map(({ place }) => place);
-  const reported = rewritten(handle, Buffer.from(lines.map((line) => `${line}\n\n`).join(''), 'latin1'), how);
+  const text = Buffer.from(lines.map((line) => `${line}\n\n`).join(''), 'latin1');
+  const reported = tried(handle, text, { ...how, most: MOST_TRIED });
+  if (reported.text === null && parts.length === 1) return parts;
+  if (reported.text === null) return halvesOf(parts).flatMap((half) => withOriginal(handle, half, how));
   const count = answered(reported);
   if (count === 0 || count === parts.length) return count ? parts : [];
   const found = reported.text.toString('latin1').split('\n');
@@ -104,17 +113,20 @@ function needless(handle, bytes, parts, how) {
   return halvesOf(parts).flatMap((half) => needless(handle, bytes, half, how));
 }
 
-// The text of these bytes, where each of the parts is left out that keeps a place from being replaced.
+// The text of these bytes, where each of the parts is left out that keeps a place from being replaced. Where fewer are left out
+// no less comes out, so that all of them show first whether it is too much. What is only counted may have their bytes besides.
 function cutAndRewritten(handle, bytes, parts, how) {
-  const whole = rewritten(handle, bytes, how);
-  if (!parts.length) return whole;
-  const over = (some) => (some.length ? rewritten(handle, without(bytes, some), how) : whole);
+  const over = (some, most = how.most) => rewritten(handle, some.length ? without(bytes, some) : bytes, { ...how, most });
+  const every = over(parts);
+  if (!parts.length) return every;
+  const more = Math.min(how.most + bytes.length, Number.MAX_SAFE_INTEGER);
   const left = withOriginal(handle, parts, how);
-  const tried = over(left);
+  const all = left.length < parts.length ? over(left) : every;
   // A place may be none where it stands.
-  const short = answered(tried) - answered(whole) === left.length ? tried : over(needless(handle, bytes, left, how));
+  const isEach = !left.length || answered(all) - answered(over([], more)) === left.length;
+  const short = isEach ? all : over(needless(handle, bytes, left, { ...how, most: more }));
   // What has a map and no original is a place, too.
-  if (left.length < parts.length) short.numbers[1] = over(parts).numbers[1];
+  if (left.length < parts.length) short.numbers[1] = every.numbers[1];
   return short;
 }
 

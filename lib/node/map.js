@@ -19,18 +19,21 @@ const ROOM_IGNORED = 11;
 // What `using` calls at the end of a block.
 const DISPOSE = Symbol.dispose || Symbol.for('nodejs.dispose');
 
-// The map of these bytes, as a handle. `url` is that which a refusal names.
-function read(bytes, base, interval, url) {
+// How a map is read where nothing is said.
+const USUALLY = given.reading();
+
+// The map of these bytes, which is so read, as a handle. `url` is that which a refusal names.
+function read(bytes, base, { interval, maxNames }, url) {
   const numbers = new Float64Array(6);
-  const map = addon.read(bytes, Buffer.from(base), interval, numbers);
+  const map = addon.read(bytes, Buffer.from(base), interval, maxNames, numbers);
   if (map === null) throw refusedMap(bytes, numbers, base, url);
   return map;
 }
 
 // The map of these bytes at a base; where that is no URL, by the other function.
-function readOr(other, bytes, base, interval, url) {
+function readOr(other, bytes, base, how, url) {
   try {
-    return read(bytes, base, interval, url);
+    return read(bytes, base, how, url);
   } catch (refused) {
     if (refused instanceof Refused && refused.number === BAD_BASE) return other(refused);
     throw refused;
@@ -38,17 +41,17 @@ function readOr(other, bytes, base, interval, url) {
 }
 
 // The map of these bytes at its URL, or at none where that is no URL, or where there is none.
-function standingAt(bytes, url) {
-  if (url === null || url === undefined) return read(bytes, '', 64);
-  return readOr(() => read(bytes, '', 64, url), bytes, url, 64, url);
+function standingAt(bytes, url, how = USUALLY) {
+  if (url === null || url === undefined) return read(bytes, '', how);
+  return readOr(() => read(bytes, '', how, url), bytes, url, how, url);
 }
 
 // The map that is given under a URL, as a handle: a TraceMap's own, or that of these bytes, which stands there. With `paths` one whose URL
 // is an absolute path stands at none, and has its sources named by that.
-function standingUnder({ url, paths }, map) {
+function standingUnder({ url, paths, how }, map) {
   const isRead = map instanceof TraceMap;
   const isByPath = paths && PATH.test(url);
-  const handle = isRead ? open(map) : standingAt(given.mapBytes(map), isByPath ? null : url);
+  const handle = isRead ? open(map) : standingAt(given.mapBytes(map), isByPath ? null : url, how);
   if (!isByPath) return handle;
   addon.usePaths(handle, Buffer.from(url));
   if (isRead) forget(map);
@@ -56,25 +59,26 @@ function standingUnder({ url, paths }, map) {
 }
 
 // The map of these bytes at a URL or a path, or at none.
-function readAt(bytes, base, interval) {
+function readAt(bytes, base, how) {
   return readOr((refused) => {
     if (!isPath(base)) throw refused;
-    return readAtPath(bytes, base, interval);
-  }, bytes, base, interval, base || undefined);
+    return readAtPath(bytes, base, how);
+  }, bytes, base, how, base || undefined);
 }
 
 // No call of the library takes a path, so the names of the sources are put into the map.
-function readAtPath(bytes, path, interval) {
-  const unplaced = read(bytes, '', interval, path);
+function readAtPath(bytes, path, how) {
+  const unplaced = read(bytes, '', how, path);
   const names = namesOf(unplaced);
   addon.closeMap(unplaced);
-  return read(renamed(bytes, names.map((name) => besideMap(path, name))), '', interval, path);
+  return read(renamed(bytes, names.map((name) => besideMap(path, name))), '', how, path);
 }
 
-// That a map stands at this URL, or at none where it is no URL: a path is none here; and whether its sources are named by paths.
+// That a map stands at this URL, or at none where it is no URL: a path is none here; whether its sources are named by paths; and
+// how it is read.
 class Under {
-  constructor(url, paths) {
-    [this.url, this.paths] = [url, paths];
+  constructor(url, paths, how) {
+    [this.url, this.paths, this.how] = [url, paths, how];
   }
 }
 
@@ -193,22 +197,23 @@ function forget(map) {
 }
 
 // A source map that was read: of a text, a Uint8Array or a parsed map, which stands at the URL or path `mapUrl`, if there is
-// one. What is given is not kept. It is freed by `close`, or when nothing names it any more. A TraceMap is itself.
+// one. `options` are an interval, or `interval` and `maxNames`. What is given is not kept. It is freed by `close`, or when nothing
+// names it any more. A TraceMap is itself.
 class TraceMap {
   #inner;
 
-  constructor(map, mapUrl, interval = 64) {
+  constructor(map, mapUrl, options) {
     if (map instanceof TraceMap) {
       open(map);
       return map;
     }
     const bytes = given.mapBytes(map);
     const isUnder = mapUrl instanceof Under;
-    const handle = isUnder ? standingUnder(mapUrl, bytes) : readAt(bytes, given.mapUrl(mapUrl), given.interval(interval));
+    const handle = isUnder ? standingUnder(mapUrl, bytes) : readAt(bytes, given.mapUrl(mapUrl), given.reading(options));
     const outline = outlineOf(bytes);
     // The text of no lines is that of one line without segments.
     if (Array.isArray(map.mappings) && map.mappings.length === 0) outline.least = 0;
-    this.#inner = { handle, outline, made: new Map(), sourceTexts: [], nameTexts: [] };
+    this.#inner = { handle, outline, bytes: bytes.length, made: new Map(), sourceTexts: [], nameTexts: [] };
     Object.defineProperties(this, own);
   }
 
@@ -231,12 +236,14 @@ class TraceMap {
   placeAt(line, column) {
     ask(open(this), given.line(line), given.column(column), WITH_IGNORED);
     if (room[3] !== 2) return null;
-    const [index, ignored] = [room[5], room[ROOM_IGNORED] === 1];
+    // These first: where a text is made, a setter of the user's may look up something else.
+    const [index, originalLine, originalColumn, ignored] = [room[5], room[6] + 1, room[7], room[ROOM_IGNORED] === 1];
+    const name = room[8] ? room[9] : undefined;
     return {
       source: this.sourceAt(index),
-      line: room[6] + 1,
-      column: room[7],
-      name: room[8] ? this.nameAt(room[9]) : null,
+      line: originalLine,
+      column: originalColumn,
+      name: name === undefined ? null : this.nameAt(name),
       ignored,
       index,
     };
@@ -317,6 +324,7 @@ class TraceMap {
 module.exports = {
   DISPOSE,
   TraceMap,
+  USUALLY,
   Under,
   ask,
   empty,

@@ -10,6 +10,8 @@ const [UNMAPPED, MAPPED] = [1, 2];
 const LIMIT = 2147483647;
 // The text of more lines is too long for a map.
 const MOST_LINES = 67108865;
+// A list has at most so many lines, or so many for each byte of its map, of which a few say in what line a section begins.
+const [MOST_LISTED, LISTED_A_BYTE] = [1000000, 16];
 
 // The mapping of these numbers from this one on, as trace-mapping has it.
 function mappingAt(numbers, at, sources, names) {
@@ -39,9 +41,11 @@ function checkLines(count) {
   if (count > MOST_LINES) throw refusedWriting();
 }
 
-// So many lines of segments.
-function decoded(numbers, count) {
+// So many lines of segments, of a map of so many bytes.
+function decoded(numbers, count, bytes) {
   checkLines(count);
+  const most = Math.max(MOST_LISTED, LISTED_A_BYTE * bytes);
+  if (count > most) throw new RangeError(`the map has ${count} lines, and a list of at most ${most} is made of its ${bytes} bytes`);
   const lines = [];
   while (lines.length < count) lines.push([]);
   for (let at = 0; at < numbers.length; at += NUMBERS) lines[numbers[at]].push(segmentAt(numbers, at));

@@ -5,19 +5,19 @@ const addon = require('./addon.js');
 // What was given is refused. `message` is the program's line, and after it what is known of why a map is refused; the numbers
 // are those of the library, where it has them, and `url` is that at which the map stands.
 class Refused extends Error {
-  constructor(message, numbers = [], url = undefined, { value, limit, column, explanation } = {}) {
+  constructor(message, numbers = [], url = undefined, { value, limit, column, explanation, lines } = {}) {
     super(explanation ? `${message}\n${explanation.slice(0, -1)}` : message);
     this.name = 'Refused';
     [this.number, this.fault, this.line, this.build, this.section, this.byte] = numbers;
     this.url = url;
-    [this.value, this.limit, this.column, this.explanation] = [value, limit, column, explanation];
+    [this.value, this.limit, this.column, this.explanation, this.lines] = [value, limit, column, explanation, lines];
   }
 }
 
 const BAD_BASE = 0;
-const LONG_BASE = 18;
+const LONG_BASE = 19;
 const NO_SOURCE = 4;
-const TOO_MUCH = 3;
+const [TOO_MUCH, LONG_OUTPUT] = [3, 5];
 const TOO_LONG = 1;
 const NOT_SORTED = 1;
 
@@ -70,9 +70,10 @@ function refusedWriting() {
   return new Refused(`refused: ${addon.writeRefusalText(TOO_LONG)}`);
 }
 
-// Why a text is not rewritten.
-function refusedText() {
-  return new Refused(`refused: ${addon.rewriteRefusalText(TOO_MUCH)}`, [TOO_MUCH]);
+// Why a text is not rewritten; where more would come out than may, with how many whole lines of that fit.
+function refusedText(number = TOO_MUCH, lines = undefined) {
+  const text = `refused: ${addon.rewriteRefusalText(number) || number}`;
+  return number === LONG_OUTPUT ? new Refused(`${text}: ${lines} whole lines fit`, [number], undefined, { lines }) : new Refused(text, [number]);
 }
 
 // Why mappings of these numbers, eight each, have no text. Their lines do not fall: of one out of order that is its column.

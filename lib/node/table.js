@@ -6,8 +6,13 @@ const { ask, askFor, cutAndRewritten } = require('./loading.js');
 const { DISPOSE, TraceMap, Under, empty, standingUnder } = require('./map.js');
 const { refusedText, refusedUrl } = require('./refused.js');
 
+// What a look-up gives.
+const placeOf = (source, line, column, name, ignored, index) => ({ source, line, column, name, ignored, index });
+
 // So many of the maps that were refused are remembered.
 const MOST_REFUSALS = 100;
+// A rewritten text has at most so many bytes, where nothing else is said.
+const MOST_OUTPUT = 2 ** 30;
 
 // What is told of maps that are not read: to a function, or else kept.
 class Told {
@@ -28,12 +33,13 @@ class Told {
 // none. What it throws, and why its map is refused, is told to `refused`, or else kept in `refusals`, of which there are 100
 // at most; the frames stay. A URL that begins with `*` is a pattern: its map is that of each URL that ends with the text behind it, where
 // a piece of the URL begins, with or without query and fragment, if no map is under the URL; of several the longest text decides. With
-// `paths` relative sources go on from the folder of a URL that is an absolute path, as node prints them.
-// It is freed as a TraceMap is.
+// `paths` relative sources go on from the folder of a URL that is an absolute path, as node prints them. `maxNames` is for each
+// map that is read here. It is freed as a TraceMap is.
 class Table extends Told {
   constructor(maps, options) {
-    const { load, refused, paths = false } = given.options(options, 'load', 'refused', 'paths');
+    const { load, refused, paths = false, maxNames } = given.options(options, 'load', 'refused', 'paths', 'maxNames');
     super(refused);
+    this.reading = given.reading({ maxNames });
     this.paths = given.boolean(paths, 'paths');
     if (typeof maps !== 'object' || maps === null) throw new TypeError('`maps` must be an object or pairs of a URL and a map');
     this.load = given.callable(load, 'load');
@@ -52,7 +58,7 @@ class Table extends Told {
 
   // Puts a map into the table.
   put(url, map) {
-    const handle = standingUnder(new Under(url, this.paths), map);
+    const handle = standingUnder(new Under(url, this.paths, this.reading), map);
     const reported = addon.add(open(this), Buffer.from(url), handle);
     if (typeof reported === 'number') throw refusedUrl(reported, url);
     if (map instanceof TraceMap) empty(map);
@@ -70,10 +76,7 @@ class Table extends Told {
     const bytes = given.utf8(given.text(url, 'url'), '`url`');
     const named = bytes.toString('latin1');
     if (this.load && !this.known.get(named)) askFor(this, named);
-    const found = addon.tableLookUp(open(this), bytes, given.line(line), given.column(column));
-    if (found === null) return null;
-    const [source, line0, column0, name, ignored, index] = found;
-    return { source, line: line0 + 1, column: column0, name, ignored, index };
+    return addon.tableLookUp(open(this), bytes, given.line(line), given.column(column), placeOf);
   }
 
   close() {
@@ -101,13 +104,15 @@ function checked(table) {
   return table;
 }
 
-// What `rewrite` and a stream are asked: whether lines of ignored sources are hidden, whether places anywhere are rewritten, and whether
-// the text is read without the control sequences that colour a terminal.
+// What `rewrite` and a stream are asked: whether lines of ignored sources are hidden, whether places anywhere are rewritten,
+// whether the text is read without the control sequences that colour a terminal, and how many bytes may come out.
 function rewriting(options) {
-  const { hideIgnored = false, anywhere = false, stripAnsi = false } = given.options(options, 'hideIgnored', 'anywhere', 'stripAnsi');
+  const words = given.options(options, 'hideIgnored', 'anywhere', 'stripAnsi', 'maxOutput');
+  const { hideIgnored = false, anywhere = false, stripAnsi = false, maxOutput = MOST_OUTPUT } = words;
   const [hide, places] = [given.boolean(hideIgnored, 'hideIgnored'), given.boolean(anywhere, 'anywhere')];
   if (hide && places) throw new Error('`hideIgnored` with `anywhere`');
-  return { hide, places, strip: given.boolean(stripAnsi, 'stripAnsi') };
+  const most = given.count(maxOutput, 'maxOutput', Number.MAX_SAFE_INTEGER);
+  return { hide, places, strip: given.boolean(stripAnsi, 'stripAnsi'), most };
 }
 
 // The bytes without control sequences.

@@ -19,11 +19,15 @@ const OF_ORIGINAL = 2;
 function originalPositionFor(map, { line, column, bias }) {
   ask(open(map), given.line(line), given.column(column), bias === LEAST_UPPER_BOUND ? 1 : 0);
   if (room[3] !== 2) return { source: null, line: null, column: null, name: null };
+  // These first: where a text is made, a setter of the user's may look up something else.
+  const originalLine = room[6] + 1;
+  const originalColumn = room[7];
+  const name = room[8] ? room[9] : undefined;
   return {
     source: map.sourceAt(room[5]),
-    line: room[6] + 1,
-    column: room[7],
-    name: room[8] ? map.nameAt(room[9]) : null,
+    line: originalLine,
+    column: originalColumn,
+    name: name === undefined ? null : map.nameAt(name),
   };
 }
 
@@ -58,7 +62,7 @@ function eachMapping(map, call) {
 function decodedMappings(map) {
   return once(map, 'decoded', (handle) => {
     const numbers = addon.mappings(handle);
-    return decoded(numbers, linesOf(map, numbers));
+    return decoded(numbers, linesOf(map, numbers), map.inner.bytes);
   });
 }
 
@@ -66,8 +70,8 @@ const decodedMap = (map) => withMappings(map, decodedMappings(map));
 const encodedMap = (map) => withMappings(map, encodedMappings(map));
 
 // A map or an index map: both are read alike.
-function AnyMap(map, mapUrl) {
-  return new TraceMap(map, mapUrl);
+function AnyMap(map, mapUrl, options) {
+  return new TraceMap(map, mapUrl, options);
 }
 
 // The number of the first source that the map calls so, or else the first of this name, or -1.

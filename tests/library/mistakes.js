@@ -162,8 +162,8 @@ function bases() {
     refuses('TypeError', () => new smap.TraceMap(small, url), /`mapUrl` must be a text/);
   }
   // No base of a test is so long.
-  const long = refusedMap(Buffer.alloc(0), Float64Array.of(18, 0, 0, 0, 0, 0), 'https://e.test/');
-  same([long.number, long.message], [18, 'the base is too long: "https://e.test/"']);
+  const long = refusedMap(Buffer.alloc(0), Float64Array.of(19, 0, 0, 0, 0, 0), 'https://e.test/');
+  same([long.number, long.message], [19, 'the base is too long: "https://e.test/"']);
   same(refusedMap(Buffer.alloc(0), Float64Array.of(99, 0, 0, 0, 0, 0), '').message, 'refused: 99');
 }
 
@@ -481,7 +481,7 @@ function shared() {
     bytes.set(Buffer.from(text));
     return bytes;
   };
-  refuses('TypeError', () => addon.read(sharing(small), Buffer.alloc(0), 64, new Float64Array(6)), /shared/);
+  refuses('TypeError', () => addon.read(sharing(small), Buffer.alloc(0), 64, 0, new Float64Array(6)), /shared/);
   for (const url of [undefined, 'dist/a.js', 'https://e.test/a.js']) {
     const given = sharing(small);
     const map = new smap.TraceMap(given, url);

@@ -7,7 +7,7 @@ import {
 
 const object = { version: 3, sources: ['a.js', null], names: [], mappings: [[[0, 0, 0, 0]]] };
 const map: TraceMap = new TraceMap(object, 'dist/a.js.map');
-const others: TraceMap[] = [new TraceMap('{}', new URL('https://e.test/'), 64), AnyMap(new Uint8Array(2)), new AnyMap('{}', null), new FlattenMap('{}'), presortedDecodedMap(object, null), new TraceMap(map)];
+const others: TraceMap[] = [new TraceMap('{}', new URL('https://e.test/'), 64), new TraceMap('{}', null, { interval: 64, maxNames: 1 }), AnyMap(new Uint8Array(2)), new AnyMap('{}', null), new FlattenMap('{}'), presortedDecodedMap(object, null), new TraceMap(map)];
 
 const found = originalPositionFor(map, { line: 1, column: 0, bias: LEAST_UPPER_BOUND });
 const line: number = found.line === null ? GREATEST_LOWER_BOUND : found.line;
@@ -39,14 +39,14 @@ const total: number = sources.reduce((sum, bytes) => sum + bytes, unmapped) + ma
 const made: Uint8Array[] = [compose(map, 0, others[0]), composeAll(map, { 'a.js': others[1] }, { load: (source) => source, prune: true }), map.write()];
 const table = new Table({ 'https://e.test/a.js': map }, { load: (url) => (url === '' ? null : '{}'), refused: (url, error) => names.push(url, String(error)) });
 names.push(...table.refusals.map(({ url }) => url));
-made.push(rewrite(table, 'f@a.js:1:1', { hideIgnored: true }));
+made.push(rewrite(table, 'f@a.js:1:1', { hideIgnored: true, maxOutput: 1 }));
 const stream: RewriteStream = new RewriteStream(table, { anywhere: true });
 const places: number = 'places' in stream.counts ? stream.counts.places : stream.counts.frames;
 stream.on('refused', (url: string, error: unknown) => names.push(url, String(error))).end('x');
 const place: Place | null = table.lookUp('https://e.test/a.js?v=3', 1, 0);
 const context: Context | null = sourceContext(map, place ? place.index : 0, 1, 3);
 const kept = new Maps({ load: () => null, loadAsync: async (url) => `{"file":"${url}"}`, maxBytes: map.nbytes, atOnce: 4 });
-const inFolder: Maps = Maps.folder('https://e.test/', '.', { maxBytes: 1, paths: true });
+const inFolder: Maps = Maps.folder('https://e.test/', '.', { maxBytes: 1, paths: true, maxNames: 1 });
 const waiting: Promise<Buffer> = rewriteAsync(kept, 'x', { stripAnsi: true });
 names.push(...frameUrls('x', { anywhere: true }), context ? context.before.join(context.line) : '', String(inFolder.get('x')));
 table[Symbol.dispose]();

@@ -19,13 +19,18 @@ bool words_of(napi_env env, napi_callback_info info, size_t wanted, napi_value *
 /* Where an array of no length is. */
 extern uint64_t nothing[1];
 
-/* The bytes of a Uint8Array, which stay what and where they are during a call: no other thread has them. */
+/* The bytes of a Uint8Array and the numbers of a Uint32Array, which stay what and where they are during a call: no other
+ * thread has them. */
 bool bytes_of(napi_env env, napi_value value, const uint8_t **bytes, size_t *length);
-
 bool numbers_of(napi_env env, napi_value value, uint32_t **numbers, size_t *length);
 
-/* A whole number of 32 bits. Another is refused, and never wrapped. */
+/* The numbers of a Uint32Array in shared memory that has so many. They stay where they are as long as the array is there:
+ * such memory is neither detached nor transferred. But other threads may write to it. */
+uint32_t *shared_of(napi_env env, napi_value value, size_t wanted);
+
+/* A whole number of 32 bits, or one up to 2^53 - 1. Another is refused, and never wrapped. */
 bool number_of(napi_env env, napi_value value, uint32_t *number);
+bool count_of(napi_env env, napi_value value, uint64_t *count);
 
 /* The places of a Float64Array that has so many, for numbers past 32 bits. */
 double *doubles_of(napi_env env, napi_value value, size_t wanted);
@@ -37,6 +42,12 @@ napi_value null(napi_env env);
 /* Bytes that were handed out, as a Buffer. */
 napi_value buffer(napi_env env, smap_bytes *bytes);
 
+/* Gives an object a member, which may not be NULL, and makes an Array of values. They are defined and not set: a setter of a
+ * prototype, which may close what was lent, is not called. No call of an addon runs the user's code, but what tableLookUp is
+ * given, when all is made. */
+bool define(napi_env env, napi_value object, const char *name, napi_value value);
+napi_value list_of(napi_env env, const napi_value *values, size_t count);
+
 /* held.c: what the objects of the addon hold of the library: a map, a table or inner maps each. V8 knows of the memory, which is
  * not its own. */
 enum kind { MAP, TABLE, INNERS };
@@ -45,12 +56,12 @@ struct held;
 /* What stands at a place: something that is held, or nothing, and then the next place is free too. */
 struct place { struct held *held; uint32_t next; };
 
-/* The addon in one environment of node. The room is what one look-up is asked and answers, in a Uint32Array of twelve: the
- * line, the column, 1 for the other direction, the seven numbers of the answer, the place of the map, and whether the source is
- * ignored, which is said where WITH_IGNORED stands in place of the 1. There is one room, so that a look-up hands over no
- * argument and makes no value, and is one function for all maps. Where OF_ORIGINAL and a direction stand there, an original
- * place is asked for, whose source stands behind; and the answer is whether it has generated places, their original column, and
- * the first and the last of them. */
+/* The addon in one environment of node. The room is what one look-up is asked and answers, in a Uint32Array of twelve in
+ * shared memory: the line, the column, 1 for the other direction, the seven numbers of the answer, the place of the map, and
+ * whether the source is ignored, which is said where WITH_IGNORED stands in place of the 1. There is one room, so that a
+ * look-up hands over no argument and makes no value, and is one function for all maps. Where OF_ORIGINAL and a direction stand
+ * there, an original place is asked for, whose source stands behind; and the answer is whether it has generated places, their
+ * original column, and the first and the last of them. */
 #define OF_ORIGINAL 2
 #define WITH_IGNORED 4
 #define ROOM_MAP 10

@@ -1,5 +1,6 @@
 /* What is given is checked, and what is handed back is made. */
 #include "addon.h"
+#include <stdio.h>
 
 uint64_t nothing[1];
 
@@ -25,29 +26,41 @@ bool words_of(napi_env env, napi_callback_info info, size_t wanted, napi_value *
     return count >= wanted;
 }
 
-bool bytes_of(napi_env env, napi_value value, const uint8_t **bytes, size_t *length) {
+/* Where the numbers are of a typed array of this type, whose memory is shared or not, and how many; or false. One that was
+ * detached has none. */
+static bool array_of(napi_env env, napi_value value, napi_typedarray_type wanted, bool shared, void **data, size_t *length) {
     napi_typedarray_type type;
     napi_value room;
-    void *data = NULL;
     bool alone = false;
-    if (napi_get_typedarray_info(env, value, &type, length, &data, &room, NULL) != napi_ok || type != napi_uint8_array ||
-        napi_is_arraybuffer(env, room, &alone) != napi_ok || !alone) {
-        refuse_type(env, "no Uint8Array, or one that is shared");
+    if (napi_get_typedarray_info(env, value, &type, length, data, &room, NULL) != napi_ok || type != wanted ||
+        napi_is_arraybuffer(env, room, &alone) != napi_ok || alone == shared)
         return false;
-    }
-    *bytes = *length ? data : (const uint8_t *)nothing;
+    if (!*length) *data = nothing;
     return true;
 }
 
+bool bytes_of(napi_env env, napi_value value, const uint8_t **bytes, size_t *length) {
+    void *data;
+    bool is = array_of(env, value, napi_uint8_array, false, &data, length);
+    if (is) *bytes = data;
+    else refuse_type(env, "no Uint8Array, or one that is shared");
+    return is;
+}
+
 bool numbers_of(napi_env env, napi_value value, uint32_t **numbers, size_t *length) {
-    napi_typedarray_type type;
-    void *data = NULL;
-    if (napi_get_typedarray_info(env, value, &type, length, &data, NULL, NULL) != napi_ok || type != napi_uint32_array) {
-        refuse_type(env, "no Uint32Array");
-        return false;
-    }
-    *numbers = *length ? data : (void *)nothing;
-    return true;
+    void *data;
+    bool is = array_of(env, value, napi_uint32_array, false, &data, length);
+    if (is) *numbers = data;
+    else refuse_type(env, "no Uint32Array, or one that is shared");
+    return is;
+}
+
+uint32_t *shared_of(napi_env env, napi_value value, size_t wanted) {
+    void *data;
+    size_t length;
+    if (array_of(env, value, napi_uint32_array, true, &data, &length) && length >= wanted) return data;
+    refuse_type(env, "no Uint32Array in shared memory, or one that is too short");
+    return NULL;
 }
 
 bool number_of(napi_env env, napi_value value, uint32_t *number) {
@@ -60,12 +73,20 @@ bool number_of(napi_env env, napi_value value, uint32_t *number) {
     return false;
 }
 
+bool count_of(napi_env env, napi_value value, uint64_t *count) {
+    double given;
+    if (napi_get_value_double(env, value, &given) == napi_ok && given >= 0 && given < 1LL << 53 && given == (double)(uint64_t)given) {
+        *count = (uint64_t)given;
+        return true;
+    }
+    refuse_type(env, "no whole number up to 2^53 - 1");
+    return false;
+}
+
 double *doubles_of(napi_env env, napi_value value, size_t wanted) {
-    napi_typedarray_type type;
-    size_t places;
-    void *data = NULL;
-    if (napi_get_typedarray_info(env, value, &type, &places, &data, NULL, NULL) == napi_ok && type == napi_float64_array && places >= wanted)
-        return data;
+    void *data;
+    size_t length;
+    if (array_of(env, value, napi_float64_array, false, &data, &length) && length >= wanted) return data;
     refuse_type(env, "no Float64Array, or one that is too short");
     return NULL;
 }
@@ -95,4 +116,21 @@ napi_value buffer(napi_env env, smap_bytes *bytes) {
     if (napi_create_buffer_copy(env, text.length, text.bytes, NULL, &result) != napi_ok) refuse(env, "out of memory");
     smap_bytes_free(bytes);
     return result;
+}
+
+bool define(napi_env env, napi_value object, const char *name, napi_value value) {
+    const napi_property_attributes all = napi_writable | napi_enumerable | napi_configurable;
+    const napi_property_descriptor property = {.utf8name = name, .value = value, .attributes = all};
+    return value && napi_define_properties(env, object, 1, &property) == napi_ok;
+}
+
+napi_value list_of(napi_env env, const napi_value *values, size_t count) {
+    napi_value list;
+    char index[24];
+    if (napi_create_array_with_length(env, count, &list) != napi_ok) return refuse(env, "out of memory");
+    for (size_t i = 0; i < count; i++) {
+        snprintf(index, sizeof index, "%zu", i);
+        if (!define(env, list, index, values[i])) return NULL;
+    }
+    return list;
 }

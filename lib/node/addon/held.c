@@ -21,13 +21,14 @@ static const struct { napi_type_tag tag; const char *other, *closed; } kinds[] =
 /* The addon that this thread asked for last, and its environment: so a look-up need not ask node for it. */
 static _Thread_local struct { napi_env env; struct addon *addon; } last;
 
+/* The collector may run last, and free other things that are held. */
 void report_size(napi_env env, struct held *held, int64_t size) {
-    int64_t all;
     struct addon *addon = held->addon;
-    napi_adjust_external_memory(env, size - held->size, &all);
-    if (addon) addon->reported += size - held->size;
-    if (addon && addon->reported < addon->swept) addon->swept = addon->reported;
+    int64_t all, more = size - held->size;
     held->size = size;
+    if (addon) addon->reported += more;
+    if (addon && addon->reported < addon->swept) addon->swept = addon->reported;
+    napi_adjust_external_memory(env, more, &all);
 }
 
 /* So many bytes were freed. */
@@ -87,7 +88,7 @@ napi_value object_of(napi_env env, struct held *held, int64_t size) {
     napi_value object;
     held->full = true;
     if (napi_create_object(env, &object) != napi_ok || napi_type_tag_object(env, object, &kinds[held->kind].tag) != napi_ok ||
-        !take_place(addon_of(env), held) || napi_set_named_property(env, object, "place", number(env, held->place)) != napi_ok ||
+        !take_place(addon_of(env), held) || !define(env, object, "place", number(env, held->place)) ||
         napi_wrap(env, object, held, drop, NULL, &held->itself) != napi_ok) {
         held->itself = NULL;
         drop(env, held, NULL);
@@ -98,9 +99,9 @@ napi_value object_of(napi_env env, struct held *held, int64_t size) {
 }
 
 void hand_over(napi_env env, struct held *map, struct held *taker) {
+    map->full = false;
     report_size(env, taker, taker->size + map->size);
     report_size(env, map, 0);
-    map->full = false;
 }
 
 void sweep(napi_env env, struct addon *addon) {

@@ -16,30 +16,45 @@ static bool places_of(napi_env env, struct held *held, uint32_t source, uint32_t
     return true;
 }
 
-/* lookUp(): what the room asks for, of the map whose place stands in it. */
-napi_value look_up(napi_env env, napi_callback_info info) {
-    (void)info;
-    const struct addon *addon = addon_of(env);
-    uint32_t *room = addon->room;
-    struct held *held = room[ROOM_MAP] < addon->count ? addon->places[room[ROOM_MAP]].held : NULL;
-    if (!held || held->kind != MAP || !held->full) return refuse(env, "the map is closed");
-    if (room[2] < OF_ORIGINAL || room[2] == WITH_IGNORED) {
-        smap_source_text source = SMAP_SOURCE;
-        (room[2] == 1 ? smap_look_up_from : smap_look_up)(&held->map, room[0], room[1], (smap_found *)(room + 3));
-        if (room[2] == WITH_IGNORED && room[3] == 2) {
-            smap_source(&held->map, room[5], &source);
-            room[ROOM_IGNORED] = source.ignored;
-        }
-        return NULL;
+/* Answers what the room asks for, of the generated places of an original one. */
+static void look_up_original(napi_env env, struct held *held, uint32_t *room) {
+    const uint32_t line = room[0], column = room[1], direction = room[2] - OF_ORIGINAL, source = room[3];
+    napi_value object = NULL;
+    /* The call has no argument: it is this that keeps the collector from the map. */
+    if (napi_get_reference_value(env, held->itself, &object) != napi_ok || !object) {
+        refuse(env, "the map is closed");
+        return;
     }
     smap_generated_places places = SMAP_PLACES;
-    if (!places_of(env, held, room[3], room[0], room[1], room[2] - OF_ORIGINAL, &places)) return NULL;
+    if (!places_of(env, held, source, line, column, direction, &places)) return;
     room[3] = places.count > 0;
     if (places.count) {
         const smap_generated_place *first = places.places, *last = first + places.count - 1;
         const uint32_t answer[] = {first->original_column, first->line, first->column, last->line, last->column};
         memcpy(room + 4, answer, sizeof answer);
     }
+}
+
+/* lookUp(): what the room asks for, of the map whose place stands in it. */
+napi_value look_up(napi_env env, napi_callback_info info) {
+    (void)info;
+    const struct addon *addon = addon_of(env);
+    /* Another thread may have the room, so what decides is read once. */
+    const volatile uint32_t *asked = addon->room;
+    const uint32_t how = asked[2], place = asked[ROOM_MAP];
+    uint32_t *room = addon->room;
+    struct held *held = place < addon->count ? addon->places[place].held : NULL;
+    if (!held || held->kind != MAP || !held->full) return refuse(env, "the map is closed");
+    if (how < OF_ORIGINAL || how == WITH_IGNORED) {
+        smap_source_text source = SMAP_SOURCE;
+        (how == 1 ? smap_look_up_from : smap_look_up)(&held->map, room[0], room[1], (smap_found *)(room + 3));
+        if (how == WITH_IGNORED && room[3] == 2) {
+            smap_source(&held->map, room[5], &source);
+            room[ROOM_IGNORED] = source.ignored;
+        }
+        return NULL;
+    }
+    look_up_original(env, held, room);
     return NULL;
 }
 

@@ -7,21 +7,23 @@ static int64_t size_of(size_t length, const smap_count *count) {
     return (int64_t)(length + 32 * (count->checkpoints + count->sources + count->names) + 8 * count->lines);
 }
 
-/* read(bytes, base, interval, refusal): a map, or null, with the numbers of the refusal in a Float64Array of 6. */
+/* read(bytes, base, interval, mostNames, refusal): a map, the names of whose sources may have so many bytes together; or null,
+ * with the numbers of the refusal in a Float64Array of 6. */
 napi_value read_map(napi_env env, napi_callback_info info) {
     napi_value words[WORDS];
     const uint8_t *bytes, *base;
     size_t length, base_length;
     uint32_t interval;
+    uint64_t most;
     double *numbers;
-    if (!words_of(env, info, 4, words) || !bytes_of(env, words[0], &bytes, &length) || !bytes_of(env, words[1], &base, &base_length) ||
-        !number_of(env, words[2], &interval) || !(numbers = doubles_of(env, words[3], 6)))
+    if (!words_of(env, info, 5, words) || !bytes_of(env, words[0], &bytes, &length) || !bytes_of(env, words[1], &base, &base_length) ||
+        !number_of(env, words[2], &interval) || !count_of(env, words[3], &most) || !(numbers = doubles_of(env, words[4], 6)))
         return NULL;
     sweep(env, addon_of(env));
     struct held *held = calloc(1, sizeof *held);
     if (!held) return refuse(env, "out of memory");
     smap_refusal refusal = {0};
-    uint32_t status = smap_map_read(bytes, length, base, base_length, interval, &held->map, &refusal);
+    uint32_t status = smap_map_read_within(bytes, length, base, base_length, interval, most, &held->map, &refusal);
     if (status != SMAP_DONE) {
         free(held);
         if (status != SMAP_REFUSED) return refuse(env, "out of memory");
@@ -43,8 +45,9 @@ napi_value counts(napi_env env, napi_callback_info info) {
     smap_counts(&held->map, &count);
     const char *names[] = {"sections", "sources", "names", "segments", "lines", "checkpoints"};
     const uint64_t values[] = {count.sections, count.sources, count.names, count.segments, count.lines, count.checkpoints};
-    napi_create_object(env, &result);
-    for (int i = 0; i < 6; i++) napi_set_named_property(env, result, names[i], number(env, (double)values[i]));
+    if (napi_create_object(env, &result) != napi_ok) return refuse(env, "out of memory");
+    for (int i = 0; i < 6; i++)
+        if (!define(env, result, names[i], number(env, (double)values[i]))) return NULL;
     return result;
 }
 
@@ -102,10 +105,22 @@ napi_value is_ignored(napi_env env, napi_callback_info info) {
     return ignored;
 }
 
+/* The lines of a content that stand in this range as texts, behind the number of those before this line. */
+static napi_value lines_of(napi_env env, smap_text content, const smap_line_bytes *lines, smap_line_range range, uint32_t line) {
+    napi_value *values = calloc(range.count + 1, sizeof *values);
+    if (!values) return refuse(env, "out of memory");
+    values[0] = number(env, line - range.first);
+    for (size_t i = 0; i < range.count; i++)
+        values[i + 1] = string(env, (smap_text){content.bytes + lines[i].start, lines[i].length});
+    napi_value list = list_of(env, values, range.count + 1);
+    free(values);
+    return list;
+}
+
 /* sourceLines(map, index, line, before, after): the lines around this line of a source, with before them the place of it among them; or
  * null. */
 napi_value source_lines(napi_env env, napi_callback_info info) {
-    napi_value words[WORDS], list = NULL;
+    napi_value words[WORDS];
     smap_source_text source = SMAP_SOURCE;
     uint32_t index, line, before, after;
     if (!words_of(env, info, 5, words) || !source_of(env, info, &source)) return NULL;
@@ -117,15 +132,9 @@ napi_value source_lines(napi_env env, napi_callback_info info) {
     smap_line_range range = {0};
     if (!lines) return refuse(env, "out of memory");
     bool is = smap_source_lines(&held->map, index, line, before, after, lines, places, &range) == SMAP_DONE;
-    if (is && napi_create_array_with_length(env, range.count + 1, &list) == napi_ok) {
-        napi_set_element(env, list, 0, number(env, line - range.first));
-        for (uint32_t i = 0; i < range.count; i++) {
-            napi_value text = string(env, (smap_text){source.content.bytes + lines[i].start, lines[i].length});
-            if (text) napi_set_element(env, list, i + 1, text);
-        }
-    }
+    napi_value list = is ? lines_of(env, source.content, lines, range, line) : null(env);
     free(lines);
-    return is ? list : null(env);
+    return list;
 }
 
 napi_value name(napi_env env, napi_callback_info info) {

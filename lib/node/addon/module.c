@@ -1,6 +1,20 @@
 /* The module: its calls, and the room of a look-up. */
 #include "addon.h"
+#include <stdio.h>
 #include <stdlib.h>
+
+/* The room of a look-up, which stays as long as the addon. It is in shared memory, since nobody can take this away: the memory
+ * of another array goes where the user transfers it. Node-API makes no such array. */
+static napi_value room_of(napi_env env, struct addon *addon) {
+    char text[64];
+    napi_value script, room;
+    napi_ref kept;
+    snprintf(text, sizeof text, "new Uint32Array(new SharedArrayBuffer(%zu))", ROOM * sizeof(uint32_t));
+    if (napi_create_string_utf8(env, text, NAPI_AUTO_LENGTH, &script) != napi_ok || napi_run_script(env, script, &room) != napi_ok)
+        return NULL;
+    addon->room = shared_of(env, room, ROOM);
+    return addon->room && napi_create_reference(env, room, 1, &kept) == napi_ok ? room : NULL;
+}
 
 NAPI_MODULE_INIT() {
     const struct { const char *name; napi_callback call; } calls[] = {
@@ -17,24 +31,18 @@ NAPI_MODULE_INIT() {
         {"rewriteRefusalText", rewrite_refusal_text}, {"writeRefusalText", write_refusal_text},
         {"encodeRefusalText", encode_refusal_text},
     };
-    napi_value buffer, room;
-    napi_ref kept;
-    void *numbers;
     struct addon *addon = calloc(1, sizeof *addon);
     if (!addon || napi_set_instance_data(env, addon, drop_addon, NULL) != napi_ok) {
         free(addon);
         return refuse(env, "out of memory");
     }
-    if (napi_create_arraybuffer(env, ROOM * sizeof(uint32_t), &numbers, &buffer) != napi_ok ||
-        napi_create_typedarray(env, napi_uint32_array, ROOM, buffer, 0, &room) != napi_ok ||
-        napi_create_reference(env, buffer, 1, &kept) != napi_ok)
-        return refuse(env, "out of memory");
-    addon->room = numbers;
-    napi_set_named_property(env, exports, "room", room);
+    napi_value room = room_of(env, addon);
+    if (!room || !define(env, exports, "room", room)) return NULL;
     for (size_t i = 0; i < sizeof calls / sizeof *calls; i++) {
         napi_value function;
-        napi_create_function(env, calls[i].name, NAPI_AUTO_LENGTH, calls[i].call, NULL, &function);
-        napi_set_named_property(env, exports, calls[i].name, function);
+        if (napi_create_function(env, calls[i].name, NAPI_AUTO_LENGTH, calls[i].call, NULL, &function) != napi_ok ||
+            !define(env, exports, calls[i].name, function))
+            return NULL;
     }
     return exports;
 }

@@ -35,25 +35,30 @@ napi_value add(napi_env env, napi_callback_info info) {
     return refuse(env, "out of memory");
 }
 
-/* rewrite(table, text, anywhere, hideIgnored, cut, numbers): the text, with its four counts in the numbers, or null where it is
- * refused. */
+/* rewrite(table, text, anywhere, hideIgnored, cut, most, numbers): the text, of at most so many bytes, with its four counts in
+ * the numbers; or null, with the number of the refusal, and how many lines of a text that would have more do fit. */
 napi_value rewrite(napi_env env, napi_callback_info info) {
     napi_value words[WORDS];
     const uint8_t *text;
     size_t length;
+    uint64_t most;
     smap_rewrite_options options = {0};
-    if (!words_of(env, info, 6, words)) return NULL;
+    if (!words_of(env, info, 7, words)) return NULL;
     struct held *table = held_of(env, words[0], TABLE);
     if (!table || !bytes_of(env, words[1], &text, &length)) return NULL;
     bool *const given[] = {&options.anywhere, &options.hide_ignored, &options.cut};
     for (int i = 0; i < 3; i++)
         if (napi_get_value_bool(env, words[2 + i], given[i]) != napi_ok) return refuse_type(env, "no boolean");
-    double *numbers = doubles_of(env, words[5], 4);
-    if (!numbers) return NULL;
+    double *numbers = doubles_of(env, words[6], 4);
+    if (!numbers || !count_of(env, words[5], &most)) return NULL;
     smap_bytes bytes = {0};
     smap_trace_count count = {0};
-    uint32_t status = smap_rewrite_with(&table->table, text, length, &options, &bytes, &count);
-    if (status == SMAP_REFUSED) return null(env);
+    smap_rewrite_refusal refusal = {0};
+    uint32_t status = smap_rewrite_within(&table->table, text, length, &options, most, &bytes, &count, &refusal);
+    if (status == SMAP_REFUSED) {
+        numbers[0] = refusal.number, numbers[1] = (double)refusal.lines;
+        return null(env);
+    }
     if (status != SMAP_DONE) return refuse(env, "out of memory");
     numbers[0] = (double)count.lines;
     numbers[1] = (double)count.frames;
@@ -97,14 +102,14 @@ napi_value table_has(napi_env env, napi_callback_info info) {
     return napi_get_boolean(env, done, &has) == napi_ok ? has : NULL;
 }
 
-/* tableLookUp(table, url, line, column): what the map of a URL answers, as a list of the source's name, line, column, the name, whether
- * it is ignored, and the source's number; or null. */
+/* tableLookUp(table, url, line, column, placeOf): what the map of a URL answers, as that function makes it of the
+ * source's name, the line from 1, the column, the name, whether it is ignored, and the source's number; or null. */
 napi_value table_look_up(napi_env env, napi_callback_info info) {
-    napi_value words[WORDS], list, ignored;
+    napi_value words[WORDS], ignored;
     const uint8_t *url;
     size_t length;
     uint32_t line, column;
-    if (!words_of(env, info, 4, words)) return NULL;
+    if (!words_of(env, info, 5, words)) return NULL;
     struct held *table = held_of(env, words[0], TABLE);
     if (!table || !bytes_of(env, words[1], &url, &length)) return NULL;
     if (!number_of(env, words[2], &line) || !number_of(env, words[3], &column)) return NULL;
@@ -115,15 +120,11 @@ napi_value table_look_up(napi_env env, napi_callback_info info) {
     if (status != SMAP_DONE || found.kind != 2) return null(env);
     napi_get_boolean(env, source.ignored != 0, &ignored);
     const napi_value parts[] = {
-        source.named ? string(env, source.name) : null(env), number(env, found.line), number(env, found.column),
+        source.named ? string(env, source.name) : null(env), number(env, (double)found.line + 1), number(env, found.column),
         found.named ? string(env, name) : null(env), ignored, number(env, found.source),
     };
-    if (napi_create_array_with_length(env, 6, &list) != napi_ok) return refuse(env, "out of memory");
-    for (uint32_t i = 0; i < 6; i++) {
-        if (!parts[i]) return NULL;
-        napi_set_element(env, list, i, parts[i]);
-    }
-    return list;
+    napi_value place = NULL;
+    return parts[0] && parts[3] && napi_call_function(env, words[4], words[4], 6, parts, &place) == napi_ok ? place : NULL;
 }
 
 /* nextFrameUrl(trace, numbers): whether a frame follows byte numbers[2]; then where its URL stands, its length, and where the
