@@ -27,7 +27,7 @@ from typing import NoReturn
 try:
     from dask.system import CPU_COUNT
     from dask.utils import parse_bytes
-    from distributed import CancelledError, Client, Future, LocalCluster, as_completed
+    from distributed import CancelledError, Client, Future, LocalCluster, Nanny, Status, as_completed
     from distributed.scheduler import KilledWorker
 except ImportError:
     print("smap_dask: it needs Debian's packages python3-dask and python3-distributed", file=sys.stderr)
@@ -193,6 +193,20 @@ def folder_of_parts(output: Path) -> Iterator[Path]:
         shutil.rmtree(folder.rename(f"{folder}-ended"), ignore_errors=True)
 
 
+class Keeper(Nanny):
+    """Begins a worker, and anew where it dies, but not while the cluster starts: there Dask would then wait without end."""
+
+    begun = runs = False
+
+    async def instantiate(self) -> Status:
+        if self.begun and self.status == Status.init:
+            return Status.failed
+        self.begun = True
+        status = await super().instantiate()
+        self.runs = status == Status.running
+        return status
+
+
 @contextmanager
 def cluster_of(scheduler: str | None) -> Iterator[Client]:
     """A client of the scheduler that is given, or of a cluster of this machine, with a worker for each processor."""
@@ -209,8 +223,11 @@ def cluster_of(scheduler: str | None) -> Iterator[Client]:
             dashboard_address=LOOPBACK,
             worker_dashboard_address=LOOPBACK,
             silence_logs=logging.CRITICAL,
+            worker_class=Keeper,
         ) as cluster:
             signal.signal(signal.SIGINT, handler)
+            if not all(keeper.runs for keeper in cluster.workers.values()):
+                raise Stop(3, "smap_dask: a worker died while the cluster started")
             with Client(cluster) as client:
                 yield client
 

@@ -9,6 +9,13 @@ wanted_kit='rattle-kit-13f logic dac8208d650f15bf'
 # shellcheck disable=SC2034
 version=$(sed -n 's/^const VERSION: .* = "\(.*\)";$/\1/p' "${root:?}/crates/smap_arguments/src/line.rt")
 
+# How C of ours is compiled and linked, so that a mistake in it ends the process: a stack or a block that is overrun, or a write to
+# the table of calls.
+# shellcheck disable=SC2034
+guarded_code='-O2 -fstack-protector-strong -fstack-clash-protection -U_FORTIFY_SOURCE -D_FORTIFY_SOURCE=3'
+# shellcheck disable=SC2034
+guarded_link='-Wl,-z,relro,-z,now'
+
 # fail STATUS LINE..: ends with this status, and says why.
 fail() {
     status=$1
