@@ -10,6 +10,7 @@ pub mod IndexMapLaws
 pub mod JoinedLaws
 pub mod LimitLaws
 pub mod MemberLaws
+pub mod NameLaws
 pub mod NamedLaws
 pub mod ReadBackLaws
 pub mod ReadingLaws

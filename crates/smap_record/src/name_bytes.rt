@@ -1,6 +1,6 @@
 //! How many bytes the names of a map's sources are made of.
-ghost use Rattle.std.specs.Prelude.{◌≡◌, ◌<◌, ◌+◌, None, length, map, nat_lt, option_copied, IfSome};
-ghost use Rattle.smap_record.specs.NameBytes.{base_bytes, name_bytes, names_refusal, section_name_bytes};
+ghost use Rattle.std.specs.Prelude.{◌≡◌, ◌<◌, ◌+◌, None, length, map, nat_lt, option_copied, option_map, string_bytes, IfSome};
+ghost use Rattle.smap_record.specs.NameBytes.{base_bytes, name_bytes, names_refusal, section_name_bytes, text_bytes};
 ghost use Rattle.smap_record.specs.Refusals.{unless};
 ghost use Rattle.smap_record.specs.Given.{GivesRead};
 ghost use Rattle.smap_record.specs.Private.Seen.{sources_seen};
@@ -56,21 +56,24 @@ fn left_behind(section: &SectionSources, base: usize, most: u64) -> Option<u64>
     let prefix = prefix_bytes(text_of(&section.root));
     let mut left = most;
     for text in section.texts.iter() {
-        if let Some(text) = text {
-            left = left_of(left, base, prefix, text.len())?;
-        }
+        left = left_behind_name(text, base, prefix, left)?;
     }
     Some(left)
 }
 
-// The same behind one name.
-fn left_of(most: u64, base: usize, prefix: usize, text: usize) -> Option<u64>
-    ensures enough { IfSome result (λ left. base + prefix + text + left ≡ most) }
-    ensures few { result ≡ None → most < base + prefix + text }
+// The same behind the name of a source with this text.
+fn left_behind_name(text: &Option<String>, base: usize, prefix: usize, most: u64) -> Option<u64>
+    ensures enough { IfSome result (λ left.
+        text_bytes (base + prefix) (option_map string_bytes text.now) + left ≡ most) }
+    ensures few { result ≡ None →
+        most < text_bytes (base + prefix) (option_map string_bytes text.now) }
 {
+    let Some(text) = text else {
+        return Some(most);
+    };
     most.checked_sub(base as u64)?
         .checked_sub(prefix as u64)?
-        .checked_sub(text as u64)
+        .checked_sub(text.len() as u64)
 }
 
 fn base_bytes(base: Option<&Url>) -> usize

@@ -1,5 +1,5 @@
 -- That one source is renamed.
-use Rattle.std.proofs.Common.{rules, ◌≡◌, ◌<◌, ◌≤◌, ℕ, length}
+use Rattle.std.proofs.Common.{rules, ◌≡◌}
 use Rattle.smap_record.proofs.map_file.MapFile.rename_source.Goals as goal
 use Rattle.smap_record.proofs.map_file.MapFile.rename_source.Goals.{in-Some+in-Some+in-Resolved-1, in-Some+in-Some+in-Kept-1, in-Some+in-None-1, in_default+in-Resolved-1, in_default+in-Kept-1}
 use Rattle.smap_record.proofs.EntryLaws.{one_named, none_named}
