@@ -1,7 +1,7 @@
 //! A source over a source.
 ghost use Rattle.std.specs.Prelude.{◌≡◌, ◌<◌, ◌≤◌, [], length, take, true};
 ghost use Rattle.smap_sequences.specs.Sequences.{IsWaiting, most_sequences};
-ghost use Rattle.smap_sequences.specs.Source.{without_seen};
+ghost use Rattle.smap_sequences.specs.Source.{ReadsOn, without_seen};
 ghost use Rattle.smap_sequences.specs.Private.Front.{IsFront};
 ghost use Rattle.smap_sequences.specs.Private.Given.{IsGiven, IsLastGiven, IsNearer};
 ghost use Rattle.smap_sequences.specs.declared.front.Front.TheVariants.{Open};
@@ -49,7 +49,10 @@ impl<R: ByteSource> WithoutSequences<R> {
 impl<R: ByteSource> ByteSource for WithoutSequences<R> {
     ghost seen = { λ source. without_seen source.held source.most (R.seen source.inner) };
 
-    fn read(&mut self, room: &mut [u8]) -> Result<usize, DeviceFault> {
+    fn read(&mut self, room: &mut [u8]) -> Result<usize, DeviceFault>
+        ensures { ReadsOn (without_seen self.old.held self.old.most (R.seen self.old.inner))
+            (without_seen self.new.held self.new.most (R.seen self.new.inner)) room.new result }
+    {
         if self.inner.failed() {
             return Err(DeviceFault);
         }

@@ -1,4 +1,4 @@
-use Rattle.std.proofs.Common.{◌≡◌, ◌∙◌, ◌<◌, arith, length, refl, rules, true, false}
+use Rattle.std.proofs.Common.{◌≡◌, ◌∙◌, ◌<◌, arith, length, refl, rules, sym, true, false}
 use Rattle.std.proofs.lemmas.Grind.{common_steps}
 use Rattle.smap_sequences.specs.Source.{without_seen}
 use Rattle.smap_sequences.proofs.SeenLaws.{given_last, gone_on, nearer_end, no_more, seen_end, some_more}
@@ -12,22 +12,20 @@ give_one-requires-clause-undecided g c =
     let no = no_more (g.R.ByteSource.seen c.loop-self.self.inner) (g.R.ByteSource.seen c.read_on.new.inner) _ _ _ ended c.in_ok-read_on.ensures.more in
     rw no.0 (c.give-count.ensures.undecided none room)
 
-pub returns-then-not-branch-clause-gives : goal.returns-then-not-branch-clause-gives
-returns-then-not-branch-clause-gives g c =
+pub returns-then-not-branch : goal.returns-then-not-branch
+returns-then-not-branch g c =
     let seen = g.R.ByteSource.seen in
     let none : c.give-count.result ≡ 0 = omega (arith, c.if-count-gt0.false) in
     let ended : c.in_ok-read_on.field-0 ≡ false = search rules in
-    let no = no_more (g.R.ByteSource.seen c.loop-self.self.inner) (g.R.ByteSource.seen c.read_on.new.inner) _ _ _ ended c.in_ok-read_on.ensures.more in
+    let no = no_more (seen c.loop-self.self.inner) (seen c.read_on.new.inner) _ _ _ ended c.in_ok-read_on.ensures.more in
     let at = gone_on (without_seen c.args.self.now.held c.args.self.now.most (seen c.args.self.now.inner)) (seen c.loop-self.self.inner) (seen c.loop-self.self.inner) (seen c.read_on.new.inner) _ _ _ _ _ _ _ _ c.loop-self.invariant.seen none c.give-count.ensures.gives
-    refl c.in_ok-read_on.ensures.more c.in_ok-read_on.ensures.no_failure in
-    given_last (without_seen c.args.self.now.held c.args.self.now.most (seen c.args.self.now.inner)) (seen c.read_on.new.inner) (seen c.read_on.new.inner) _ _ _ _ _ at no.2 c.give_one.ensures.gives refl
-
-pub returns-then-not-branch-clause-ends : goal.returns-then-not-branch-clause-ends
-returns-then-not-branch-clause-ends g c none room =
-    let seen = g.R.ByteSource.seen in
-    let ended : c.in_ok-read_on.field-0 ≡ false = search rules in
-    let no = no_more (g.R.ByteSource.seen c.loop-self.self.inner) (g.R.ByteSource.seen c.read_on.new.inner) _ _ _ ended c.in_ok-read_on.ensures.more in
-    seen_end _ _ (c.give_one.ensures.end none) _ no.2
+    refl c.in_ok-read_on.ensures.more c.in_ok-read_on.ensures.no_failure in (
+      c.give_one.ensures.fits,
+      given_last (without_seen c.args.self.now.held c.args.self.now.most (seen c.args.self.now.inner)) (seen c.read_on.new.inner) (seen c.read_on.new.inner) _ _ _ _ _ at no.2 c.give_one.ensures.gives refl,
+      λ none _. seen_end _ _ (c.give_one.ensures.end none) _ no.2,
+      sym c.failed.ensures ∙ c.if-failed.false,
+      c.in_ok-read_on.ensures.no_failure ∙ c.loop-self.invariant.works,
+    )
 
 pub loop-self-smaller : goal.loop-self-smaller
 loop-self-smaller g c =
