@@ -1,10 +1,9 @@
 -- What excludes each other among the words and options of `rewrite`, each of which it takes by itself.
-use Rattle.std.specs.Prelude.{◌++◌, ◌∷◌, ◌==◌, ◌&&◌, Bool, List, [], None, Option, Some, String, codes, if◌then◌else◌, is_some, nat_lt, not, string_bytes, vec_len}
+use Rattle.std.specs.Prelude.{◌++◌, ◌∷◌, ◌==◌, ◌&&◌, Bool, List, [], None, Option, Some, String, codes, if◌then◌else◌, nat_lt, not, string_bytes, vec_len}
 use Rattle.std.specs.List.{list_any}
 use Rattle.std.specs.Str.{bytes_eq}
 use Rattle.clap.specs.Words.{Text}
 use Rattle.smap_command.specs.Limits.{most_hidden}
-use Rattle.smap_command.specs.Options.{is_json}
 use Rattle.smap_command.specs.declared.options.FurtherOptions.{FurtherOptions}
 
 -- sources are named by paths, and resolved against a URL

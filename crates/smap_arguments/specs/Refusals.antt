@@ -1,5 +1,5 @@
 -- Why the arguments of the command line give no command.
-use Rattle.std.specs.Prelude.{◌≡◌, ◌≢◌, ◌++◌, ◌%◌, ◌⊎◌, ◌∷◌, ℕ, Bool, true, false, codes, length, List, [], Err, None, Option, Some, String, find, is_some, not, ⊤}
+use Rattle.std.specs.Prelude.{◌≡◌, ◌≢◌, ◌++◌, ◌%◌, ◌&&◌, ◌⊎◌, ◌∷◌, ℕ, Bool, true, false, codes, length, List, [], Err, None, Option, Some, String, find, is_some, not, ⊤}
 use Rattle.std.specs.declared.alloc.Global.{Global}
 use Rattle.std.specs.Option.{IsSome}
 use Rattle.std.specs.String.{string_bytes}
@@ -103,10 +103,14 @@ ReportsNoMaps command rows text =
 abbrev pub ReportsMaps : (command : Text) → List Row → Text → Type 0
 ReportsMaps command rows text = ReportsBadPair rows (codes "URL=FILE") text ⊎ ReportsNoMaps command rows text
 
--- it is reported that what `rewrite` is given excludes each other
+-- these are the pairs, and nothing of them is refused
+abbrev pub GivesMaps : List Row → List (String Global × String Global) → Type 0
+GivesMaps rows maps = GivesPairs rows (codes "URL=FILE") maps × HasMaps maps (first_of (codes "LIST") rows)
+
+-- it is reported that what `rewrite` is given excludes each other, where nothing of its maps is refused
 abbrev pub ReportsExcluded : List Row → Text → Type 0
 ReportsExcluded rows text = (maps : List (String Global × String Global)) × (base : Option Parts) × (hide_ignored : Bool)
-    × (options : FurtherOptions) × GivesPairs rows (codes "URL=FILE") maps × GivesBase rows base
+    × (options : FurtherOptions) × GivesMaps rows maps × GivesBase rows base
     × GivesFlag rows (codes "hide-ignored") hide_ignored × GivesFurther rows options
     × (excluded_line maps (is_some base) hide_ignored options ≡ Some text)
 
@@ -123,14 +127,24 @@ ReportsBaseAndPaths rows text = (text ≡ base_and_paths_line)
 abbrev pub context_alone_line : Text
 context_alone_line = codes "usage: --context without --json" ++ 10 ∷ []
 
--- it is reported that `locate` is to do so
+-- no base is given, or sources are not named by paths
+abbrev pub HasBaseOrPaths : List Row → Type 0
+HasBaseOrPaths rows = (base : Option Parts) × (paths : Bool) × GivesBase rows base × GivesFlag rows (codes "paths") paths
+    × ((is_some base && paths) ≡ false)
+
+-- it is reported that `locate` is to do so, where what comes before is not reported
 abbrev pub ReportsContextAlone : List Row → Text → Type 0
-ReportsContextAlone rows text = (text ≡ context_alone_line)
+ReportsContextAlone rows text = (text ≡ context_alone_line) × HasBaseOrPaths rows
     × ((context : Option ℕ) × GivesNumberIfGiven rows (codes "N") context × (is_some context ≡ true)) × GivesFlag rows (codes "json") false
+
+-- what excludes each other of what `locate` is given, where nothing of its maps is refused
+abbrev pub ReportsExcludedOfLocate : List Row → Text → Type 0
+ReportsExcludedOfLocate rows text = (maps : List (String Global × String Global)) × GivesMaps rows maps
+    × (ReportsBaseAndPaths rows text ⊎ ReportsContextAlone rows text)
 
 -- what `locate` refuses after its base: its maps, and then what excludes each other
 abbrev pub ReportsLocate : List Row → Text → Type 0
-ReportsLocate rows text = ReportsMaps (codes "locate") rows text ⊎ ReportsBaseAndPaths rows text ⊎ ReportsContextAlone rows text
+ReportsLocate rows text = ReportsMaps (codes "locate") rows text ⊎ ReportsExcludedOfLocate rows text
 
 -- it is reported that SOURCE or INNER is given beside maps that are given by the names of their sources, of words that are pairs
 abbrev pub ReportsSourceWithInners : List Row → Text → Type 0
@@ -179,15 +193,19 @@ abbrev pub ReportsSortAlone : List Row → Text → Type 0
 ReportsSortAlone rows text =
     (text ≡ sort_alone_line) × GivesOrder rows true × (first_of (codes "GENERATED") rows ≡ None)
 
--- it is reported that the generated file is missing that the map is to fit
+-- it is reported that the generated file is missing that the map is to fit, where no order is given
 abbrev pub ReportsFitAlone : List Row → Text → Type 0
-ReportsFitAlone rows text =
-    (text ≡ fit_alone_line) × GivesFlag rows (codes "fit") true × (first_of (codes "GENERATED") rows ≡ None)
+ReportsFitAlone rows text = (text ≡ fit_alone_line) × GivesOrder rows false × GivesFlag rows (codes "fit") true
+    × (first_of (codes "GENERATED") rows ≡ None)
 
--- what `sources` refuses after its base: what is asked beside a content, then its order, and then that the file is missing
+-- what `sources` refuses after its base, where it is to write no content: its order, and then that the file is missing
+abbrev pub ReportsOfAll : List Row → Text → Type 0
+ReportsOfAll rows text = (one_of (codes "INDEX") rows ≡ None)
+    × (ReportsBadOrder rows text ⊎ ReportsSortAlone rows text ⊎ ReportsFitAlone rows text)
+
+-- the same, or what is asked beside a content
 abbrev pub ReportsSources : List Row → Text → Type 0
-ReportsSources rows text =
-    ReportsContentWithMore rows text ⊎ ReportsBadOrder rows text ⊎ ReportsSortAlone rows text ⊎ ReportsFitAlone rows text
+ReportsSources rows text = ReportsContentWithMore rows text ⊎ ReportsOfAll rows text
 
 -- the last map has no generated file
 abbrev pub no_generated_line : Text

@@ -17,7 +17,7 @@ returns-in-Some-clause-refused c =
       c.args.base,
       hide_ignored,
       options,
-      c.in_ok-maps.ensures.given,
+      (c.in_ok-maps.ensures.given, c.in_ok-maps.ensures.some),
       c.requires.given,
       c.flag_in-hide_ignored.ensures,
       c.in_ok-options.ensures.given,
