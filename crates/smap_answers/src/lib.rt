@@ -1,5 +1,5 @@
-//! What the program answers, apart from its arguments: the files that a command names, what it comes to over their bytes and
-//! standard input, and the lines that say this.
+//! What the program answers, apart from its arguments: the files that a command of smap_command names, what it comes to over
+//! their bytes and standard input, and the lines that say this.
 //!
 //! ```text
 //! let options = LookupOptions { form: Form::Text, explain: false };
@@ -13,10 +13,4 @@ mod limits;
 mod running;
 
 pub use running::{run, run_reading};
-pub use smap_command::{
-    CheckOptions, Command, FitOptions, Form, FurtherOptions, LookupOptions, MOST_BYTES,
-    USUAL_CACHE_BYTES, USUAL_INTERVAL, USUAL_LIMIT_BYTES, WriteOptions,
-};
-pub use smap_replies::{
-    Failure, FileReader, Loaded, Reply, UnreadCause, print_error, refusal_line, report,
-};
+pub use smap_replies::{Failure, FileReader, Loaded, Reply, UnreadCause, print_error, report};

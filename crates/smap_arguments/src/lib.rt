@@ -25,5 +25,4 @@ mod values;
 mod written;
 
 pub use parsing::parse;
-pub use smap_command::Command;
 pub use usage::Usage;

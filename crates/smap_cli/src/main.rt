@@ -12,8 +12,8 @@ ghost use Rattle.smap_answers.specs.Run.{IsRunnable};
 
 use hint::{hint_line, input_line, reads_input};
 use smap_answers::{Failure, Reply, print_error, report, run_reading};
-pub use smap_arguments::{Usage, parse};
-pub use smap_command::Command;
+use smap_arguments::parse;
+use smap_command::Command;
 use smap_io::FromStd;
 use std::io::{self, IsTerminal};
 use std::process::ExitCode;

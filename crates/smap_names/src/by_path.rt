@@ -17,9 +17,7 @@ pub fn is_path(url: &[u8]) -> bool
     is_rooted(path) || is_on_drive(b":/", path) || is_on_drive(b":\\", path)
 }
 
-/// What a source with this name is called, in a map that stands at a URL, where that is a path from a root and UTF-8, and
-/// the name a relative one: the path that goes on from the folder of the URL, from whose root no `..` leads further. Where
-/// `\` stands behind the drive's `:`, the pieces of that path stand between `\`.
+/// What `name_sources_by_path` calls a source of this name, where it names that anew.
 pub fn name_by_path(alloc: Global, url: &[u8], name: &str) -> Result<Option<String>, AllocError>
     ensures { IfOk result (λ made. option_map string_bytes made ≡ name_by_path url.now name.now) }
 {

@@ -3,7 +3,7 @@
 //! path.
 //!
 //! ```text
-//! let name = name_by_path(alloc, b"/srv/app/dist/util/x.js", "../../src/x.ts")?; // /srv/app/src/x.ts
+//! // A source that the map calls ../../src/x.ts is then called /srv/app/src/x.ts.
 //! name_sources_by_path(alloc, &mut map, b"/srv/app/dist/util/x.js")?;
 //! ```
 #![tactic(auto)]
@@ -14,6 +14,6 @@ pub mod laws;
 mod paths;
 mod sources;
 
-pub use by_path::{is_path, name_by_path};
+pub use by_path::is_path;
 pub use inner_names::name_from_outer;
 pub use sources::name_sources_by_path;

@@ -8,8 +8,10 @@ use crate::by_path::name_by_path;
 use smap_record::{MapFile, SourceEntry, SourceName};
 use std::alloc::{AllocError, Global};
 
-/// Names the sources of a map that stands at a URL by that, as [`name_by_path`] says: each whose name is kept as it stands
-/// in the map. All else stays as it was, and where memory runs out nothing is changed.
+/// Names the sources of a map by the URL at which it stands, where that is a path from a root and UTF-8: each whose name is
+/// relative, and kept as it stands in the map, by the path that goes on from the folder of the URL, from whose root no `..`
+/// leads further. Where `\` stands behind the drive's `:`, the pieces of that path stand between `\`. All else stays as it
+/// was, and where memory runs out nothing is changed.
 pub fn name_sources_by_path(
     alloc: Global,
     map_file: &mut MapFile,

@@ -43,6 +43,5 @@ pub use options::{AnswerOptions, Direction, MappingsOptions, SourceOptions};
 pub use places::{AskedPlace, Unanswered, put_bad_place, put_place_line};
 pub use printed_position::PrintedPosition;
 pub use reading::{column_of, read_position};
-pub use smap_lines::LineFault;
 pub use sources::sources_text;
 pub use text_form::{NONE, UNMAPPED};

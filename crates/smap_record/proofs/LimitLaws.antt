@@ -2,7 +2,8 @@
 use Rattle.std.proofs.Common.{◌≡◌, refl}
 use Rattle.smap_index.specs.Parts.{most_parts}
 use Rattle.smap_record.specs.Limits.{most_file_bytes, most_listed}
-use Rattle.smap_record.specs.declared.TheConstants.{MOST_FILE_BYTES, MOST_LISTED, MOST_SECTIONS}
+use Rattle.smap_record.specs.declared.TheConstants.{MOST_FILE_BYTES, MOST_LISTED}
+use Rattle.smap_record.specs.declared.index_map.TheConstants.{MOST_SECTIONS}
 
 pub file_bytes : MOST_FILE_BYTES ≡ most_file_bytes
 file_bytes = refl

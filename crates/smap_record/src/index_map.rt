@@ -9,13 +9,15 @@ ghost use Rattle.smap_record.specs.Json.{list_of, number_below};
 ghost use Rattle.smap_record.specs.Given.{GivesRead};
 ghost use Rattle.smap_record.specs.Private.Seen.{entries_seen, entry_seen, fields_seen};
 
-use crate::MOST_SECTIONS;
 use crate::fields::take;
 use crate::json::{index_below, object};
 use crate::refusal::MapRefusal;
 use serde_json::{Map, Value};
 use smap_mappings::LIMIT;
 use std::alloc::{AllocError, Global};
+
+// How many sections an index map has at most, which is as many as an index has parts.
+const MOST_SECTIONS: usize = 65536;
 
 /// Where a section begins.
 #[derive(Clone, Copy)]

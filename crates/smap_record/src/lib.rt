@@ -44,6 +44,3 @@ pub const MOST_FILE_BYTES: usize = smap_mappings::MOST_BYTES;
 
 /// How many sources a map lists at most, and how many names.
 pub const MOST_LISTED: usize = 33554432;
-
-/// How many sections an index map has at most, which is as many as an index has parts.
-pub const MOST_SECTIONS: usize = 65536;

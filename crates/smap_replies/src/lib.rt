@@ -21,11 +21,11 @@ mod text;
 mod why;
 
 pub use files::{FileReader, Loaded, LoadedFiles, UnreadCause};
-pub use lines::{NO_MEMORY, file_failed_line, list_refused_line};
+pub use lines::{NO_MEMORY, list_refused_line};
 pub use lists::{reason_of, refused_list};
 pub use map::{MapReader, file_bytes, map_at_url, map_of, read_map, read_map_at};
 pub use outcome::{DONE, FAILED, Failure, REFUSED, Reply};
-pub use refusal::{refusal_line, refusal_of, refused_argument, refused_by, refused_file};
+pub use refusal::{refusal_of, refused_argument, refused_by};
 pub use reporting::{print_error, report};
 pub use text::{read_text, text_of};
 pub use why::{read_map_explained, refused_map, unread_file};

@@ -15,4 +15,3 @@ mod source_name;
 pub use refusal::ResolveRefusal;
 pub use resolution::{prefix_bytes, resolve};
 pub use source_name::SourceName;
-pub use url::Url;

@@ -1,7 +1,8 @@
 //! Files that are read: how many of their bytes, and why some can't be.
 use crate::runs::{left, left_by};
 use crate::same::assert_same;
-use smap_answers::{CheckOptions, Command, FileReader};
+use smap_answers::FileReader;
+use smap_command::{CheckOptions, Command};
 use smap_io::ReadFailure;
 use std::alloc::{AllocError, Global};
 use std::test::Fail;

@@ -2,8 +2,9 @@
 ghost use Rattle.std.specs.Prelude.{⊤, IfOk};
 ghost use Rattle.smap_answers.specs.Run.{IsRunnable};
 
-use smap_answers::{Command, FileReader, UnreadCause, run_reading};
+use smap_answers::{FileReader, UnreadCause, run_reading};
 use smap_arguments::{Usage, parse};
+use smap_command::Command;
 use smap_io::{MemorySink, MemorySource, ReadFailure};
 use std::alloc::{AllocError, Global};
 
