@@ -40,12 +40,13 @@ mod text_writer;
 mod vlq;
 mod walk;
 
+pub use base64::digit;
 pub use canonical::{EncodeRefusal, encode};
 pub use cursor::Cursor;
 pub use fault::{Fault, FaultKind};
 pub use faulty::{FaultySegment, faulty_segment};
 pub use kind::Kind;
-pub use limits::{LIMIT, MOST_BYTES, MOST_INDICES};
+pub use limits::{LIMIT, MOST_BYTES, MOST_DIGITS, MOST_INDICES};
 pub use line_walk::LineWalk;
 pub use mapping::{Mapping, Origin};
 pub use measures::{first_bad_digit, large_magnitude, long_number_digits, segment_numbers};
