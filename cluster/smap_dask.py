@@ -34,6 +34,7 @@ except ImportError:
     sys.exit(127)
 
 ROOT = Path(__file__).resolve().parent.parent
+# Where ./smap found the program, as a path from the top.
 FOUND = ROOT / ".smap" / "program"
 
 # What the program says, and its status, where a trace can't be read and where what becomes of it can't be written.
@@ -239,7 +240,7 @@ def program_of(given: str | None) -> str:
     status = subprocess.run([ROOT / "smap", "--version"], stdout=subprocess.DEVNULL).returncode
     if status != 0:
         raise Stop(status, "smap_dask: there is no program")
-    return str(FOUND)
+    return str(ROOT / FOUND.read_text().strip())
 
 
 def try_options(program: str, options: list[str], words: list[str]) -> None:

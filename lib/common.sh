@@ -41,6 +41,12 @@ answer_options() {
     esac
 }
 
+# set_modes PATH..: all may read what lies there, and its owner alone may write: folders and programs have 755, other files 644.
+set_modes() {
+    find "$@" \( -type d -o -type f -perm -u+x \) -exec chmod 755 {} +
+    find "$@" -type f ! -perm -u+x -exec chmod 644 {} +
+}
+
 # lines_of CRATE..: the lines of crates.txt of these crates and of all below them, each once, behind those that it stands on.
 lines_of() {
     awk -v wanted="$*" '

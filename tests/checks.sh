@@ -30,6 +30,15 @@ same() {
     fi
 }
 
+# find_program: leaves in `program` the path of PROGRAM, or else of the program that ./smap runs.
+find_program() {
+    program=${PROGRAM:-}
+    if [ -z "$program" ]; then
+        "$root/smap" --version >/dev/null
+        program=$root/$(<"$root/.smap/program")
+    fi
+}
+
 # worked_rows KIND: the rows of `lookup`, or of `lookup --after`, among those that the gate compares: LINE COLUMN, from 0, in the
 # file `places`, and what is printed first in `wanted`.
 worked_rows() {

@@ -14,12 +14,7 @@ set -euo pipefail
 . "$(dirname -- "$(readlink -f -- "${BASH_SOURCE[0]}")")/../../tests/checks.sh"
 # shellcheck source=bundle.sh
 . "$(dirname -- "$(readlink -f -- "${BASH_SOURCE[0]}")")/bundle.sh"
-if [ -n "${PROGRAM:-}" ]; then
-    program=$PROGRAM
-else
-    "$root/smap" --help >/dev/null
-    program=$root/.smap/program
-fi
+find_program
 bin=$folder/usr/bin
 mkdir -p "$bin" "$folder/usr/share/smap"
 cp -- "$program" "$bin/smap"

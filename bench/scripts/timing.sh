@@ -26,12 +26,7 @@ if [ ! -r "$real" ]; then
 fi
 
 # The program is built where that is needed.
-if [ -n "${PROGRAM:-}" ]; then
-    program=$PROGRAM
-else
-    "$root/smap" --help >/dev/null
-    program=$root/.smap/program
-fi
+find_program
 
 # The line of a look-up in a map, without the excerpt behind it.
 place_in() { "$program" lookup "$1" "$line" "$column" | head -n 1; }

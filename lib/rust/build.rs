@@ -2,6 +2,7 @@
 //! pkg-config, or among the packages of the repository that this crate lies in.
 
 use std::env;
+use std::fs;
 use std::path::{Path, PathBuf};
 use std::process::{exit, Command};
 
@@ -76,7 +77,8 @@ fn pkg_config(words: &[&str]) -> Option<String> {
     output.status.success().then(|| printed.trim().to_string())
 }
 
-/// Those of the package for this processor, which is unpacked.
+/// Those of the package for this processor, which is unpacked. `libsmap.so` is a link there and a copy here: the gate
+/// of the repository, in which cargo puts what it makes, refuses links.
 fn packaged() -> Option<(PathBuf, PathBuf)> {
     if set("CARGO_CFG_TARGET_OS") != "linux" {
         return None;
@@ -92,11 +94,13 @@ fn packaged() -> Option<(PathBuf, PathBuf)> {
         .arg(package)
         .arg("--directory")
         .arg(&to)
-        .arg("--strip-components=1")
+        .args(["--strip-components=1", "--exclude=libsmap.so"])
         .args([format!("{}/include", name), format!("{}/lib", name)])
         .status()
         .ok()?;
-    unpacked
-        .success()
-        .then(|| (to.join("include"), to.join("lib")))
+    let lib = to.join("lib");
+    // One that an earlier build has left would be a link to what is copied.
+    let _ = fs::remove_file(lib.join("libsmap.so"));
+    fs::copy(lib.join("libsmap.so.1"), lib.join("libsmap.so")).ok()?;
+    unpacked.success().then(|| (to.join("include"), lib))
 }

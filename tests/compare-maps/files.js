@@ -9,7 +9,10 @@ const { parseArgs } = require('util');
 const PACKAGES = ['libjs-jquery', 'node-source-map', 'libjs-bootstrap5', 'node-babel7-debug'];
 // The most bytes that a program may print.
 const MOST_BYTES = 1 << 30;
-const FOUND = path.join(__dirname, '..', '..', '.smap', 'program');
+// Where ./smap found the program stands in .smap/program, as a path from the top.
+const TOP = path.join(__dirname, '..', '..');
+const NAMED = path.join(TOP, '.smap', 'program');
+const FOUND = fs.existsSync(NAMED) ? path.join(TOP, fs.readFileSync(NAMED, 'utf8').trim()) : NAMED;
 
 // The map files among these, each once. A link counts as the file that it leads to.
 function mapsAmong(files) {

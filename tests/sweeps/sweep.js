@@ -14,7 +14,7 @@ const { FREE, TAKING } = require('./calls.js');
 
 const ROOT = path.join(__dirname, '..', '..');
 const NAME = 'smap_sweeps';
-const COPY = path.join(ROOT, '.smap', 'sweeps');
+const COPY = fs.mkdtempSync(path.join(os.tmpdir(), 'smap-sweeps-'));
 const CRATE = path.join(COPY, 'crates', NAME);
 const KEPT = path.join(ROOT, '.smap', 'sweeps-out');
 const BELOW =
@@ -25,22 +25,18 @@ const MOST_GROWTHS = 10000;
 // The program, proved and built over the crates of this repository, and what refuses memory to it.
 // ---------------------------------------------------------------------------------------------
 
-// The crates stand in a copy whose files are links, with the program beside them. The gate takes no source file that stands
-// outside its crates, so those of the program have names of their own here, and the copy goes when this script ends. What
-// was proved of the program stays, and so does the program.
+// The crates stand in a copy, with the program beside them. The gate takes no source file that stands outside its crates, so
+// those of the program have names of their own here, and the copy lies in a temporary folder, which goes when this script ends.
+// What was proved of the program stays, and so does the program.
 function built() {
-  fs.rmSync(COPY, { recursive: true, force: true });
-  process.on('exit', leave);
-  process.on('SIGINT', () => process.exit(130));
-  process.on('SIGTERM', () => process.exit(143));
-  fs.mkdirSync(CRATE, { recursive: true });
-  execFileSync('cp', ['-Rl', ...crates(), path.join(COPY, 'crates')]);
+  copyCrates(path.join(COPY, 'crates'));
+  fs.mkdirSync(CRATE);
   for (const name of fs.readdirSync(__dirname, { recursive: true }).filter((name) => name.endsWith('.in'))) {
     const copy = path.join(CRATE, name.replace(/\.in$/, ''));
     fs.mkdirSync(path.dirname(copy), { recursive: true });
     fs.copyFileSync(path.join(__dirname, name), copy);
   }
-  if (fs.existsSync(KEPT)) fs.renameSync(KEPT, path.join(CRATE, 'out'));
+  if (fs.existsSync(KEPT)) move(KEPT, path.join(CRATE, 'out'));
   const own = fs.readFileSync(path.join(ROOT, 'crates.txt'), 'utf8');
   fs.writeFileSync(path.join(COPY, 'crates.txt'), `${own}${NAME}: ${BELOW}\n`);
   console.log(`${NAME}: proving and building; this takes minutes`);
@@ -49,23 +45,38 @@ function built() {
     console.error(`${run.stdout}${run.stderr}`);
     process.exit(2);
   }
-  leave();
+  keep();
   return path.join(KEPT, NAME);
 }
 
-function crates() {
-  const folder = path.join(ROOT, 'crates');
-  return fs.readdirSync(folder).map((name) => path.join(folder, name));
+// By links, or where the copy lies on another file system, the files.
+function copyCrates(to) {
+  const own = path.join(ROOT, 'crates');
+  try {
+    execFileSync('cp', ['-Rl', own, to], { stdio: 'ignore' });
+  } catch {
+    fs.rmSync(to, { recursive: true, force: true });
+    execFileSync('cp', ['-Rp', own, to]);
+  }
+}
+
+// Also to another file system.
+function move(from, to) {
+  execFileSync('mv', ['-T', from, to]);
+}
+
+function keep() {
+  const out = path.join(CRATE, 'out');
+  if (fs.existsSync(out)) move(out, KEPT);
 }
 
 function leave() {
-  const out = path.join(CRATE, 'out');
-  if (fs.existsSync(out)) fs.renameSync(out, KEPT);
+  keep();
   fs.rmSync(COPY, { recursive: true, force: true });
 }
 
-function refuser(folder) {
-  const library = path.join(folder, 'refusing.so');
+function refuser() {
+  const library = path.join(COPY, 'refusing.so');
   execFileSync('cc', ['-O1', '-shared', '-fPIC', '-o', library, path.join(__dirname, 'refusing.c'), '-ldl']);
   return library;
 }
@@ -144,22 +155,24 @@ function options() {
   }
 }
 
-function main() {
+async function main() {
+  process.on('exit', leave);
+  for (const [signal, number] of Object.entries({ SIGHUP: 1, SIGINT: 2, SIGTERM: 15 })) process.on(signal, () => process.exit(128 + number));
   const { values, positionals } = options();
   const isAsked = ({ call }) => positionals.length === 0 || positionals.includes(call);
-  const folder = fs.mkdtempSync(path.join(os.tmpdir(), 'smap-sweeps-'));
-  const tools = { program: values.program ?? built(), library: refuser(folder) };
+  const tools = { program: values.program ?? built(), library: refuser() };
   let [calls, refused, wrong] = [0, 0, 0];
-  const sweep = (entry, how) => {
+  const sweep = async (entry, how) => {
+    // Signals are taken here, and not while a program runs.
+    await new Promise((done) => setImmediate(done));
     const result = how(tools, entry);
     calls += 1;
     refused += result.refused ?? 0;
     if (result.wrong !== undefined) wrong += 1;
     console.log(`${entry.call}: ${result.line ?? `WRONG ${result.wrong}`}`);
   };
-  TAKING.filter(isAsked).forEach((entry) => sweep(entry, swept));
-  FREE.filter(isAsked).forEach((entry) => sweep(entry, freed));
-  fs.rmSync(folder, { recursive: true });
+  for (const entry of TAKING.filter(isAsked)) await sweep(entry, swept);
+  for (const entry of FREE.filter(isAsked)) await sweep(entry, freed);
   console.log(`${calls} calls, ${refused} growths refused, ${wrong} wrong`);
   process.exitCode = wrong === 0 ? 0 : 1;
 }
