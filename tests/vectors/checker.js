@@ -1,5 +1,5 @@
 // The checker: whether a mappings text is accepted, and if not, its first fault. The faults are those of
-// docs/FORMAT.md, each written as it is defined there. It shares nothing with smap.
+// docs/FORMAT.md, each written as docs/CLI.md defines it. It shares nothing with smap.
 'use strict';
 
 const LIMIT = 2147483647n;
