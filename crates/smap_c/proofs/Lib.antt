@@ -4,6 +4,7 @@ pub mod Held
 pub mod Holders
 pub mod LineLaws
 pub mod Refusals
+pub mod RewriteLaws
 pub mod SizeLaws
 pub mod StepLaws
 pub mod TableLaws
