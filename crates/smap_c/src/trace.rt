@@ -8,8 +8,8 @@ ghost use Rattle.smap_tables.specs.UrlTable.{map_under};
 ghost use Rattle.smap_trace.specs.Hiding.{only_ignored};
 ghost use Rattle.smap_trace.specs.MapsOf.{counts_by, rewritten_by};
 ghost use Rattle.smap_trace.specs.Rewriting.{counts_seen as summary_seen};
-ghost use Rattle.smap_c.specs.Trace.{IsRefusedFor, counts_seen, counts_with, has_map_of_all, is_for_all, line_ends};
-ghost use Rattle.smap_c.specs.Trace.{most_output_bytes, place_counts_by, placed_by, rewrite_refused, text_read, text_with};
+ghost use Rattle.smap_c.specs.Trace.{IsRefusedFor, counts_seen, counts_with, frames_alone, has_map_of_all, is_for_all, line_ends};
+ghost use Rattle.smap_c.specs.Trace.{most_output_bytes, place_counts_by, placed_by, places_alone, rewrite_refused, text_read, text_with};
 
 use crate::devices::Output;
 use crate::handles::{BytesHandle, TableHandle};
@@ -207,12 +207,13 @@ pub extern "C" fn smap_rewrite_within(
     ensures unreported { result ≢ 1 → refusal.new ≡ refusal.old }
     ensures status { (result ≡ 0) ⊎ (result ≡ 1) ⊎ (result ≡ 3) }
 {
-    if is_for_all(options, table.lend()) {
+    let maps = table.lend();
+    if is_for_all(options, maps) {
         *refusal = refused(0, 0);
         return REFUSED;
     }
     let mut output = Output::new(alloc, most);
-    let outcome = rewrite_text(alloc, table.lend(), text, options, &mut output);
+    let outcome = rewrite_text(alloc, maps, text, options, &mut output);
     let written = output.bytes;
     if written.len() as u64 > most {
         *refusal = refused(Code::X5.number(), line_ends(&written[..most as usize]));

@@ -1,4 +1,5 @@
 use Rattle.std.proofs.Common.{Some, ap, refl, rules}
+use Rattle.std.proofs.lemmas.Result.{err_from_is_err_and}
 use Rattle.smap_c.specs.Private.Rewriting.{HasFront, IsRewritten}
 use Rattle.smap_c.proofs.TableLaws.{frames_are, frames_front, if_read, refused_read, rewrites_table}
 use Rattle.smap_c.proofs.rewriting.rewrite_frames.Goals as goal
@@ -24,5 +25,6 @@ returns-in_err-counts-clause-front g c =
     let options = c.args.options.now in
     let written = c.rewrite_over.new.output.bytes.items in
     let front = rw c.only_ignored.ensures at c.in_err-counts.ensures.front in
-    if_read _ (λ read. HasFront options c.args.table.now read written) (λ read at_first.
-    frames_front options c.args.table.now read written _ _ at_first (ap Some c.requires.empty.0) refl _ _ c.requires.frames front)
+    let p = err_from_is_err_and c.from_residual.result c.from_residual.ensures.1 in
+    rw p.1 (if_read _ (λ read. HasFront options c.args.table.now read written) (λ read at_first.
+    frames_front options c.args.table.now read written _ _ at_first (ap Some c.requires.empty.0) refl _ _ c.requires.frames front))
