@@ -34,7 +34,7 @@ use Rattle.smap_command.specs.Lines.{line_from}
 use Rattle.smap_replies.specs.Lines.{memory_line}
 use Rattle.smap_text_answers.specs.Loader.{LoaderSeen, Loads, MayLoad}
 use Rattle.smap_replies.specs.Outcome.{Report, answer, fault_report}
-use Rattle.smap_text_answers.specs.SameBytes.{BytesByPath, ReadsSame, maps_at}
+use Rattle.smap_text_answers.specs.SameBytes.{AreSettled, BytesByPath, ReadsSame, maps_at}
 use Rattle.smap_text_answers.specs.Sources.{GathersSources}
 use Rattle.smap_replies.specs.Streams.{Ends, IsReportedTo, Sinks, Streams}
 use Rattle.smap_replies.specs.Arguments.{argument_of}
@@ -85,7 +85,7 @@ store_start sources cache_bytes errors code = record {
   words = sources.words;
   locations = sources.locations;
   cache = record { kept = []; most = cache_bytes; read = 0; missing = 0; shortages = 0 };
-  loader = record { errors = errors; status = 0; code = code; reported = 0; refused = 0 };
+  loader = record { errors = errors; status = 0; code = code; reported = 0; refused = 0; lost = false };
 }
 
 -- which place begins a text over them
@@ -169,17 +169,20 @@ IsNotedOver Reads base k request sources end notes others before after =
     (store_start sources request.cache_bytes before.sinks.errors before.sinks.code) last counts notes others)
 
 -- a text becomes what the maps make of it that a function gives: its places, which begin so, or the frames of a trace
+  pub lost : end.lost ≡ last.loader.lost
 abbrev pub RewritesTextBy : (anywhere : Bool) → (maps : MapsByUrl) → (begins : List ℕ → List ℕ → Option PlaceUrl) → (hide : HidingSeen) → (most : ℕ)
     → (before after : DevicesSeen) → RewriteCounts → Type 0
 RewritesTextBy anywhere maps begins hide most before after counts =
     MatchBool anywhere (RewritesPlacesBy maps begins most before after counts.summary) (RewritesBy maps hide most before after counts)
 
--- where each path gives the same bytes whenever it is read, every map that was named was read, and memory did not run out, a text
--- becomes what these maps make of it, however few are kept
+-- where each path gives the same bytes whenever it is read, and nothing was reported of a map, or what fails always fails and no map
+-- was lost, a text becomes what the maps make of it that the files have, however few are kept; the URL of a file that can't be read
+-- or whose map is refused has none
 abbrev pub AnswersByPath : MayRead → Option Parts → (k : ℕ) → RequestSeen → MapSources → StoreEnd → (before after : Streams) → Type 0
 AnswersByPath Reads base k request sources end before after =
     (bytes_at : BytesByPath) → ReadsSame Reads (length request.arguments + 1) bytes_at
-    → (counts : RewriteCounts) → end.result ≡ Ok counts → end.status ≡ 0 → end.shortages ≡ 0
+    → (counts : RewriteCounts) → end.result ≡ Ok counts
+    → AreSettled Reads (length request.arguments + 1) bytes_at end.status end.lost → end.shortages ≡ 0
     → RewritesTextBy request.anywhere (stored_maps (maps_at request.paths base k bytes_at) sources.words sources.locations) (places_of sources) request.hide request.limit_bytes
     (devices_seen before.input before.sinks.output) (devices_seen after.input after.sinks.output) counts
 

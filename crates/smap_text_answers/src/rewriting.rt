@@ -116,6 +116,8 @@ pub struct StoreEnd {
     pub missing: u64,
     // How many maps were refused.
     pub refused: u64,
+    // Whether a map was lost of which its file does not say so.
+    pub lost: bool,
     // How often there was not enough memory to keep what was found for a URL.
     pub shortages: u64,
 }
@@ -168,6 +170,7 @@ fn over_store<F: FileReader, R: ByteSource, W: ByteSink, E: ByteSink>(
         maps: request.maps,
         paths: request.paths,
         number: request.arguments.len() + 1,
+        lost: false,
         errors,
         status: DONE,
         code: *first,
@@ -194,9 +197,10 @@ fn over_store<F: FileReader, R: ByteSource, W: ByteSink, E: ByteSink>(
         input,
         output,
     );
-    let (status, refused) = (loader.status, loader.refused);
+    let (status, refused, lost) = (loader.status, loader.refused, loader.lost);
     *first = loader.code;
     StoreEnd {
+        lost,
         result,
         status,
         maps: cache.read().saturating_add(sources.words.count() as u64),

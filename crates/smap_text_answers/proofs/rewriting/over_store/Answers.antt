@@ -1,4 +1,4 @@
-use Rattle.std.proofs.Common.{◌≡◌, ◌+◌, length, map, ap, refl, rules, subst, sym, option_copied}
+use Rattle.std.proofs.Common.{◌≡◌, ◌+◌, false, length, map, ap, refl, rules, subst, sym, option_copied}
 use Rattle.std.proofs.lemmas.List.{length-map}
 use Rattle.std.proofs.lemmas.Result.{IfOk-weaker}
 use Rattle.smap_lines.specs.Editing.{devices_seen}
@@ -27,7 +27,7 @@ returns-clause-over g c =
       words = c.args.sources.now.words;
       locations = c.args.sources.now.locations;
       cache = cache;
-      loader = record { errors = seen c.args.errors.now; status = 0; code = c.args.first.now; reported = 0; refused = 0 };
+      loader = record { errors = seen c.args.errors.now; status = 0; code = c.args.first.now; reported = 0; refused = 0; lost = false };
     } in
     let last : StoredSeen LoaderSeen = store_of c.args.sources.now c.rewrite_text-result.new.cache (loader_seen seen c.rewrite_text-result.new.loader) in
     let rewritten = subst (λ m. IsStoredRewritten (gives request.maps.now.files.now) request.paths (option_copied request.maps.now.base) request.maps.now.interval
@@ -55,6 +55,7 @@ returns-clause-over g c =
       maps = rw (c.read.ensures, c.count.ensures) at c.saturating_add.ensures;
       missing = rw (c.missing.ensures) at c.saturating_sub.ensures;
       refused = refl;
+      lost = refl;
       shortages = c.shortages.ensures;
     }
 
@@ -70,7 +71,7 @@ returns-clause-noted g c on =
       words = c.args.sources.now.words;
       locations = c.args.sources.now.locations;
       cache = cache;
-      loader = record { errors = seen c.args.errors.now; status = 0; code = c.args.first.now; reported = 0; refused = 0 };
+      loader = record { errors = seen c.args.errors.now; status = 0; code = c.args.first.now; reported = 0; refused = 0; lost = false };
     } in
     let last : StoredSeen LoaderSeen = store_of c.args.sources.now made.new.cache (loader_seen seen made.new.loader) in
     IfOk-weaker made.result _ _ (λ counts is. (
