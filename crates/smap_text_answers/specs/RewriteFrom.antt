@@ -141,13 +141,26 @@ IsStoredRewritten Reads paths base k number sources anywhere most_passed hide mo
 abbrev pub both_counted : ℕ → ℕ → ℕ
 both_counted one other = min (one + other) (2 ^ 64 - 1)
 
--- what rewriting over a store came to
-pub record IsOverStore (Reads : MayRead) (base : Option Parts) (k : ℕ) (request : RequestSeen) (sources : MapSources) (end : StoreEnd) (before after : Streams) : Type 0 where
+-- what frames or places name was noted, where that is asked and they were rewritten to the end of a text, while a store of maps came
+-- to stand so
+abbrev pub IsNotedOver : MayRead → Option Parts → (k : ℕ) → RequestSeen → (sources : MapSources) → (last : StoredSeen LoaderSeen) → Result RewriteCounts LineFault
+    → (notes others : NotesSeen) → (before after : Streams) → Type 0
+IsNotedOver Reads base k request sources last result notes others before after =
+    request.explain ≡ true → IfOk result (λ counts.
+    RewritesTextNoted request.anywhere (FindsIn (Loads Reads request.paths base k (length request.arguments + 1))) (places_of sources)
+    (known_of sources) request.hide request.limit_bytes
+    (devices_seen before.input before.sinks.output) (devices_seen after.input after.sinks.output)
+    (store_start sources request.cache_bytes before.sinks.errors before.sinks.code) last counts notes others)
+
+-- what rewriting over a store came to, and what was noted then
+pub record IsOverStore (Reads : MayRead) (base : Option Parts) (k : ℕ) (request : RequestSeen) (sources : MapSources) (end : StoreEnd) (notes others : NotesSeen)
+    (before after : Streams) : Type 0 where
   pub last : StoredSeen LoaderSeen
   pub rewritten : IsStoredRewritten Reads request.paths base k (length request.arguments + 1) sources request.anywhere
       (most_passed request.summary request.hint) request.hide request.limit_bytes
       (store_start sources request.cache_bytes before.sinks.errors before.sinks.code) last
       (devices_seen before.input before.sinks.output) (devices_seen after.input after.sinks.output) end.result
+  pub noted : IsNotedOver Reads base k request sources last end.result notes others before after
   pub errors : after.sinks.errors ≡ last.loader.errors
   pub code : after.sinks.code ≡ last.loader.code
   pub input_failed : after.input.failed ≡ is_read_fault end.result
@@ -156,20 +169,10 @@ pub record IsOverStore (Reads : MayRead) (base : Option Parts) (k : ℕ) (reques
   pub maps : end.maps ≡ both_counted last.cache.read (length sources.words)
   pub missing : end.missing ≡ last.cache.missing - last.loader.refused
   pub refused : end.refused ≡ last.loader.refused
+  pub lost : end.lost ≡ last.loader.lost
   pub shortages : end.shortages ≡ last.cache.shortages
 
--- what frames or places name was noted, where that is asked and they were rewritten to the end of a text
-abbrev pub IsNotedOver : MayRead → Option Parts → (k : ℕ) → RequestSeen → (sources : MapSources) → StoreEnd → (notes others : NotesSeen) → (before after : Streams)
-    → Type 0
-IsNotedOver Reads base k request sources end notes others before after =
-    request.explain ≡ true → IfOk end.result (λ counts. (last : StoredSeen LoaderSeen)
-    × RewritesTextNoted request.anywhere (FindsIn (Loads Reads request.paths base k (length request.arguments + 1))) (places_of sources)
-    (known_of sources) request.hide request.limit_bytes
-    (devices_seen before.input before.sinks.output) (devices_seen after.input after.sinks.output)
-    (store_start sources request.cache_bytes before.sinks.errors before.sinks.code) last counts notes others)
-
 -- a text becomes what the maps make of it that a function gives: its places, which begin so, or the frames of a trace
-  pub lost : end.lost ≡ last.loader.lost
 abbrev pub RewritesTextBy : (anywhere : Bool) → (maps : MapsByUrl) → (begins : List ℕ → List ℕ → Option PlaceUrl) → (hide : HidingSeen) → (most : ℕ)
     → (before after : DevicesSeen) → RewriteCounts → Type 0
 RewritesTextBy anywhere maps begins hide most before after counts =
@@ -279,7 +282,7 @@ abbrev pub RewritesSources : MayRead → Option Parts → (k : ℕ) → RequestS
 RewritesSources Reads base k request (Err refused) status before after = (after.input ≡ before.input) × Ends refused status before.sinks after.sinks
 RewritesSources Reads base k request (Ok sources) status before after =
     (end : StoreEnd) × (notes : NotesSeen) × (others : NotesSeen) × (between : Streams) × (told : Sinks) × (named : SinkSeen) × (ended : ℕ) × (said : ℕ)
-    × IsOverStore Reads base k request sources end before between × IsNotedOver Reads base k request sources end notes others before between
+    × IsOverStore Reads base k request sources end notes others before between
     × AnswersByPath Reads base k request sources end before between × (after.input ≡ between.input) × EndsFrom end request.summary request.anywhere ended between.sinks told
     × (after.sinks.output ≡ told.output) × (after.sinks.code ≡ told.code) × SaysUrls Reads base k request sources end notes others said told.errors named
     × Hints request end notes status named after.sinks.errors × (status ≡ max ended said)

@@ -23,6 +23,7 @@ use Rattle.smap_trace.specs.MapsOf.{RewritesBy}
 use Rattle.smap_trace.specs.Laws.MapsOf.{rewrites_by}
 use Rattle.smap_trace.specs.Laws.Passed.{passing_over}
 use Rattle.smap_trace.specs.Rewriting.{RewritesOver}
+use Rattle.smap_trace.specs.UrlNotes.{NotesSeen}
 use Rattle.smap_trace.specs.declared.outcome.RewriteCounts.{RewriteCounts}
 use Rattle.smap_trace.specs.declared.outcome.Summary.{Summary}
 use Rattle.smap_replies.specs.Files.{MayRead}
@@ -128,9 +129,9 @@ module _ (Reads : MayRead) (paths : Bool) (base : Option Parts) (k number : ℕ)
       empty (settled, enough)
 
 -- and so it is of a run
-pub same_run : (Reads : MayRead) (base : Option Parts) (k : ℕ) (request : RequestSeen) (sources : MapSources) (end : StoreEnd) (before after : Streams)
-    → IsOverStore Reads base k request sources end before after → AnswersByPath Reads base k request sources end before after
-same_run Reads base k request sources end before after over bytes_at same counts result settled enough =
+pub same_run : (Reads : MayRead) (base : Option Parts) (k : ℕ) (request : RequestSeen) (sources : MapSources) (end : StoreEnd) (notes others : NotesSeen)
+    (before after : Streams) → IsOverStore Reads base k request sources end notes others before after → AnswersByPath Reads base k request sources end before after
+same_run Reads base k request sources end notes others before after over bytes_at same counts result settled enough =
     let P : Result RewriteCounts LineFault → Type 0 = λ result.
     IsStoredRewritten Reads request.paths base k (length request.arguments + 1) sources request.anywhere
     (most_passed request.summary request.hint) request.hide request.limit_bytes
