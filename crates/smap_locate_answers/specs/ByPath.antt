@@ -3,7 +3,6 @@
 use Rattle.std.specs.Prelude.{◌≡◌, ◌⊎◌, ℕ, Bool, List, Option, Some, None, Result, Ok, Err}
 use Rattle.url.specs.Parts.{Parts}
 use Rattle.smap_io.specs.Device.{Gives, Takes}
-use Rattle.smap_io.specs.declared.transfer.ReadFailure.TheVariants.{Device}
 use Rattle.smap_lines.specs.Edited.{IsEdited}
 use Rattle.smap_lines.specs.Editing.{DevicesSeen}
 use Rattle.smap_lines.specs.Lines.{Line}
@@ -15,21 +14,11 @@ use Rattle.smap_positions.specs.declared.options.AnswerOptions.{AnswerOptions}
 use Rattle.smap_record.specs.Record.{MapRecord}
 use Rattle.smap_record.specs.declared.refusal.MapRefusal.{MapRefusal}
 use Rattle.smap_record.specs.declared.refusal.MapRefusal.TheVariants.{Url}
-use Rattle.smap_replies.specs.Files.{MayRead}
 use Rattle.smap_store.specs.Fileless.{known_of}
 use Rattle.smap_store.specs.Loaded.{Outcome}
 use Rattle.smap_store.specs.declared.loader.NoMap.TheVariants.{Unnamed, Unread, Refused, Memory}
 use Rattle.smap_text_answers.specs.Loader.{record_loaded}
-use Rattle.smap_text_answers.specs.SameBytes.{BytesByPath, ReadsSame}
-
--- ---- the files
-
--- reading a path under this number always gives these bytes, or always fails
-pub record ReadsAlike (Reads : MayRead) (number : ℕ) (bytes_at : BytesByPath) : Type 0 where
-  pub same : ReadsSame Reads number bytes_at
-  pub fails : (path : List ℕ) → Reads number path (Err Device) → bytes_at path ≡ None
-
--- ---- the maps
+use Rattle.smap_text_answers.specs.SameBytes.{BytesByPath}
 
 -- what the bytes of a file are found to be, by what they state; resolving a source may give a URL that is too long
 abbrev pub IsFoundIn : Result MapRecord MapRefusal → Outcome → Type 0

@@ -7,7 +7,7 @@ use Rattle.smap_lines.specs.Limits.{most_text_bytes}
 use Rattle.smap_lines.specs.declared.counts.LineCounts.{LineCounts}
 use Rattle.smap_lines.specs.declared.fault.LineFault.{LineFault}
 use Rattle.smap_lines.specs.declared.fault.LineFault.TheVariants as fault
-use Rattle.smap_locate_answers.specs.ByPath.{AnswersAll, AnswersLine, ReadsAlike}
+use Rattle.smap_locate_answers.specs.ByPath.{AnswersAll, AnswersLine}
 use Rattle.smap_locate_answers.specs.Locating.{BecomesAnswer, LocateStep}
 use Rattle.smap_locate_answers.specs.declared.locating.LocateRequest.{LocateRequest}
 use Rattle.smap_locate_answers.specs.declared.locating.StoreEnd.{StoreEnd}
@@ -19,7 +19,7 @@ use Rattle.smap_replies.specs.Streams.{Ends, Sinks, Streams}
 use Rattle.smap_store.specs.Stored.{FindsIn, GivesIn, StoredSeen}
 use Rattle.smap_text_answers.specs.Loader.{LoaderSeen, Loads, MayLoad}
 use Rattle.smap_text_answers.specs.RewriteFrom.{ReportsShortage, store_start}
-use Rattle.smap_text_answers.specs.SameBytes.{BytesByPath}
+use Rattle.smap_text_answers.specs.SameBytes.{BytesByPath, ReadsAlike}
 use Rattle.smap_text_answers.specs.Sources.{GathersSources}
 use Rattle.smap_text_answers.specs.declared.sources.MapSources.{MapSources}
 use Rattle.smap_trace.specs.Rewriting.{Looked}

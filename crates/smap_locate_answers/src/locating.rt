@@ -141,6 +141,7 @@ fn over_store<F: FileReader, R: ByteSource, W: ByteSink, E: ByteSink>(
         code: *first,
         reported: 0,
         refused: 0,
+        lost: false,
     };
     let result = locate_text(
         alloc,

@@ -1,6 +1,7 @@
 mod BesideLaws
 mod ByPathLaws
 mod BytesLaws
+mod CauseLaws
 mod Examples
 mod LoaderLaws
 mod NearestLaws

@@ -1,5 +1,5 @@
 -- The maps that are read when a text names them: each from its file, and what is said of one that can't be had.
-use Rattle.std.specs.Prelude.{◌≡◌, ◌⊎◌, ℕ, ◌+◌, ◌-◌, ◌^◌, ◌==◌, Bool, List, Option, Some, None, Result, Ok, Err, MatchBool, cond, if◌then◌else◌, length, max, min, nat_lt}
+use Rattle.std.specs.Prelude.{◌≡◌, ◌⊎◌, ℕ, ◌+◌, ◌-◌, ◌^◌, ◌==◌, ◌||◌, Bool, false, true, List, Option, Some, None, Result, Ok, Err, MatchBool, cond, if◌then◌else◌, length, max, min, nat_lt}
 use Rattle.url.specs.Parts.{Parts}
 use Rattle.std.specs.Option.{option_or}
 use Rattle.std.specs.Str.{is_utf8}
@@ -8,6 +8,7 @@ use Rattle.smap_io.specs.Device.{SinkSeen}
 use Rattle.smap_locations.specs.Paths.{without_query}
 use Rattle.smap_record.specs.Record.{MapRecord}
 use Rattle.smap_record.specs.declared.refusal.MapRefusal.{MapRefusal}
+use Rattle.smap_record.specs.declared.refusal.MapRefusal.TheVariants.{Url}
 use Rattle.smap_replies.specs.Files.{IsUnread, MayRead, OfFile}
 use Rattle.smap_replies.specs.Base.{base_of}
 use Rattle.smap_replies.specs.Map.{Never, ReportsFound, refusal_result}
@@ -34,13 +35,14 @@ record_loaded paths base k url bytes = record_at paths base (base_at base url) k
 -- ---- what reads maps
 
 -- what it shows: standard error, the greatest status of what was reported, the code of the first refusal, how many maps could not
--- be had, and how many of these were refused
+-- be had, how many of these were refused, and whether one was lost
 pub record LoaderSeen : Type 0 where
   pub errors : SinkSeen
   pub status : ℕ
   pub code : Option Code
   pub reported : ℕ
   pub refused : ℕ
+  pub lost : Bool
 
 abbrev pub loader_seen : {F E : Type 0} → (seen : E → SinkSeen) → FileLoader F E → LoaderSeen
 loader_seen seen loader = record {
@@ -49,6 +51,7 @@ loader_seen seen loader = record {
   code = loader.code;
   reported = loader.reported;
   refused = loader.refused;
+  lost = loader.lost;
 }
 
 -- it reads the same files in the same way, and into the same standard error
@@ -98,15 +101,28 @@ named_report path report named = (named ≡ report) ⊎ ((report ≡ out_of_memo
 abbrev pub one_more : ℕ → ℕ
 one_more count = min (count + 1) (2 ^ 64 - 1)
 
+-- resolving a source gave a URL that is too long
+abbrev pub is_of_url : MapRefusal → Bool
+is_of_url Url = true
+is_of_url _ = false
+
+-- a map is lost of which its file does not say so: memory ran out, or resolving a source gave a URL that is too long
+abbrev pub is_lost : NoMap → Bool
+is_lost Unnamed = false
+is_lost Unread = false
+is_lost (Refused refusal) = is_of_url refusal
+is_lost Memory = true
+
 -- why a map can't be had is reported, of the first 100, and counted
-pub record Notes (old : LoaderSeen) (report : Report) (new : LoaderSeen) : Type 0 where
+pub record Notes (old : LoaderSeen) (why : NoMap) (report : Report) (new : LoaderSeen) : Type 0 where
   pub status : new.status ≡ max old.status report.status
   pub code : new.code ≡ cond (nat_lt old.reported 100) (option_or old.code report.code) old.code
   pub reported : new.reported ≡ one_more old.reported
   pub refused : new.refused ≡ cond (report.status == 1) (one_more old.refused) old.refused
+  pub lost : new.lost ≡ (old.lost || is_lost why)
   pub errors : MatchBool (nat_lt old.reported 100) (IsReportedTo old.errors new.errors report.text) (new.errors ≡ old.errors)
 
 -- what came for a URL from the file at a path, with the number of its bytes, or why nothing did, and how the loader shows then
 abbrev pub Loads : MayRead → (paths : Bool) → Option Parts → (k number : ℕ) → (old : LoaderSeen) (url path : List ℕ) → Came → (new : LoaderSeen) → Type 0
-Loads Reads paths base k number old url path (Err why) new = (report : Report) × FailsWith Reads paths base k number why url path report × Notes old report new
+Loads Reads paths base k number old url path (Err why) new = (report : Report) × FailsWith Reads paths base k number why url path report × Notes old why report new
 Loads Reads paths base k number old url path (Ok (stated, file_bytes)) new = IsLoaded Reads paths base k number url path stated file_bytes × (new ≡ old)

@@ -1,4 +1,5 @@
 -- What contracts of private functions alone cite.
+pub mod Causes
 pub mod Gathering
 pub mod Sources
 pub mod Unloaded

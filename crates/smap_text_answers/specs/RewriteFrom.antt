@@ -34,7 +34,7 @@ use Rattle.smap_command.specs.Lines.{line_from}
 use Rattle.smap_replies.specs.Lines.{memory_line}
 use Rattle.smap_text_answers.specs.Loader.{LoaderSeen, Loads, MayLoad}
 use Rattle.smap_replies.specs.Outcome.{Report, answer, fault_report}
-use Rattle.smap_text_answers.specs.SameBytes.{BytesByPath, ReadsSame, maps_at}
+use Rattle.smap_text_answers.specs.SameBytes.{AreSettled, BytesByPath, ReadsSame, maps_at}
 use Rattle.smap_text_answers.specs.Sources.{GathersSources}
 use Rattle.smap_replies.specs.Streams.{Ends, IsReportedTo, Sinks, Streams}
 use Rattle.smap_replies.specs.Arguments.{argument_of}
@@ -85,7 +85,7 @@ store_start sources cache_bytes errors code = record {
   words = sources.words;
   locations = sources.locations;
   cache = record { kept = []; most = cache_bytes; read = 0; missing = 0; shortages = 0 };
-  loader = record { errors = errors; status = 0; code = code; reported = 0; refused = 0 };
+  loader = record { errors = errors; status = 0; code = code; reported = 0; refused = 0; lost = false };
 }
 
 -- which place begins a text over them
@@ -141,13 +141,26 @@ IsStoredRewritten Reads paths base k number sources anywhere most_passed hide mo
 abbrev pub both_counted : ℕ → ℕ → ℕ
 both_counted one other = min (one + other) (2 ^ 64 - 1)
 
--- what rewriting over a store came to
-pub record IsOverStore (Reads : MayRead) (base : Option Parts) (k : ℕ) (request : RequestSeen) (sources : MapSources) (end : StoreEnd) (before after : Streams) : Type 0 where
+-- what frames or places name was noted, where that is asked and they were rewritten to the end of a text, while a store of maps came
+-- to stand so
+abbrev pub IsNotedOver : MayRead → Option Parts → (k : ℕ) → RequestSeen → (sources : MapSources) → (last : StoredSeen LoaderSeen) → Result RewriteCounts LineFault
+    → (notes others : NotesSeen) → (before after : Streams) → Type 0
+IsNotedOver Reads base k request sources last result notes others before after =
+    request.explain ≡ true → IfOk result (λ counts.
+    RewritesTextNoted request.anywhere (FindsIn (Loads Reads request.paths base k (length request.arguments + 1))) (places_of sources)
+    (known_of sources) request.hide request.limit_bytes
+    (devices_seen before.input before.sinks.output) (devices_seen after.input after.sinks.output)
+    (store_start sources request.cache_bytes before.sinks.errors before.sinks.code) last counts notes others)
+
+-- what rewriting over a store came to, and what was noted then
+pub record IsOverStore (Reads : MayRead) (base : Option Parts) (k : ℕ) (request : RequestSeen) (sources : MapSources) (end : StoreEnd) (notes others : NotesSeen)
+    (before after : Streams) : Type 0 where
   pub last : StoredSeen LoaderSeen
   pub rewritten : IsStoredRewritten Reads request.paths base k (length request.arguments + 1) sources request.anywhere
       (most_passed request.summary request.hint) request.hide request.limit_bytes
       (store_start sources request.cache_bytes before.sinks.errors before.sinks.code) last
       (devices_seen before.input before.sinks.output) (devices_seen after.input after.sinks.output) end.result
+  pub noted : IsNotedOver Reads base k request sources last end.result notes others before after
   pub errors : after.sinks.errors ≡ last.loader.errors
   pub code : after.sinks.code ≡ last.loader.code
   pub input_failed : after.input.failed ≡ is_read_fault end.result
@@ -156,17 +169,8 @@ pub record IsOverStore (Reads : MayRead) (base : Option Parts) (k : ℕ) (reques
   pub maps : end.maps ≡ both_counted last.cache.read (length sources.words)
   pub missing : end.missing ≡ last.cache.missing - last.loader.refused
   pub refused : end.refused ≡ last.loader.refused
+  pub lost : end.lost ≡ last.loader.lost
   pub shortages : end.shortages ≡ last.cache.shortages
-
--- what frames or places name was noted, where that is asked and they were rewritten to the end of a text
-abbrev pub IsNotedOver : MayRead → Option Parts → (k : ℕ) → RequestSeen → (sources : MapSources) → StoreEnd → (notes others : NotesSeen) → (before after : Streams)
-    → Type 0
-IsNotedOver Reads base k request sources end notes others before after =
-    request.explain ≡ true → IfOk end.result (λ counts. (last : StoredSeen LoaderSeen)
-    × RewritesTextNoted request.anywhere (FindsIn (Loads Reads request.paths base k (length request.arguments + 1))) (places_of sources)
-    (known_of sources) request.hide request.limit_bytes
-    (devices_seen before.input before.sinks.output) (devices_seen after.input after.sinks.output)
-    (store_start sources request.cache_bytes before.sinks.errors before.sinks.code) last counts notes others)
 
 -- a text becomes what the maps make of it that a function gives: its places, which begin so, or the frames of a trace
 abbrev pub RewritesTextBy : (anywhere : Bool) → (maps : MapsByUrl) → (begins : List ℕ → List ℕ → Option PlaceUrl) → (hide : HidingSeen) → (most : ℕ)
@@ -174,12 +178,14 @@ abbrev pub RewritesTextBy : (anywhere : Bool) → (maps : MapsByUrl) → (begins
 RewritesTextBy anywhere maps begins hide most before after counts =
     MatchBool anywhere (RewritesPlacesBy maps begins most before after counts.summary) (RewritesBy maps hide most before after counts)
 
--- where each path gives the same bytes whenever it is read, every map that was named was read, and memory did not run out, a text
--- becomes what these maps make of it, however few are kept
+-- where each path gives the same bytes whenever it is read, and nothing was reported of a map, or what fails always fails and no map
+-- was lost, a text becomes what the maps make of it that the files have, however few are kept; the URL of a file that can't be read
+-- or whose map is refused has none
 abbrev pub AnswersByPath : MayRead → Option Parts → (k : ℕ) → RequestSeen → MapSources → StoreEnd → (before after : Streams) → Type 0
 AnswersByPath Reads base k request sources end before after =
     (bytes_at : BytesByPath) → ReadsSame Reads (length request.arguments + 1) bytes_at
-    → (counts : RewriteCounts) → end.result ≡ Ok counts → end.status ≡ 0 → end.shortages ≡ 0
+    → (counts : RewriteCounts) → end.result ≡ Ok counts
+    → AreSettled Reads (length request.arguments + 1) bytes_at end.status end.lost → end.shortages ≡ 0
     → RewritesTextBy request.anywhere (stored_maps (maps_at request.paths base k bytes_at) sources.words sources.locations) (places_of sources) request.hide request.limit_bytes
     (devices_seen before.input before.sinks.output) (devices_seen after.input after.sinks.output) counts
 
@@ -276,7 +282,7 @@ abbrev pub RewritesSources : MayRead → Option Parts → (k : ℕ) → RequestS
 RewritesSources Reads base k request (Err refused) status before after = (after.input ≡ before.input) × Ends refused status before.sinks after.sinks
 RewritesSources Reads base k request (Ok sources) status before after =
     (end : StoreEnd) × (notes : NotesSeen) × (others : NotesSeen) × (between : Streams) × (told : Sinks) × (named : SinkSeen) × (ended : ℕ) × (said : ℕ)
-    × IsOverStore Reads base k request sources end before between × IsNotedOver Reads base k request sources end notes others before between
+    × IsOverStore Reads base k request sources end notes others before between
     × AnswersByPath Reads base k request sources end before between × (after.input ≡ between.input) × EndsFrom end request.summary request.anywhere ended between.sinks told
     × (after.sinks.output ≡ told.output) × (after.sinks.code ≡ told.code) × SaysUrls Reads base k request sources end notes others said told.errors named
     × Hints request end notes status named after.sinks.errors × (status ≡ max ended said)

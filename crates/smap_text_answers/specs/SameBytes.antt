@@ -1,11 +1,12 @@
 -- What the maps of a text are, where each path gives the same bytes whenever it is read.
-use Rattle.std.specs.Prelude.{◌≡◌, ℕ, Bool, List, Option, Some, None, Result, Ok, Err}
+use Rattle.std.specs.Prelude.{◌≡◌, ◌⊎◌, ℕ, Bool, false, List, Option, Some, None, Result, Ok, Err}
 use Rattle.url.specs.Parts.{Parts}
+use Rattle.smap_io.specs.declared.transfer.ReadFailure.TheVariants.{Device}
 use Rattle.smap_record.specs.Record.{MapRecord}
 use Rattle.smap_record.specs.declared.refusal.MapRefusal.{MapRefusal}
 use Rattle.smap_store.specs.ByPath.{MapsByPath}
 use Rattle.smap_replies.specs.Files.{MayRead}
-use Rattle.smap_text_answers.specs.Loader.{LoaderSeen, record_loaded}
+use Rattle.smap_text_answers.specs.Loader.{record_loaded}
 
 -- ---- the files
 
@@ -16,6 +17,15 @@ BytesByPath = (path : List ℕ) → Option (List ℕ)
 -- bytes that are read at a path under this number are always those, so a path that has none can't be read
 abbrev pub ReadsSame : MayRead → (number : ℕ) → BytesByPath → Type 0
 ReadsSame Reads number bytes_at = (path bytes : List ℕ) → Reads number path (Ok bytes) → bytes_at path ≡ Some bytes
+
+-- a path that fails under this number has none
+abbrev pub FailsSame : MayRead → (number : ℕ) → BytesByPath → Type 0
+FailsSame Reads number bytes_at = (path : List ℕ) → Reads number path (Err Device) → bytes_at path ≡ None
+
+-- reading a path under this number always gives these bytes, or always fails
+pub record ReadsAlike (Reads : MayRead) (number : ℕ) (bytes_at : BytesByPath) : Type 0 where
+  pub same : ReadsSame Reads number bytes_at
+  pub fails : FailsSame Reads number bytes_at
 
 -- ---- the maps
 
@@ -33,8 +43,8 @@ stated_by paths base k url (Some bytes) = stated_in (record_loaded paths base k 
 abbrev pub maps_at : (paths : Bool) → Option Parts → (k : ℕ) → BytesByPath → MapsByPath
 maps_at paths base k bytes_at url path = stated_by paths base k url (bytes_at path)
 
--- ---- what was reported
+-- ---- what became of the maps
 
--- each map that was looked for in a file was there, and none was refused
-abbrev pub IsSilent : LoaderSeen → Type 0
-IsSilent loader = loader.status ≡ 0
+-- each that was looked for in a file was there, and none was refused; or what fails always fails, and none was lost
+abbrev pub AreSettled : MayRead → (number : ℕ) → BytesByPath → (status : ℕ) → (lost : Bool) → Type 0
+AreSettled Reads number bytes_at status lost = (status ≡ 0) ⊎ (FailsSame Reads number bytes_at × (lost ≡ false))

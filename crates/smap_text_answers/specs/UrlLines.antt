@@ -1,23 +1,27 @@
 -- What is said at the end of the URLs that a text named: a line for each of the first 100, with what decided, and the file that its map came from, or
 -- why it had none (this project's own).
-use Rattle.std.specs.Prelude.{◌≡◌, ◌⊎◌, ℕ, ◌==◌, ◌&&◌, ◌-◌, Bool, false, not, List, [], ◌∷◌, ◌++◌, Option, Some, None, MatchBool, MatchOption, codes, if◌then◌else◌}
+use Rattle.std.specs.Prelude.{◌≡◌, ◌⊎◌, ℕ, ◌==◌, ◌&&◌, ◌-◌, Bool, false, not, List, [], ◌∷◌, ◌++◌, Option, Some, None, Ok, Err, MatchBool, MatchOption, codes, if◌then◌else◌}
 use Rattle.std.specs.Prelude.{length, option_map, take, unwrap_or}
 use Rattle.std.specs.Fmt.{decimal}
 use Rattle.std.specs.List.{concat, find}
 use Rattle.std.specs.Str.{bytes_eq}
 use Rattle.url.specs.Parts.{Parts}
 use Rattle.smap_io.specs.Device.{SinkSeen}
+use Rattle.smap_io.specs.declared.transfer.ReadFailure.TheVariants.{Device}
 use Rattle.smap_locations.specs.Deciding.{decided_by}
 use Rattle.smap_locations.specs.ListLine.{is_rule}
 use Rattle.smap_locations.specs.Locations.{LocationsSeen, or_else, path_for}
+use Rattle.smap_record.specs.Record.{MapRecord}
+use Rattle.smap_record.specs.declared.refusal.MapRefusal.{MapRefusal}
 use Rattle.smap_replies.specs.Files.{MayRead}
 use Rattle.smap_replies.specs.Lines.{memory_line}
-use Rattle.smap_replies.specs.Outcome.{OrMemory, Report}
+use Rattle.smap_replies.specs.Map.{refusal_result}
 use Rattle.smap_replies.specs.Streams.{IsReportedTo}
 use Rattle.smap_replies.specs.declared.files.UnreadCause.{UnreadCause}
 use Rattle.smap_replies.specs.declared.files.UnreadCause.TheVariants as causes
 use Rattle.smap_text.specs.Shown.{shown}
-use Rattle.smap_text_answers.specs.Loader.{FailsToRead}
+use Rattle.smap_text_answers.specs.ByPath.{IsRefusedFor}
+use Rattle.smap_text_answers.specs.Loader.{IsLoaded, record_loaded}
 use Rattle.smap_store.specs.Fileless.{asks_no_file}
 use Rattle.smap_text_answers.specs.Nearest.{nearest_of}
 use Rattle.smap_trace.specs.UrlNotes.{NotesSeen, UrlNoteSeen}
@@ -91,11 +95,7 @@ unread_text path cause = concat (codes "cannot read " ∷ shown path ∷ codes "
 abbrev pub body_of : (line : List ℕ) → List ℕ
 body_of line = take (length line - 1) line
 
--- the file is read again: it can't be, of which this is a cause, or its map is refused, and this is how
-abbrev pub CauseIs : (path : List ℕ) → Report → (text : List ℕ) → Type 0
-CauseIs path report text = MatchBool (report.status == 3) ((cause : UnreadCause) × (text ≡ unread_text path cause)) (text ≡ body_of report.text)
-
--- or now it gives one
+-- no map came from it, and now one comes
 abbrev pub late_text : (path : List ℕ) → List ℕ
 late_text path = codes "no map came from " ++ shown path
 
@@ -111,9 +111,23 @@ abbrev pub nothing_line : (anywhere : Bool) → List ℕ
 nothing_line anywhere = if anywhere then no_place_line else no_frame_line
 
 module _ (Reads : MayRead) (paths : Bool) (base : Option Parts) (k number : ℕ) where
-  abbrev pub IsCause : (url path text : List ℕ) → Type 0
-  IsCause url path text =
-      ((report : Report) × OrMemory (FailsToRead Reads paths base k number url path) report × CauseIs path report text) ⊎ (text ≡ late_text path)
+  -- the file can't be read, and of that this is a cause
+  abbrev pub IsUnreadFor : (path text : List ℕ) → Type 0
+  IsUnreadFor path text = Reads number path (Err Device) × ((cause : UnreadCause) × (text ≡ unread_text path cause))
+
+  -- it is read, and its map is refused, and this is how
+  abbrev pub IsRefusedBy : (url path text : List ℕ) → Type 0
+  IsRefusedBy url path text = (bytes : List ℕ) × (refusal : MapRefusal) × Reads number path (Ok bytes)
+      × IsRefusedFor (record_loaded paths base k url bytes) refusal × (text ≡ body_of (refusal_result path refusal).text)
+
+  -- or it gives a map now
+  abbrev pub IsLate : (url path text : List ℕ) → Type 0
+  IsLate url path text =
+      ((stated : MapRecord) × (file_bytes : ℕ) × IsLoaded Reads paths base k number url path stated file_bytes) × (text ≡ late_text path)
+
+  -- what reading it again comes to
+  unfoldable pub IsCause : (url path text : List ℕ) → Type 0
+  IsCause url path text = IsUnreadFor path text ⊎ IsRefusedBy url path text ⊎ IsLate url path text
 
   -- ---- a line for each
 

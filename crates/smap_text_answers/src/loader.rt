@@ -1,10 +1,10 @@
 //! The maps that are read when a text names them.
 ghost use Rattle.std.specs.Prelude.{◌≡◌, option_copied, IfErr, IfOk};
 ghost use Rattle.smap_text_answers.specs.ByPath.{MayRefuse};
-ghost use Rattle.smap_text_answers.specs.Loader.{FailsBy, FailsToRead, IsLoaded, Notes, loader_seen, named_report, record_loaded};
+ghost use Rattle.smap_text_answers.specs.Loader.{FailsBy, IsLoaded, Notes, is_lost, is_of_url, loader_seen, named_report, record_loaded};
 ghost use Rattle.smap_text_answers.specs.Private.Unloaded.{IsUnloadedFor, unread_why};
 ghost use Rattle.smap_record.specs.MapFile.{IsMapOf};
-ghost use Rattle.smap_replies.specs.Outcome.{OrMemory, failure_report, failure, out_of_memory};
+ghost use Rattle.smap_replies.specs.Outcome.{failure_report, failure, out_of_memory};
 ghost use Rattle.smap_store.specs.declared.loader.NoMap.TheVariants.{Memory};
 
 use crate::by_path::{goes_by_path, read_by_path};
@@ -40,28 +40,18 @@ pub struct FileLoader<'m, 'r, 'e, F: FileReader, E: ByteSink> {
     pub reported: u64,
     /// How many of them were refused.
     pub refused: u64,
+    /// Whether one was lost of which its file does not say so: memory ran out, or the URL of a source was too long.
+    pub lost: bool,
 }
 
 impl<F: FileReader, E: ByteSink> FileLoader<'_, '_, '_, F, E> {
-    // The map of a URL from the file at a path.
-    pub(crate) fn read(&self, alloc: Global, url: &[u8], path: &str) -> Result<LoadedMap, Failure>
-        ensures read { IfOk result (λ loaded.
-            IsLoaded (F.gives self.now.maps.now.files.now) self.now.paths
-            (option_copied self.now.maps.now.base) self.now.maps.now.interval self.now.number
-            url.now path.now loaded.map.stated loaded.file_bytes) }
-        ensures failed { IfErr result (λ failure. OrMemory (FailsToRead
-            (F.gives self.now.maps.now.files.now) self.now.paths
-            (option_copied self.now.maps.now.base) self.now.maps.now.interval self.now.number
-            url.now path.now) (failure_report failure)) }
-    {
-        match self.load_at(alloc, url, path) {
-            Ok(loaded) => Ok(loaded),
-            Err(unloaded) => Err(unloaded.failure),
-        }
-    }
-
-    // The same, or why there is none, beside how that is reported.
-    fn load_at(&self, alloc: Global, url: &[u8], path: &str) -> Result<LoadedMap, Unloaded>
+    // The map of a URL from the file at a path, or why there is none, beside how that is reported.
+    pub(crate) fn load_at(
+        &self,
+        alloc: Global,
+        url: &[u8],
+        path: &str,
+    ) -> Result<LoadedMap, Unloaded>
         ensures read { IfOk result (λ loaded.
             IsLoaded (F.gives self.now.maps.now.files.now) self.now.paths
             (option_copied self.now.maps.now.base) self.now.maps.now.interval self.now.number
@@ -105,8 +95,8 @@ impl<F: FileReader, E: ByteSink> FileLoader<'_, '_, '_, F, E> {
     }
 
     // Reports why a map can't be had, and counts that.
-    fn note(&mut self, failure: &Failure)
-        ensures noted { Notes (loader_seen E.seen self.old) (failure_report failure.now)
+    fn note(&mut self, why: NoMap, failure: &Failure)
+        ensures noted { Notes (loader_seen E.seen self.old) why (failure_report failure.now)
             (loader_seen E.seen self.new) }
         ensures maps { self.new.maps ≡ self.old.maps }
         ensures paths { self.new.paths ≡ self.old.paths }
@@ -123,6 +113,7 @@ impl<F: FileReader, E: ByteSink> FileLoader<'_, '_, '_, F, E> {
             self.code = self.code.or(failure.code());
         }
         self.reported = self.reported.saturating_add(1);
+        self.lost = self.lost || is_lost(why);
     }
 }
 
@@ -143,7 +134,7 @@ impl<F: FileReader, E: ByteSink> MapLoader for FileLoader<'_, '_, '_, F, E> {
             Ok(loaded) => Ok(loaded),
             Err(unloaded) => {
                 let Unloaded { why, failure } = unloaded;
-                self.note(&named(alloc, path, failure));
+                self.note(why, &named(alloc, path, failure));
                 Err(why)
             }
         }
@@ -160,9 +151,27 @@ impl<F: FileReader, E: ByteSink> MapLoader for FileLoader<'_, '_, '_, F, E> {
 
 // Why no map came from a file, and how that is reported, before memory's end is named.
 #[derive(Drop)]
-struct Unloaded {
-    why: NoMap,
-    failure: Failure,
+pub(crate) struct Unloaded {
+    pub(crate) why: NoMap,
+    pub(crate) failure: Failure,
+}
+
+// Whether a map is lost of which its file does not say so: memory ran out, or the URL of a source was too long.
+fn is_lost(why: NoMap) -> bool
+    ensures { result ≡ is_lost why }
+{
+    match why {
+        NoMap::Memory => true,
+        NoMap::Refused(refusal) => is_of_url(refusal),
+        NoMap::Unnamed | NoMap::Unread => false,
+    }
+}
+
+// Whether resolving a source gave a URL that is too long.
+fn is_of_url(refusal: MapRefusal) -> bool
+    ensures { result ≡ is_of_url refusal }
+{
+    matches!(refusal, MapRefusal::Url)
 }
 
 // What a failure to read a file comes to.

@@ -1,6 +1,6 @@
 //! Rewriting the stack trace on standard input over files and folders of maps, which are read when it names them.
 ghost use Rattle.std.specs.Prelude.{◌≡◌, ◌<◌, ◌^◌, [], false, true, option_copied, IfErr, IfOk};
-ghost use Rattle.smap_text_answers.specs.RewriteFrom.{IsNotedOver, IsOverStore, RewritesFrom, RewritesText, RewritesTextFront, RewritesTextNoted, SaysUrls, known_of, most_passed, places_of, says_urls, request_seen, store_of};
+ghost use Rattle.smap_text_answers.specs.RewriteFrom.{IsOverStore, RewritesFrom, RewritesText, RewritesTextFront, RewritesTextNoted, SaysUrls, known_of, most_passed, places_of, says_urls, request_seen, store_of};
 ghost use Rattle.smap_replies.specs.Streams.{streams_seen};
 ghost use Rattle.smap_lines.specs.Editing.{devices_seen, is_read_fault, is_write_fault};
 ghost use Rattle.smap_lines.specs.declared.fault.LineFault.TheVariants.{Memory};
@@ -116,6 +116,8 @@ pub struct StoreEnd {
     pub missing: u64,
     // How many maps were refused.
     pub refused: u64,
+    // Whether a map was lost of which its file does not say so.
+    pub lost: bool,
     // How often there was not enough memory to keep what was found for a URL.
     pub shortages: u64,
 }
@@ -153,11 +155,6 @@ fn over_store<F: FileReader, R: ByteSource, W: ByteSink, E: ByteSink>(
     ensures over { IsOverStore (F.gives request.now.maps.now.files.now)
         (option_copied request.now.maps.now.base) request.now.maps.now.interval
         (request_seen request.now) sources.now result
-        (streams_seen (R.seen input.old) (W.seen output.old) (E.seen errors.old) first.old)
-        (streams_seen (R.seen input.new) (W.seen output.new) (E.seen errors.new) first.new) }
-    ensures noted { IsNotedOver (F.gives request.now.maps.now.files.now)
-        (option_copied request.now.maps.now.base) request.now.maps.now.interval
-        (request_seen request.now) sources.now result
         (notes_seen notes.new) (notes_seen others.new)
         (streams_seen (R.seen input.old) (W.seen output.old) (E.seen errors.old) first.old)
         (streams_seen (R.seen input.new) (W.seen output.new) (E.seen errors.new) first.new) }
@@ -173,6 +170,7 @@ fn over_store<F: FileReader, R: ByteSource, W: ByteSink, E: ByteSink>(
         code: *first,
         reported: 0,
         refused: 0,
+        lost: false,
     };
     let asked = StoreRun {
         alloc,
@@ -194,7 +192,7 @@ fn over_store<F: FileReader, R: ByteSource, W: ByteSink, E: ByteSink>(
         input,
         output,
     );
-    let (status, refused) = (loader.status, loader.refused);
+    let (status, refused, lost) = (loader.status, loader.refused, loader.lost);
     *first = loader.code;
     StoreEnd {
         result,
@@ -202,6 +200,7 @@ fn over_store<F: FileReader, R: ByteSource, W: ByteSink, E: ByteSink>(
         maps: cache.read().saturating_add(sources.words.count() as u64),
         missing: cache.missing().saturating_sub(refused),
         refused,
+        lost,
         shortages: cache.shortages(),
     }
 }

@@ -89,6 +89,7 @@ fn lines_of<F: FileReader, E: ByteSink>(
         code: None,
         reported: 0,
         refused: 0,
+        lost: false,
     };
     all_lines(
         alloc,

@@ -10,7 +10,7 @@ use Rattle.smap_lines.specs.Edited.{IsEditedLine, StepsLines, is_short}
 use Rattle.smap_lines.specs.Editing.{DevicesSeen, EditsInto}
 use Rattle.smap_lines.specs.Lines.{Line, line_text, lines_with_ends}
 use Rattle.smap_lines.specs.declared.counts.LineCounts.{LineCounts}
-use Rattle.smap_locate_answers.specs.ByPath.{AnswersAll, AnswersLine, AnswersPlace, IsDefined, IsFoundFor, IsFoundIn, IsFoundOf, IsKnown, ReadsAlike}
+use Rattle.smap_locate_answers.specs.ByPath.{AnswersAll, AnswersLine, AnswersPlace, IsDefined, IsFoundFor, IsFoundIn, IsFoundOf, IsKnown}
 use Rattle.smap_locate_answers.specs.Locating.{LocateStep, Locates}
 use Rattle.smap_locate_answers.specs.Place.{Place, place_of}
 use Rattle.smap_locations.specs.Laws.Key.{path_of_key}
@@ -29,7 +29,7 @@ use Rattle.smap_store.specs.declared.loader.NoMap.{NoMap}
 use Rattle.smap_store.specs.declared.loader.NoMap.TheVariants.{Unnamed, Unread, Refused, Memory}
 use Rattle.smap_text_answers.specs.ByPath.{IsRefusedFor}
 use Rattle.smap_text_answers.specs.Loader.{FailsWith, LoaderSeen, Loads, record_loaded}
-use Rattle.smap_text_answers.specs.SameBytes.{BytesByPath}
+use Rattle.smap_text_answers.specs.SameBytes.{BytesByPath, ReadsAlike}
 
 -- ---- lines, one after another
 

@@ -30,7 +30,7 @@ module _ (Reads : MayRead) (paths : Bool) (base : Option Parts) (k number : ℕ)
   some_load url path = (None, (out_of_memory, inl refl))
 
   -- why there is none is one of these
-  pub fails_to_read : (why : NoMap) (url path : List ℕ) (report : Report) → FailsBy Reads paths base k number why url path report
+  fails_to_read : (why : NoMap) (url path : List ℕ) (report : Report) → FailsBy Reads paths base k number why url path report
       → OrMemory (FailsToRead Reads paths base k number url path) report
   fails_to_read Unnamed url path report fails = absurd fails
   fails_to_read Memory url path report memory = inl memory

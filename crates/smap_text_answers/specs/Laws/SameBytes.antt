@@ -1,6 +1,6 @@
--- Laws of rewriting a trace over files whose paths give the same bytes whenever they are read: what is written and counted
--- is then what the maps of these bytes make of it, however few are remembered, if no trouble was reported or counted.
-use Rattle.std.specs.Prelude.{◌≡◌, ◌<◌, ◌+◌, ℕ, Bool, true, false, List, [], Option, Result, Ok, Err, length}
+-- Laws of rewriting a trace over files whose paths give the same bytes whenever they are read: what is written and counted is then
+-- what the maps of these files make of it, however few are remembered, if they are settled and memory did not run out.
+use Rattle.std.specs.Prelude.{◌≡◌, ◌<◌, ◌+◌, ◌||◌, ℕ, Bool, true, false, List, [], Option, None, Result, Ok, Err, length}
 use Rattle.std.proofs.Common.{ap, arith, inl, inr, refl, subst, sym, ◌∙◌}
 use Rattle.url.specs.Parts.{Parts}
 use Rattle.smap_lines.specs.Editing.{DevicesSeen, devices_seen}
@@ -16,20 +16,24 @@ use Rattle.smap_store.specs.ByPath.{IsGood, IsRight, MapsByPath, stored_maps}
 use Rattle.smap_store.specs.Loaded.{Came, record_in}
 use Rattle.smap_store.specs.Laws.Same.{good_before, right_after, right_start}
 use Rattle.smap_store.specs.Stored.{FindsIn, LoadsStep, StoredSeen, found_in}
+use Rattle.smap_store.specs.declared.loader.NoMap.{NoMap}
+use Rattle.smap_store.specs.declared.loader.NoMap.TheVariants.{Unnamed, Unread, Refused, Memory}
 use Rattle.smap_trace.specs.Hiding.{HidingSeen}
 use Rattle.smap_trace.specs.MapsOf.{RewritesBy}
 use Rattle.smap_trace.specs.Laws.MapsOf.{rewrites_by}
 use Rattle.smap_trace.specs.Laws.Passed.{passing_over}
 use Rattle.smap_trace.specs.Rewriting.{RewritesOver}
+use Rattle.smap_trace.specs.UrlNotes.{NotesSeen}
 use Rattle.smap_trace.specs.declared.outcome.RewriteCounts.{RewriteCounts}
 use Rattle.smap_trace.specs.declared.outcome.Summary.{Summary}
 use Rattle.smap_replies.specs.Files.{MayRead}
+use Rattle.smap_text_answers.specs.ByPath.{IsRefusedFor}
 use Rattle.smap_text_answers.specs.Laws.Loader.{fails_to_load}
-use Rattle.smap_text_answers.specs.Loader.{FailsToLoad, LoaderSeen, Loads, record_loaded}
+use Rattle.smap_text_answers.specs.Loader.{FailsToLoad, FailsWith, LoaderSeen, Loads, is_lost, is_of_url, record_loaded}
 use Rattle.smap_replies.specs.Map.{Never, ReportsFound, refusal_result}
 use Rattle.smap_replies.specs.Outcome.{Report}
 use Rattle.smap_text_answers.specs.RewriteFrom.{AnswersByPath, IsOverStore, IsStoredRewritten, RequestSeen, RewritesTextBy, most_passed, places_of, store_start}
-use Rattle.smap_text_answers.specs.SameBytes.{BytesByPath, IsSilent, ReadsSame, maps_at, stated_by, stated_in}
+use Rattle.smap_text_answers.specs.SameBytes.{AreSettled, BytesByPath, FailsSame, ReadsSame, maps_at, stated_by, stated_in}
 use Rattle.smap_replies.specs.Streams.{Streams}
 use Rattle.smap_text_answers.specs.declared.rewriting.StoreEnd.{StoreEnd}
 use Rattle.smap_text_answers.specs.declared.sources.MapSources.{MapSources}
@@ -58,11 +62,18 @@ module _ {L : Type 0} (Steps : LoadsStep L) (Good : L → Type 0) (load : MapsBy
       (good_before Steps Good load loads_right) (right_after Steps Good load loads_right old.words old.locations) begins most before after old new summary all
       good (right_start load old empty)
 
--- ---- where nothing was reported, so no map was refused
+-- ---- where the maps are settled
+
+or_none : (x y : Bool) → (x || y) ≡ false → (x ≡ false) × (y ≡ false)
+or_none true y none = cc
+or_none false y none = (refl, none)
 
 module _ (Reads : MayRead) (paths : Bool) (base : Option Parts) (k number : ℕ) (bytes_at : BytesByPath) (same : ReadsSame Reads number bytes_at) where
   abbrev load : MapsByPath
   load = maps_at paths base k bytes_at
+
+  abbrev Settled : LoaderSeen → Type 0
+  Settled loader = AreSettled Reads number bytes_at loader.status loader.lost
 
   -- what is said of a map that can't be had has a status
   refused_status : (path : List ℕ) (report : Report) (found : Result MapRecord MapRefusal) → ReportsFound (refusal_result path) found Never report
@@ -78,38 +89,59 @@ module _ (Reads : MayRead) (paths : Bool) (base : Option Parts) (k number : ℕ)
   fails_reported url path report (inr (inr (inr (bytes, read, reported)))) few =
       let status = refused_status path report (record_loaded paths base k url bytes) reported in omega (arith, status, few)
 
+  -- where its map is refused, or it can't be read, its file has none
+  refused_none : (found : Result MapRecord MapRefusal) (refusal : MapRefusal) → IsRefusedFor found refusal → is_of_url refusal ≡ false
+      → stated_in found ≡ None
+  refused_none (Err given) refusal is kept = refl
+  refused_none (Ok stated) refusal is kept = let lost : true ≡ false = ap is_of_url (sym is) ∙ kept in cc
+
+  fails_none : FailsSame Reads number bytes_at → (why : NoMap) (url path : List ℕ) (report : Report)
+      → FailsWith Reads paths base k number why url path report → is_lost why ≡ false → load url path ≡ None
+  fails_none fails why url path report (inr named) kept = let lost : true ≡ false = ap is_lost (sym named.0) ∙ kept in cc
+  fails_none fails Unnamed url path report (inl never) kept = absurd never
+  fails_none fails Memory url path report (inl memory) kept = cc
+  fails_none fails Unread url path report (inl unread) kept = ap (stated_by paths base k url) (fails path unread.0)
+  fails_none fails (Refused refusal) url path report (inl (bytes, read, refused, is)) kept =
+      ap (stated_by paths base k url) (same path bytes read) ∙ refused_none (record_loaded paths base k url bytes) refusal refused kept
+
   loads_settled : (old new : LoaderSeen) (url path : List ℕ) (came : Came) → Loads Reads paths base k number old url path came new
-      → IsSilent new → IsSilent old × (record_in came ≡ load url path)
-  loads_settled old new url path (Err why) loads silent =
+      → Settled new → Settled old × (record_in came ≡ load url path)
+  loads_settled old new url path (Err why) loads (inl silent) =
       let status = loads.2.status in
       absurd (fails_reported url path loads.0 (fails_to_load Reads paths base k number why url path loads.0 loads.1) (omega (arith, status, silent)))
-  loads_settled old new url path (Ok (stated, file_bytes)) loads silent =
+  loads_settled old new url path (Err why) loads (inr (fails, all)) =
+      let none = or_none old.lost (is_lost why) (sym loads.2.lost ∙ all) in
+      (inr (fails, none.0), sym (fails_none fails why url path loads.0 loads.1 none.1))
+  loads_settled old new url path (Ok (stated, file_bytes)) loads settled =
       let (bytes, read, many, is) = loads.0 in
-      (subst IsSilent loads.1 silent, sym (ap (stated_by paths base k url) (same path bytes read) ∙ ap stated_in is))
+      (subst Settled loads.1 settled, sym (ap (stated_by paths base k url) (same path bytes read) ∙ ap stated_in is))
 
   pub same_settled : (sources : MapSources) (anywhere : Bool) (most_passed : ℕ) (hide : HidingSeen) (most : ℕ) (before after : DevicesSeen) (old new : StoredSeen LoaderSeen) (counts : RewriteCounts)
       → IsStoredRewritten Reads paths base k number sources anywhere most_passed hide most old new before after (Ok counts) → old.cache.kept ≡ []
-      → IsSilent new.loader → new.cache.shortages ≡ 0
+      → Settled new.loader → new.cache.shortages ≡ 0
       → RewritesTextBy anywhere (stored_maps load old.words old.locations) (places_of sources) hide most before after counts
-  same_settled sources true most_passed hide most before after old new counts all empty silent enough =
-      places_same (Loads Reads paths base k number) IsSilent load loads_settled (places_of sources) most before after old new counts.summary all.0 empty
-      (silent, enough)
-  same_settled sources false most_passed hide most before after old new counts all empty silent enough =
-      rewrites_same (Loads Reads paths base k number) IsSilent load loads_settled hide most before after old new counts
+  same_settled sources true most_passed hide most before after old new counts all empty settled enough =
+      places_same (Loads Reads paths base k number) Settled load loads_settled (places_of sources) most before after old new counts.summary all.0 empty
+      (settled, enough)
+  same_settled sources false most_passed hide most before after old new counts all empty settled enough =
+      rewrites_same (Loads Reads paths base k number) Settled load loads_settled hide most before after old new counts
       (passing_over (FindsIn (Loads Reads paths base k number)) found_in (places_in (places_of sources)) hide most_passed most before after old new counts all)
-      empty (silent, enough)
+      empty (settled, enough)
 
 -- and so it is of a run
-pub same_run : (Reads : MayRead) (base : Option Parts) (k : ℕ) (request : RequestSeen) (sources : MapSources) (end : StoreEnd) (before after : Streams)
-    → IsOverStore Reads base k request sources end before after → AnswersByPath Reads base k request sources end before after
-same_run Reads base k request sources end before after over bytes_at same counts result silent enough =
+pub same_run : (Reads : MayRead) (base : Option Parts) (k : ℕ) (request : RequestSeen) (sources : MapSources) (end : StoreEnd) (notes others : NotesSeen)
+    (before after : Streams) → IsOverStore Reads base k request sources end notes others before after → AnswersByPath Reads base k request sources end before after
+same_run Reads base k request sources end notes others before after over bytes_at same counts result settled enough =
     let P : Result RewriteCounts LineFault → Type 0 = λ result.
     IsStoredRewritten Reads request.paths base k (length request.arguments + 1) sources request.anywhere
     (most_passed request.summary request.hint) request.hide request.limit_bytes
     (store_start sources request.cache_bytes before.sinks.errors before.sinks.code) over.last
     (devices_seen before.input before.sinks.output) (devices_seen after.input after.sinks.output) result in
+    let are : AreSettled Reads (length request.arguments + 1) bytes_at over.last.loader.status over.last.loader.lost =
+    subst (λ status. AreSettled Reads (length request.arguments + 1) bytes_at status over.last.loader.lost) over.status
+    (subst (λ lost. AreSettled Reads (length request.arguments + 1) bytes_at end.status lost) over.lost settled) in
     same_settled Reads request.paths base k (length request.arguments + 1) bytes_at same sources request.anywhere
     (most_passed request.summary request.hint) request.hide request.limit_bytes
     (devices_seen before.input before.sinks.output) (devices_seen after.input after.sinks.output)
     (store_start sources request.cache_bytes before.sinks.errors before.sinks.code) over.last counts (subst P result over.rewritten) refl
-    (sym over.status ∙ silent) (sym over.shortages ∙ enough)
+    are (sym over.shortages ∙ enough)

@@ -4,17 +4,18 @@ ghost use Rattle.std.specs.Str.{bytes_eq};
 ghost use Rattle.smap_locations.specs.ListLine.{is_rule};
 ghost use Rattle.smap_replies.specs.Arguments.{argument_of};
 ghost use Rattle.smap_replies.specs.Outcome.{failure_report};
-ghost use Rattle.smap_text_answers.specs.UrlLines.{CauseIs, IsCause, IsEnd};
+ghost use Rattle.smap_text_answers.specs.Private.Causes.{SaysWhy};
+ghost use Rattle.smap_text_answers.specs.UrlLines.{IsCause, IsEnd};
 ghost use Rattle.smap_text_answers.specs.UrlLines.{body_of, cause_text, deciding_name, found_text, late_text, nearest_text, unknown_text, unmapped_text, unread_text, url_file, word_file};
 ghost use Rattle.smap_trace.specs.NotesSeen.{note_seen};
 
 use super::shown_url;
-use crate::loader::FileLoader;
+use crate::loader::{FileLoader, Unloaded};
 use crate::nearest::nearest_of;
 use smap_io::ByteSink;
 use smap_locations::{Locations, is_rule};
-use smap_replies::{FAILED, Failure, FileReader, UnreadCause};
-use smap_store::asks_no_file;
+use smap_replies::{FileReader, UnreadCause};
+use smap_store::{NoMap, asks_no_file};
 use smap_text::shown;
 use smap_trace::UrlNote;
 use std::alloc::{AllocError, Global};
@@ -171,26 +172,30 @@ fn cause_of<F: FileReader, E: ByteSink>(
         (option_copied loader.now.maps.now.base) loader.now.maps.now.interval loader.now.number
         url.now path.now text.items) }
 {
-    match loader.read(alloc, url, path) {
+    match loader.load_at(alloc, url, path) {
         Ok(_) => Ok(late_text(alloc, path)?.into_bytes()),
-        Err(failure) => failure_text(alloc, loader.maps.files, path, &failure),
+        Err(unloaded) => unloaded_text(alloc, loader.maps.files, path, &unloaded),
     }
 }
 
-// What is said of a failure to read a map.
-fn failure_text<F: FileReader>(
+// What is said of a file that gives no map; nothing, where memory ran out.
+fn unloaded_text<F: FileReader>(
     alloc: Global,
     files: &F,
     path: &str,
-    failure: &Failure,
+    unloaded: &Unloaded,
 ) -> Result<Vec<u8>, AllocError>
-    ensures { IfOk result (λ text. CauseIs path.now (failure_report failure.now) text.items) }
+    ensures { IfOk result (λ text. SaysWhy unloaded.now.why path.now
+        (failure_report unloaded.now.failure) text.items) }
 {
-    if failure.status() == FAILED {
-        let text = unread_text(alloc, path, files.unread_cause(path))?;
-        return Ok(text.into_bytes());
+    match unloaded.why {
+        NoMap::Unread => {
+            let text = unread_text(alloc, path, files.unread_cause(path))?;
+            Ok(text.into_bytes())
+        }
+        NoMap::Refused(_) => body_of(alloc, unloaded.failure.bytes()),
+        NoMap::Unnamed | NoMap::Memory => Err(AllocError),
     }
-    body_of(alloc, failure.bytes())
 }
 
 // That no map came from a file that gives one now.

@@ -1,4 +1,4 @@
-use Rattle.std.proofs.Common.{◌≡◌, ◌+◌, length, map, ap, refl, rules, subst, sym, option_copied}
+use Rattle.std.proofs.Common.{◌≡◌, ◌+◌, false, length, map, ap, refl, rules, subst, sym, option_copied}
 use Rattle.std.proofs.lemmas.List.{length-map}
 use Rattle.smap_lines.specs.Editing.{devices_seen}
 use Rattle.smap_locate_answers.specs.Locate.{IsStoredLocated}
@@ -25,7 +25,7 @@ returns-clause-over g c =
       words = c.args.sources.now.words;
       locations = c.args.sources.now.locations;
       cache = cache;
-      loader = record { errors = seen c.args.errors.now; status = 0; code = c.args.first.now; reported = 0; refused = 0 };
+      loader = record { errors = seen c.args.errors.now; status = 0; code = c.args.first.now; reported = 0; refused = 0; lost = false };
     } in
     let last : StoredSeen LoaderSeen = store_of c.args.sources.now made.new.cache (loader_seen seen made.new.loader) in
     let located = located_from gives seen _ request.options _ _ refl before after made.result made.ensures.locates made.ensures.front made.ensures.looked in

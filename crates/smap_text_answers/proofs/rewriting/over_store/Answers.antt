@@ -1,4 +1,4 @@
-use Rattle.std.proofs.Common.{◌≡◌, ◌+◌, length, map, ap, refl, rules, subst, sym, option_copied}
+use Rattle.std.proofs.Common.{◌≡◌, ◌+◌, false, length, map, ap, refl, rules, subst, sym, option_copied}
 use Rattle.std.proofs.lemmas.List.{length-map}
 use Rattle.std.proofs.lemmas.Result.{IfOk-weaker}
 use Rattle.smap_lines.specs.Editing.{devices_seen}
@@ -27,7 +27,7 @@ returns-clause-over g c =
       words = c.args.sources.now.words;
       locations = c.args.sources.now.locations;
       cache = cache;
-      loader = record { errors = seen c.args.errors.now; status = 0; code = c.args.first.now; reported = 0; refused = 0 };
+      loader = record { errors = seen c.args.errors.now; status = 0; code = c.args.first.now; reported = 0; refused = 0; lost = false };
     } in
     let last : StoredSeen LoaderSeen = store_of c.args.sources.now c.rewrite_text-result.new.cache (loader_seen seen c.rewrite_text-result.new.loader) in
     let rewritten = subst (λ m. IsStoredRewritten (gives request.maps.now.files.now) request.paths (option_copied request.maps.now.base) request.maps.now.interval
@@ -44,6 +44,17 @@ returns-clause-over g c =
           request.maps.now.interval (length (map argument_of request.arguments.now) + 1) c.args.sources.now request.anywhere most
           (hiding_seen request.hiding) request.limit_bytes
           (start cache) last before after c.rewrite_text-result.result) c.new-cache.ensures numbered;
+      noted = λ on. IfOk-weaker made.result _ _ (λ counts is.
+          subst (λ (cache : CacheSeen). RewritesTextNoted request.anywhere (FindsIn (Loads (gives request.maps.now.files.now) request.paths
+          (option_copied request.maps.now.base) request.maps.now.interval (length (map argument_of request.arguments.now) + 1)))
+          (places_of c.args.sources.now) (known_of c.args.sources.now) (hiding_seen request.hiding) request.limit_bytes
+          before after (start cache) last counts (notes_seen made.new.notes) (notes_seen made.new.others)) c.new-cache.ensures
+          (subst (λ n. RewritesTextNoted request.anywhere (FindsIn (Loads (gives request.maps.now.files.now) request.paths
+          (option_copied request.maps.now.base) request.maps.now.interval (n + 1))) (places_of c.args.sources.now) (known_of c.args.sources.now)
+          (hiding_seen request.hiding) request.limit_bytes
+          before after (start c.new-cache.result) last counts (notes_seen made.new.notes) (notes_seen made.new.others)) (sym (length-map request.arguments.now argument_of))
+          (noted_from gives seen _ _ _ refl request.anywhere (places_of c.args.sources.now) (known_of c.args.sources.now) (hiding_seen request.hiding)
+          request.limit_bytes before after counts (notes_seen made.new.notes) (notes_seen made.new.others) is))) (made.ensures.noted on);
       errors = ap seen errors;
       code = refl;
       input_failed = made.ensures.input_failure;
@@ -55,34 +66,6 @@ returns-clause-over g c =
       maps = rw (c.read.ensures, c.count.ensures) at c.saturating_add.ensures;
       missing = rw (c.missing.ensures) at c.saturating_sub.ensures;
       refused = refl;
+      lost = refl;
       shortages = c.shortages.ensures;
     }
-
-pub returns-clause-noted : goal.returns-clause-noted
-returns-clause-noted g c on =
-    let gives = g.F.FileReader.gives in
-    let seen = g.E.ByteSink.seen in
-    let request = c.args.request.now in
-    let made = c.rewrite_text-result in
-    let before = devices_seen (g.R.ByteSource.seen c.args.input.now) (g.W.ByteSink.seen c.args.output.now) in
-    let after = devices_seen (g.R.ByteSource.seen made.new.input) (g.W.ByteSink.seen made.new.output) in
-    let start : CacheSeen → StoredSeen LoaderSeen = λ cache. record {
-      words = c.args.sources.now.words;
-      locations = c.args.sources.now.locations;
-      cache = cache;
-      loader = record { errors = seen c.args.errors.now; status = 0; code = c.args.first.now; reported = 0; refused = 0 };
-    } in
-    let last : StoredSeen LoaderSeen = store_of c.args.sources.now made.new.cache (loader_seen seen made.new.loader) in
-    IfOk-weaker made.result _ _ (λ counts is. (
-      last,
-      subst (λ (cache : CacheSeen). RewritesTextNoted request.anywhere (FindsIn (Loads (gives request.maps.now.files.now) request.paths
-          (option_copied request.maps.now.base) request.maps.now.interval (length (map argument_of request.arguments.now) + 1)))
-          (places_of c.args.sources.now) (known_of c.args.sources.now) (hiding_seen request.hiding) request.limit_bytes
-          before after (start cache) last counts (notes_seen made.new.notes) (notes_seen made.new.others)) c.new-cache.ensures
-          (subst (λ n. RewritesTextNoted request.anywhere (FindsIn (Loads (gives request.maps.now.files.now) request.paths
-          (option_copied request.maps.now.base) request.maps.now.interval (n + 1))) (places_of c.args.sources.now) (known_of c.args.sources.now)
-          (hiding_seen request.hiding) request.limit_bytes
-          before after (start c.new-cache.result) last counts (notes_seen made.new.notes) (notes_seen made.new.others)) (sym (length-map request.arguments.now argument_of))
-          (noted_from gives seen _ _ _ refl request.anywhere (places_of c.args.sources.now) (known_of c.args.sources.now) (hiding_seen request.hiding)
-          request.limit_bytes before after counts (notes_seen made.new.notes) (notes_seen made.new.others) is)),
-    )) (made.ensures.noted on)

@@ -23,9 +23,8 @@ returns-in-Ok g c =
         c.finish-ended.result,
         c.say_urls-said.result,
         over,
-        run.ensures.noted,
         same_run (g.F.FileReader.gives request.maps.now.files.now) (option_copied request.maps.now.base) request.maps.now.interval (request_seen request)
-            c.in-Ok.sources run.result _ _ over,
+            c.in-Ok.sources run.result _ _ _ _ over,
         refl,
         c.finish-ended.ensures,
         refl,
