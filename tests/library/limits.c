@@ -95,7 +95,7 @@ static void reading(void) {
     insist(!memcmp(source.name.bytes, "https://e.test/a.js", 19), "its name");
     smap_map_free(&map);
     free(base);
-    const uint32_t others[] = {0, 17, 18, 19, UINT32_MAX};
+    const uint32_t others[] = {0, 17, 19, 20, UINT32_MAX};
     for (int i = 0; i < 5; i++) {
         smap_refusal other = {.number = others[i]};
         smap_bytes bytes = {0};
