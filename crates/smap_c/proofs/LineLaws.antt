@@ -1,14 +1,13 @@
 -- Where lines stand in a content, one after another.
-use Rattle.std.proofs.Common.{◌≡◌, ◌∙◌, ◌+◌, ◌-◌, ◌<◌, ◌≤◌, ℕ, zero, suc, List, [], ◌∷◌, None, Some, ap, arith, drop, length, min, refl, set, subst, sym, take, ⊎_elim}
-use Rattle.std.specs.Prelude.{IsSomeAnd, nat_lt, option_and_then, slice_get}
+use Rattle.std.proofs.Common.{◌≡◌, ◌∙◌, ◌+◌, ◌-◌, ◌<◌, ℕ, zero, suc, List, [], ◌∷◌, Some, ap, arith, drop, length, refl, set, subst, sym, take, ⊎_elim}
+use Rattle.std.specs.Prelude.{IsSomeAnd, nat_lt, slice_get}
 use Rattle.std.specs.Str.{chars}
-use Rattle.std.proofs.lemmas.Bool.{cases_lt, cond-false, cond-true, le-ltb, lt-ltb}
+use Rattle.std.proofs.lemmas.Bool.{cases_lt}
 use Rattle.std.proofs.lemmas.List.{drop-drop, drop-set-lt, length-drop, length-set}
 use Rattle.smap_text.specs.Lines.{lines_of}
 use Rattle.smap_context.proofs.EndLaws.{end_of_end, slice_get_drop, some_line}
 use Rattle.smap_context.specs.Shown.{IsFrontOf}
-use Rattle.smap_record.specs.Record.{MapRecord}
-use Rattle.smap_c.specs.Lines.{IsLineAt, around, around_in, content_of, range_in}
+use Rattle.smap_c.specs.Lines.{IsLineAt}
 use Rattle.smap_c.specs.Texts.{flag}
 use Rattle.smap_c.specs.declared.lines.LineBytes.{LineBytes}
 

@@ -1,5 +1,5 @@
 -- Why a rewriting is refused, from what was written.
-use Rattle.std.proofs.Common.{◌≡◌, ◌⊎◌, ◌∙◌, ◌++◌, ◌<◌, ℕ, List, [], Ok, Err, Result, Option, Some, inl, inr, ap, append-nil, arith, length, length-append, subst, sym, take}
+use Rattle.std.proofs.Common.{◌≡◌, ◌⊎◌, ◌∙◌, ◌<◌, ℕ, List, [], Ok, Err, Result, Option, Some, inl, inr, ap, append-nil, arith, length, length-append, subst, sym, take}
 use Rattle.std.specs.Option.{IfSome}
 use Rattle.std.specs.Result.{IfErr, IfOk}
 use Rattle.std.proofs.lemmas.List.{take-append-le}

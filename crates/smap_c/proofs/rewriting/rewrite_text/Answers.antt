@@ -1,9 +1,8 @@
-use Rattle.std.proofs.Common.{◌≡◌, ◌∙◌, ◌++◌, subst, sym}
+use Rattle.std.proofs.Common.{◌∙◌, ◌++◌, subst, sym}
 use Rattle.std.proofs.lemmas.Bool.{cond-false, cond-true}
 use Rattle.std.proofs.lemmas.Result.{IfErr-weaker, IfOk-weaker}
 use Rattle.smap_sequences.specs.Sequences.{kept, without_sequences}
 use Rattle.smap_c.specs.Private.Rewriting.{HasFront, IsRewritten, IsTooMuch}
-use Rattle.smap_c.specs.Trace.{text_read}
 use Rattle.smap_c.proofs.rewriting.rewrite_text.Goals as goal
 
 pub returns-then-options-clause-rewritten : goal.returns-then-options-clause-rewritten

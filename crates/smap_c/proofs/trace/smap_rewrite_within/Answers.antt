@@ -24,8 +24,7 @@ returns-clause-refused c =
     let options = c.args.options.now in
     let table = c.lend-maps.result.now in
     if_held _ table c.lend-maps.ensures.value (λ maps. c.reported.result ≡ 1 → IsRefusedFor options maps c.args.text.now c.args.most c.reported.new.refusal)
-    (λ is. inr (inl (
-      sym c.is_for_all.ensures ∙ c.if-is_for_all.false,
-      too_much_read (text_read options c.args.text.now) c.reported.result c.reported.new.refusal is c.rewrite_text-outcome.result
-          c.reported.ensures.refused c.reported.ensures.failed c.rewrite_text-outcome.ensures.refused,
-    )))
+    (λ is.
+    let too = too_much_read (text_read options c.args.text.now) c.reported.result c.reported.new.refusal is c.rewrite_text-outcome.result
+    c.reported.ensures.refused c.reported.ensures.failed c.rewrite_text-outcome.ensures.refused in
+    inr (inl (sym c.is_for_all.ensures ∙ c.if-is_for_all.false, too.0, too.1)))
