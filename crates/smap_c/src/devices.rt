@@ -25,7 +25,7 @@ impl<'a> ByteSource for Input<'a> {
     }
 }
 
-/// The bytes that were written, up to a bound and one more, so that it shows that there are more. Then a write fails, as where
+/// The bytes that were written, up to a bound and one more, which shows that there are more. Then a write fails, as where
 /// memory runs out.
 #[derive(Drop)]
 pub struct Output {

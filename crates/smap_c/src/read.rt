@@ -32,8 +32,8 @@ pub extern "C" fn smap_map_read(
     read_within(alloc, bytes, base, interval, None, map, refusal)
 }
 
-/// The same, where the names of all sources together may be made of at most `most_names` bytes: each of those of the base, of
-/// what `sourceRoot` puts before it, and of its own text. Where there are more, the map is refused before a name is made.
+/// The same, where the names of all sources may be made of at most `most_names` bytes: each of those of the base, of what
+/// `sourceRoot` puts before it, and of its own text. Where there are more, the map is refused before a name is made.
 #[unsafe(no_mangle)]
 pub extern "C" fn smap_map_read_within(
     alloc: Global,

@@ -38,8 +38,8 @@ pub struct TraceCounts {
     pub hidden: u64,
 }
 
-/// Why a text is not rewritten: the number of X3 where it has too many bytes, that of X5 where too many would come out, and 0
-/// where places are asked for anywhere and a map is under `*` alone.
+/// Why a text is not rewritten: the number of X3 where it has too many bytes, that of X5 where too many would come out,
+/// and 0 where places are asked for anywhere and a map is under `*` alone.
 #[repr(C)]
 #[derive(Clone, Copy)]
 pub struct RewriteRefusal {
@@ -83,8 +83,8 @@ pub extern "C" fn smap_rewrite(
     ensures counts { IfSome table.old.held (λ maps.
         result ≡ 0 → counts_seen counts.new
         ≡ counts_by (map_under false maps) (only_ignored hide_ignored) trace.now) }
-    ensures refused { IfSome table.old.held (λ maps. result ≡ 1 → (refusal : RewriteRefusal) × IsRefusedFor
-        (frames_alone hide_ignored) maps trace.now most_output_bytes refusal) }
+    ensures refused { IfSome table.old.held (λ maps. result ≡ 1 → (refusal : RewriteRefusal)
+        × IsRefusedFor (frames_alone hide_ignored) maps trace.now most_output_bytes refusal) }
     ensures fits { IfSome table.old.held (λ maps. result ≡ 0 → (length trace.now ≤ most_text_bytes)
         × (length (rewritten_by (map_under false maps) (only_ignored hide_ignored) trace.now)
         ≤ most_output_bytes)) }
@@ -103,8 +103,8 @@ pub extern "C" fn smap_rewrite(
 
 /// Rewrites a text: a place `URL:line:column`, wherever it stands in a line, whose URL has a map in the table and which has
 /// an original gets it in its stead, and every other byte stays. A text of more than 1,073,741,824 bytes is refused, one of
-/// which more would come out, and any where the table has a map under `*` alone. `bytes` and `counts`, which has places in place of frames, are written where
-/// the text was rewritten.
+/// which more would come out, and any where the table has a map under `*` alone. `bytes` and `counts`, which has places in
+/// place of frames, are written where the text was rewritten.
 #[unsafe(no_mangle)]
 pub extern "C" fn smap_rewrite_anywhere(
     alloc: Global,
@@ -118,8 +118,8 @@ pub extern "C" fn smap_rewrite_anywhere(
         result ≡ 0 → bytes.new.held ≡ Some (placed_by maps text.now)) }
     ensures counts { IfSome table.old.held (λ maps.
         result ≡ 0 → counts_seen counts.new ≡ place_counts_by maps text.now) }
-    ensures refused { IfSome table.old.held (λ maps. result ≡ 1 → (refusal : RewriteRefusal) × IsRefusedFor
-        places_alone maps text.now most_output_bytes refusal) }
+    ensures refused { IfSome table.old.held (λ maps. result ≡ 1 → (refusal : RewriteRefusal)
+        × IsRefusedFor places_alone maps text.now most_output_bytes refusal) }
     ensures sound { IfSome table.old.held (λ maps. has_map_of_all maps ≡ true → result ≡ 1) }
     ensures fits { IfSome table.old.held (λ maps. result ≡ 0 → (length text.now ≤ most_text_bytes)
         × (length (placed_by maps text.now) ≤ most_output_bytes)) }
@@ -153,8 +153,8 @@ pub extern "C" fn smap_rewrite_with(
         result ≡ 0 → bytes.new.held ≡ Some (text_with options.now maps text.now)) }
     ensures counts { IfSome table.old.held (λ maps.
         result ≡ 0 → counts_seen counts.new ≡ counts_with options.now maps text.now) }
-    ensures refused { IfSome table.old.held (λ maps. result ≡ 1 → (refusal : RewriteRefusal) × IsRefusedFor
-        options.now maps text.now most_output_bytes refusal) }
+    ensures refused { IfSome table.old.held (λ maps. result ≡ 1 → (refusal : RewriteRefusal)
+        × IsRefusedFor options.now maps text.now most_output_bytes refusal) }
     ensures sound { IfSome table.old.held (λ maps.
         is_for_all options.now maps ≡ true → result ≡ 1) }
     ensures fits { IfSome table.old.held (λ maps. result ≡ 0 →
