@@ -49,7 +49,7 @@ class Place(NamedTuple):
     column: int
     name: Optional[str]
     ignored: bool
-    index: int
+    index: int  # type: ignore[assignment]
 
 
 class Context(NamedTuple):
