@@ -11,10 +11,6 @@ use Rattle.smap_lines.specs.Private.Passage.{IsThrough, Now, TakesEditedFront}
 use Rattle.smap_lines.specs.declared.fault.LineFault.TheVariants.{Read, Write, TooMuch}
 use Rattle.smap_lines.proofs.ThroughLaws.{through_ahead, through_read, through_whole}
 
-pub gives_none : (left : Option (List ℕ)) → Gives left left []
-gives_none None = refl
-gives_none (Some bytes) = refl
-
 pub gives_both : (old mid new : Option (List ℕ)) (first second : List ℕ) → Gives old mid first → Gives mid new second → Gives old new (first ++ second)
 gives_both old mid None first second p q = p ∙ ap (prepend_known first) q
 gives_both old mid (Some bytes) first second p q = p ∙ ap (prepend_known first) q ∙ ap Some (sym (append_assoc first second bytes))

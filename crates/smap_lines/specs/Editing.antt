@@ -1,12 +1,12 @@
 -- What editing a text line by line does to its devices.
-use Rattle.std.specs.Prelude.{◌≡◌, ◌↔◌, ◌<◌, ◌≤◌, ℕ, Bool, true, false, List, ◌++◌, length, Result, Ok, Err}
+use Rattle.std.specs.Prelude.{◌≡◌, ◌↔◌, ◌<◌, ◌≤◌, ℕ, List, ◌++◌, length}
 use Rattle.std.specs.Io.KnownBytes.{IsAtEnd}
 use Rattle.smap_io.specs.Device.{Gives, SinkSeen, SourceSeen, Takes}
 use Rattle.smap_lines.specs.Edited.{IsEdited, StepsText, edited, long_lines}
 use Rattle.smap_lines.specs.Lines.{IsWholeLines, Line, lines_with_ends}
 use Rattle.smap_lines.specs.declared.counts.LineCounts.{LineCounts}
 use Rattle.smap_lines.specs.declared.fault.LineFault.{LineFault}
-use Rattle.smap_lines.specs.declared.fault.LineFault.TheVariants.{Read, Write, TooMuch, Memory}
+use Rattle.smap_lines.specs.declared.fault.LineFault.TheVariants.{Read, TooMuch}
 
 -- what an input and an output show
 pub record DevicesSeen : Type 0 where
@@ -65,19 +65,3 @@ pub record EditsFrontInto (Becomes : Line → List ℕ → Type 0) (most : ℕ) 
   pub many : (fault ≡ TooMuch) ↔ (most < length bytes)
   pub whole : fault ≡ Read → (first rest : List ℕ) → bytes ≡ first ++ rest → IsWholeLines first
       → (text : List ℕ) × (more : List ℕ) × IsEdited Becomes first text × (written ≡ text ++ more)
-
--- ---- whether the input failed, and whether the output did
-
-abbrev pub is_read_fault : {A : Type 0} → Result A LineFault → Bool
-is_read_fault (Ok done) = false
-is_read_fault (Err Read) = true
-is_read_fault (Err Write) = false
-is_read_fault (Err TooMuch) = false
-is_read_fault (Err Memory) = false
-
-abbrev pub is_write_fault : {A : Type 0} → Result A LineFault → Bool
-is_write_fault (Ok done) = false
-is_write_fault (Err Read) = false
-is_write_fault (Err Write) = true
-is_write_fault (Err TooMuch) = false
-is_write_fault (Err Memory) = false

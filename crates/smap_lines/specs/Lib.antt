@@ -4,6 +4,7 @@ pub mod Bytes
 pub mod Numbers
 pub mod Edited
 pub mod Editing
+pub mod RunEnds
 pub mod Gathered
 pub mod Codes
 pub mod Private

@@ -1,7 +1,7 @@
 //! Editing a text while it is read.
-ghost use Rattle.std.specs.Prelude.{◌≡◌, ◌<◌, ◌≤◌, ◌^◌, false, IfErr, IfOk};
-ghost use Rattle.smap_lines.specs.Editing.{EditsFrontInto, EditsInto, devices_seen, is_read_fault, is_write_fault};
-ghost use Rattle.smap_lines.specs.declared.fault.LineFault.TheVariants.{Memory};
+ghost use Rattle.std.specs.Prelude.{◌≡◌, ◌<◌, ◌^◌, false};
+ghost use Rattle.smap_lines.specs.Editing.{EditsFrontInto, EditsInto};
+ghost use Rattle.smap_lines.specs.RunEnds.{RunEnds};
 
 use crate::counts::LineCounts;
 use crate::editor::LineEditor;
@@ -37,17 +37,10 @@ pub fn edit_lines<R: ByteSource, W: ByteSink, E: LineEditor>(
     requires output_works { (W.seen output.old).failed ≡ false }
     requires room { most < E.room editor.old }
     requires countable { most < 2 ^ 63 }
-    ensures edits { IfOk result (EditsInto E.Steps most
-        (devices_seen (R.seen input.old) (W.seen output.old))
-        (devices_seen (R.seen input.new) (W.seen output.new)) editor.old editor.new) }
-    ensures front { IfErr result (λ fault. EditsFrontInto (E.Becomes editor.old) most
-        (devices_seen (R.seen input.old) (W.seen output.old))
-        (devices_seen (R.seen input.new) (W.seen output.new)) fault) }
+    ensures ends { RunEnds R.seen W.seen input.old input.new output.old output.new
+        (λ before after. EditsInto E.Steps most before after editor.old editor.new)
+        (EditsFrontInto (E.Becomes editor.old) most) result }
     ensures reaches { E.Reaches editor.old editor.new }
-    ensures input_failure { (R.seen input.new).failed ≡ is_read_fault result }
-    ensures output_failure { (W.seen output.new).failed ≡ is_write_fault result }
-    ensures memory_input { IfErr result (λ fault. fault ≡ Memory → input.new ≡ input.old) }
-    ensures memory_output { IfErr result (λ fault. fault ≡ Memory → output.new ≡ output.old) }
 {
     let (Ok(mut line), Ok(mut gathered)) = (OpenLine::new(alloc), Gathered::new(alloc)) else {
         return Err(LineFault::Memory);

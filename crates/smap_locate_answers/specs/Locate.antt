@@ -2,7 +2,8 @@
 -- lines over a store of maps, and says what that came to. The status is the greatest of all that was reported.
 use Rattle.std.specs.Prelude.{◌≡◌, ℕ, ◌+◌, Bool, false, List, [], Option, Result, Ok, Err, length, map, max, option_copied}
 use Rattle.url.specs.Parts.{Parts}
-use Rattle.smap_lines.specs.Editing.{DevicesSeen, EditsFrontInto, EditsInto, devices_seen, is_read_fault}
+use Rattle.smap_lines.specs.Editing.{DevicesSeen, EditsFrontInto, EditsInto, devices_seen}
+use Rattle.smap_lines.specs.RunEnds.{is_read_fault}
 use Rattle.smap_lines.specs.Limits.{most_text_bytes}
 use Rattle.smap_lines.specs.declared.counts.LineCounts.{LineCounts}
 use Rattle.smap_lines.specs.declared.fault.LineFault.{LineFault}

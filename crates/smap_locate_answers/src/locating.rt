@@ -1,8 +1,8 @@
 //! Answering the places on standard input over files and folders of maps.
-ghost use Rattle.std.specs.Prelude.{◌≡◌, false, option_copied, IfErr, IfOk};
-ghost use Rattle.smap_lines.specs.Editing.{EditsFrontInto, EditsInto, devices_seen, is_read_fault, is_write_fault};
+ghost use Rattle.std.specs.Prelude.{◌≡◌, false, option_copied};
+ghost use Rattle.smap_lines.specs.Editing.{EditsFrontInto, EditsInto};
 ghost use Rattle.smap_lines.specs.Limits.{most_text_bytes};
-ghost use Rattle.smap_lines.specs.declared.fault.LineFault.TheVariants.{Memory};
+ghost use Rattle.smap_lines.specs.RunEnds.{RunEnds, is_write_fault};
 ghost use Rattle.smap_locate_answers.specs.Asked.{asked_of};
 ghost use Rattle.smap_locate_answers.specs.Locate.{EndsLocating, IsOverStore, RunsLocate, request_seen};
 ghost use Rattle.smap_locate_answers.specs.Locating.{BecomesAnswer, LocateStep};
@@ -173,21 +173,15 @@ fn locate_text<L: MapLoader, R: ByteSource, W: ByteSink>(
 ) -> Result<LineCounts, LineFault>
     requires input_works { (R.seen input.old).failed ≡ false }
     requires output_works { (W.seen output.old).failed ≡ false }
-    ensures locates { IfOk result (EditsInto (LocateStep (FindsIn L.Loads) options) most_text_bytes
-        (devices_seen (R.seen input.old) (W.seen output.old))
-        (devices_seen (R.seen input.new) (W.seen output.new))
-        (store_of sources.now cache.old loader.old) (store_of sources.now cache.new loader.new)) }
-    ensures front { IfErr result (EditsFrontInto
-        (BecomesAnswer (GivesIn L.MayLoad (store_of sources.now cache.old loader.old)) options)
-        most_text_bytes
-        (devices_seen (R.seen input.old) (W.seen output.old))
-        (devices_seen (R.seen input.new) (W.seen output.new))) }
+    ensures ends { RunEnds R.seen W.seen input.old input.new output.old output.new
+        (λ before after. EditsInto (LocateStep (FindsIn L.Loads) options) most_text_bytes
+        before after (store_of sources.now cache.old loader.old)
+        (store_of sources.now cache.new loader.new))
+        (EditsFrontInto (BecomesAnswer
+        (GivesIn L.MayLoad (store_of sources.now cache.old loader.old)) options)
+        most_text_bytes) result }
     ensures looked { Looked (FindsIn L.Loads) (store_of sources.now cache.old loader.old)
         (store_of sources.now cache.new loader.new) }
-    ensures input_failure { (R.seen input.new).failed ≡ is_read_fault result }
-    ensures output_failure { (W.seen output.new).failed ≡ is_write_fault result }
-    ensures memory_input { IfErr result (λ fault. fault ≡ Memory → input.new ≡ input.old) }
-    ensures memory_output { IfErr result (λ fault. fault ≡ Memory → output.new ≡ output.old) }
 {
     let MapSources { words, locations } = sources;
     let mut locator = Locator {

@@ -6,7 +6,7 @@ use Rattle.smap_lines.specs.Editing.{DevicesSeen, EditsFront, devices_seen}
 use Rattle.smap_lines.specs.Laws.Put.{takes_none}
 use Rattle.smap_lines.specs.Limits.{most_text_bytes}
 use Rattle.smap_lines.specs.declared.fault.LineFault.TheVariants.{Write, Memory}
-use Rattle.smap_lines.proofs.EditingLaws.{gives_none}
+use Rattle.smap_lines.specs.Laws.RunEnds.{gives_none}
 use Rattle.smap_positions.specs.Answering.{AnswersPositions}
 use Rattle.smap_positions.specs.Positions.{answered_line}
 use Rattle.smap_positions.specs.declared.options.AnswerOptions.{AnswerOptions}

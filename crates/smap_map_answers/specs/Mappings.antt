@@ -1,7 +1,7 @@
 -- What `mappings` prints.
 use Rattle.std.specs.Prelude.{◌≡◌, ℕ, ◌⊎◌, true, List, Option, Result, Ok, Err, []}
 use Rattle.smap_io.specs.Device.{SinkSeen, Takes, TakesFront}
-use Rattle.smap_lines.specs.Editing.{is_write_fault}
+use Rattle.smap_lines.specs.RunEnds.{is_write_fault}
 use Rattle.smap_lines.specs.declared.fault.LineFault.{LineFault}
 use Rattle.smap_lines.specs.declared.fault.LineFault.TheVariants.{Write, Memory}
 use Rattle.smap_record.specs.Record.{MapRecord}

@@ -1,7 +1,8 @@
 -- What `positions` prints.
 use Rattle.std.specs.Prelude.{◌≡◌, ℕ, ◌==◌, ◌⊎◌, true, List, Option, Some, None, Result, Ok, Err, [], if◌then◌else◌}
 use Rattle.smap_codes.specs.declared.code.Code.TheVariants.{P1, P2}
-use Rattle.smap_lines.specs.Editing.{DevicesSeen, EditsFront, is_read_fault, is_write_fault}
+use Rattle.smap_lines.specs.Editing.{DevicesSeen, EditsFront}
+use Rattle.smap_lines.specs.RunEnds.{is_read_fault, is_write_fault}
 use Rattle.smap_lines.specs.Limits.{most_text_bytes}
 use Rattle.smap_lines.specs.declared.fault.LineFault.{LineFault}
 use Rattle.smap_lines.specs.declared.fault.LineFault.TheVariants.{TooMuch, Memory}

@@ -28,10 +28,6 @@ use Rattle.smap_places.proofs.ThroughLaws.{took_both}
 
 -- ---- bytes that a source gives
 
-pub gives_none : (left : Option (List ℕ)) → Gives left left []
-gives_none None = refl
-gives_none (Some bytes) = refl
-
 prepend_both : (first second : List ℕ) (left : Option (List ℕ)) → prepend_known first (prepend_known second left) ≡ prepend_known (first ++ second) left
 prepend_both first second None = refl
 prepend_both first second (Some bytes) = ap Some (sym (append_assoc first second bytes))

@@ -1,6 +1,7 @@
 //! Rewriting the places of a text.
 ghost use Rattle.std.specs.Prelude.{◌≡◌, ◌<◌, ◌≤◌, ◌+◌, ◌^◌, [], false, true, IfErr, IfOk, IfSome};
-ghost use Rattle.smap_lines.specs.Editing.{devices_seen, is_read_fault, is_write_fault};
+ghost use Rattle.smap_lines.specs.Editing.{devices_seen};
+ghost use Rattle.smap_lines.specs.RunEnds.{RunEnds};
 ghost use Rattle.smap_lines.specs.declared.fault.LineFault.TheVariants.{Memory};
 ghost use Rattle.smap_places.specs.PlaceAt.{place_at};
 ghost use Rattle.smap_places.specs.PlacesBeside.{FindsBeside, GivesBeside, found_beside};
@@ -45,16 +46,9 @@ pub fn rewrite_places<R: ByteSource, W: ByteSink>(
     requires input_works { (R.seen input.old).failed ≡ false }
     requires output_works { (W.seen output.old).failed ≡ false }
     requires most_bytes { most_bytes < 2 ^ 63 }
-    ensures rewrites { IfOk result (λ summary. RewritesPlaces
-        (devices_seen (R.seen input.old) (W.seen output.old))
-        (devices_seen (R.seen input.new) (W.seen output.new)) table.now most_bytes summary) }
-    ensures front { IfErr result (λ fault. RewritesPlacesFront
-        (devices_seen (R.seen input.old) (W.seen output.old))
-        (devices_seen (R.seen input.new) (W.seen output.new)) table.now most_bytes fault) }
-    ensures input_failure { (R.seen input.new).failed ≡ is_read_fault result }
-    ensures output_failure { (W.seen output.new).failed ≡ is_write_fault result }
-    ensures memory_input { IfErr result (λ fault. fault ≡ Memory → input.new ≡ input.old) }
-    ensures memory_output { IfErr result (λ fault. fault ≡ Memory → output.new ≡ output.old) }
+    ensures ends { RunEnds R.seen W.seen input.old input.new output.old output.new
+        (λ before after. RewritesPlaces before after table.now most_bytes)
+        (λ before after. RewritesPlacesFront before after table.now most_bytes) result }
 {
     let locations = Locations::new(alloc);
     let none = Table::new(alloc);
@@ -80,19 +74,13 @@ pub fn rewrite_places_over<R: ByteSource, W: ByteSink, M: Maps>(
     requires input_works { (R.seen input.old).failed ≡ false }
     requires output_works { (W.seen output.old).failed ≡ false }
     requires most_bytes { most_bytes < 2 ^ 63 }
-    ensures rewrites { IfOk result (RewritesPlacesOver (FindsBeside finder.now.table M.Finds)
-        (found_beside finder.now.table M.found) (place_at finder.now) most_bytes
-        (devices_seen (R.seen input.old) (W.seen output.old))
-        (devices_seen (R.seen input.new) (W.seen output.new)) maps.old maps.new) }
-    ensures front { IfErr result (RewritesPlacesFrontOver
-        (GivesBeside finder.now.table M.Gives maps.old) (place_at finder.now) most_bytes
-        (devices_seen (R.seen input.old) (W.seen output.old))
-        (devices_seen (R.seen input.new) (W.seen output.new))) }
+    ensures ends { RunEnds R.seen W.seen input.old input.new output.old output.new
+        (λ before after. RewritesPlacesOver (FindsBeside finder.now.table M.Finds)
+        (found_beside finder.now.table M.found) (place_at finder.now) most_bytes before after
+        maps.old maps.new)
+        (RewritesPlacesFrontOver (GivesBeside finder.now.table M.Gives maps.old)
+        (place_at finder.now) most_bytes) result }
     ensures looked { Looked (FindsBeside finder.now.table M.Finds) maps.old maps.new }
-    ensures input_failure { (R.seen input.new).failed ≡ is_read_fault result }
-    ensures output_failure { (W.seen output.new).failed ≡ is_write_fault result }
-    ensures memory_input { IfErr result (λ fault. fault ≡ Memory → input.new ≡ input.old) }
-    ensures memory_output { IfErr result (λ fault. fault ≡ Memory → output.new ≡ output.old) }
     ensures memory_maps { IfErr result (λ fault. fault ≡ Memory → maps.new ≡ maps.old) }
 {
     let mut notes = UrlNotes::new(alloc);
@@ -129,25 +117,19 @@ pub fn rewrite_places_noting<R: ByteSource, W: ByteSink, M: Maps>(
     requires most_bytes { most_bytes < 2 ^ 63 }
     requires unnoted { notes_seen notes.old ≡ record { notes = []; is_short = false } }
     requires no_others { notes_seen others.old ≡ record { notes = []; is_short = false } }
-    ensures rewrites { IfOk result (RewritesPlacesOver (FindsBeside finder.now.table M.Finds)
-        (found_beside finder.now.table M.found) (place_at finder.now) most_bytes
-        (devices_seen (R.seen input.old) (W.seen output.old))
-        (devices_seen (R.seen input.new) (W.seen output.new)) maps.old maps.new) }
+    ensures ends { RunEnds R.seen W.seen input.old input.new output.old output.new
+        (λ before after. RewritesPlacesOver (FindsBeside finder.now.table M.Finds)
+        (found_beside finder.now.table M.found) (place_at finder.now) most_bytes before after
+        maps.old maps.new)
+        (RewritesPlacesFrontOver (GivesBeside finder.now.table M.Gives maps.old)
+        (place_at finder.now) most_bytes) result }
     ensures noted { is_noted ≡ true → IfOk result (λ summary. RewritesPlacesNoted
         (FindsBeside finder.now.table M.Finds)
         (found_beside finder.now.table M.found) (place_at finder.now) (knows finder.now) most_bytes
         (devices_seen (R.seen input.old) (W.seen output.old))
         (devices_seen (R.seen input.new) (W.seen output.new)) maps.old maps.new summary
         (notes_seen notes.new) (notes_seen others.new)) }
-    ensures front { IfErr result (RewritesPlacesFrontOver
-        (GivesBeside finder.now.table M.Gives maps.old) (place_at finder.now) most_bytes
-        (devices_seen (R.seen input.old) (W.seen output.old))
-        (devices_seen (R.seen input.new) (W.seen output.new))) }
     ensures looked { Looked (FindsBeside finder.now.table M.Finds) maps.old maps.new }
-    ensures input_failure { (R.seen input.new).failed ≡ is_read_fault result }
-    ensures output_failure { (W.seen output.new).failed ≡ is_write_fault result }
-    ensures memory_input { IfErr result (λ fault. fault ≡ Memory → input.new ≡ input.old) }
-    ensures memory_output { IfErr result (λ fault. fault ≡ Memory → output.new ≡ output.old) }
     ensures memory_maps { IfErr result (λ fault. fault ≡ Memory → maps.new ≡ maps.old) }
 {
     let Some((reach, kept, size)) = room_of(finder, is_noted) else {

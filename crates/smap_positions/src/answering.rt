@@ -1,8 +1,8 @@
 //! Answering a text of positions.
-ghost use Rattle.std.specs.Prelude.{◌≡◌, false, IfErr, IfOk};
-ghost use Rattle.smap_lines.specs.Editing.{EditsFront, devices_seen, is_read_fault, is_write_fault};
+ghost use Rattle.std.specs.Prelude.{◌≡◌, false};
+ghost use Rattle.smap_lines.specs.Editing.{EditsFront};
 ghost use Rattle.smap_lines.specs.Limits.{most_text_bytes};
-ghost use Rattle.smap_lines.specs.declared.fault.LineFault.TheVariants.{Memory};
+ghost use Rattle.smap_lines.specs.RunEnds.{RunEnds};
 ghost use Rattle.smap_positions.specs.Answering.{AnswersPositions};
 ghost use Rattle.smap_positions.specs.Positions.{answered_line};
 
@@ -41,18 +41,9 @@ pub fn answer_positions<R: ByteSource, W: ByteSink>(
 ) -> Result<PositionsSummary, LineFault>
     requires input_works { (R.seen input.old).failed ≡ false }
     requires output_works { (W.seen output.old).failed ≡ false }
-    ensures answers { IfOk result (λ summary. AnswersPositions
-        (devices_seen (R.seen input.old) (W.seen output.old))
-        (devices_seen (R.seen input.new) (W.seen output.new))
-        map.now.stated options summary) }
-    ensures front { IfErr result (λ fault. EditsFront
-        (answered_line map.now.stated options) most_text_bytes
-        (devices_seen (R.seen input.old) (W.seen output.old))
-        (devices_seen (R.seen input.new) (W.seen output.new)) fault) }
-    ensures input_failure { (R.seen input.new).failed ≡ is_read_fault result }
-    ensures output_failure { (W.seen output.new).failed ≡ is_write_fault result }
-    ensures memory_input { IfErr result (λ fault. fault ≡ Memory → input.new ≡ input.old) }
-    ensures memory_output { IfErr result (λ fault. fault ≡ Memory → output.new ≡ output.old) }
+    ensures ends { RunEnds R.seen W.seen input.old input.new output.old output.new
+        (λ before after. AnswersPositions before after map.now.stated options)
+        (EditsFront (answered_line map.now.stated options) most_text_bytes) result }
 {
     let mut answerer = PositionAnswerer {
         alloc,

@@ -1,7 +1,7 @@
 //! Printing the mappings of a map.
 ghost use Rattle.std.specs.Prelude.{◌≡◌, ◌⊎◌, [], false, true, IfErr, IfSome, OnErr, OnOk, if◌then◌else◌, nat_lt};
 ghost use Rattle.smap_io.specs.Device.{Takes, TakesFront};
-ghost use Rattle.smap_lines.specs.Editing.{is_write_fault};
+ghost use Rattle.smap_lines.specs.RunEnds.{is_write_fault};
 ghost use Rattle.smap_lines.specs.LineOutput.{IsPut};
 ghost use Rattle.smap_lines.specs.declared.fault.LineFault.TheVariants.{Memory, Write};
 ghost use Rattle.smap_positions.specs.Mappings.{is_on_line, line_with, mappings_text, printed_mapping};

@@ -3,6 +3,7 @@ use Rattle.std.specs.Prelude.{◌≡◌, ◌⊎◌, ℕ, Bool, true, false, List
 use Rattle.std.specs.Option.{IsSomeAnd, option_or}
 use Rattle.std.proofs.Common.{ap, inl, inr, refl, subst, sym, ◌∙◌}
 use Rattle.smap_lines.specs.Editing.{DevicesSeen}
+use Rattle.smap_lines.specs.Laws.RunEnds as unread
 use Rattle.smap_lines.specs.declared.fault.LineFault.TheVariants.{Memory}
 use Rattle.smap_locations.specs.Locations.{key_for, path_for}
 use Rattle.smap_places.specs.Places.{PlaceUrl}
@@ -19,8 +20,7 @@ use Rattle.smap_store.specs.StoredMaps.{IsSameStore, same_store_on, same_store_s
 use Rattle.smap_store.specs.declared.stored.StoredMaps.{StoredMaps}
 use Rattle.smap_trace.specs.Hiding.{HidingSeen}
 use Rattle.smap_trace.specs.Laws.Seen.{looked_seen}
-use Rattle.smap_trace.specs.Laws.Unread as unread
-use Rattle.smap_trace.specs.Rewriting.{Looked}
+use Rattle.smap_trace.specs.Rewriting.{BecomesFrame, Looked}
 use Rattle.smap_trace.specs.UrlNotes.{NotesSeen}
 use Rattle.smap_trace.specs.declared.outcome.Summary.{Summary}
 use Rattle.smap_text_answers.specs.RewriteFrom.{RewritesTextFront}
@@ -38,7 +38,7 @@ when_off false P Q is holds = holds
 pub text_front_of_none : (anywhere : Bool) (Gives : (url : List ℕ) → Option MapRecord → Type 0) (begins : List ℕ → List ℕ → Option PlaceUrl) (hide : HidingSeen)
     (most : ℕ) (now : DevicesSeen) → RewritesTextFront anywhere Gives begins hide most now now Memory
 text_front_of_none true Gives begins hide most now = front_of_none Gives begins most now
-text_front_of_none false Gives begins hide most now = unread.front_of_none Gives hide most now
+text_front_of_none false Gives begins hide most now = unread.front_of_none (BecomesFrame Gives hide) most now
 
 -- a store, with these words in the stead of its own
 abbrev pub store : {L : Type 0} → List (List ℕ × MapRecord) → StoredMaps L → StoredSeen L

@@ -7,7 +7,8 @@ use Rattle.std.specs.List.{concat}
 use Rattle.url.specs.Parts.{Parts}
 use Rattle.smap_codes.specs.declared.code.Code.{Code}
 use Rattle.smap_io.specs.Device.{SinkSeen}
-use Rattle.smap_lines.specs.Editing.{DevicesSeen, devices_seen, is_read_fault}
+use Rattle.smap_lines.specs.Editing.{DevicesSeen, devices_seen}
+use Rattle.smap_lines.specs.RunEnds.{is_read_fault}
 use Rattle.smap_lines.specs.declared.fault.LineFault.{LineFault}
 use Rattle.smap_lines.specs.declared.fault.LineFault.TheVariants as fault
 use Rattle.smap_places.specs.Places.{PlaceUrl}

@@ -5,7 +5,8 @@ use Rattle.url.specs.Parts.{Parts}
 use Rattle.smap_record.specs.Record.{MapRecord}
 use Rattle.smap_record.specs.declared.refusal.MapRefusal.{MapRefusal}
 use Rattle.smap_record.specs.declared.refusal.MapRefusal.TheVariants.{Url}
-use Rattle.smap_lines.specs.Editing.{DevicesSeen, is_read_fault, is_write_fault}
+use Rattle.smap_lines.specs.Editing.{DevicesSeen}
+use Rattle.smap_lines.specs.RunEnds.{is_read_fault, is_write_fault}
 use Rattle.smap_lines.specs.declared.fault.LineFault.{LineFault}
 use Rattle.smap_lines.specs.declared.fault.LineFault.TheVariants as fault
 use Rattle.smap_locations.specs.ListLine.{is_rule}

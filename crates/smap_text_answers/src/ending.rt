@@ -3,7 +3,7 @@ ghost use Rattle.std.specs.Prelude.{◌≡◌, string_bytes, IfOk};
 ghost use Rattle.smap_text_answers.specs.RewriteFrom.{ClosesWith, EndsFrom, Hints, ReportsShortage, ReportsSummary, has_passed, is_hinted};
 ghost use Rattle.smap_text_answers.specs.RewriteFrom.{maps_text, passed_text, request_seen, summary_line, trace_text};
 ghost use Rattle.smap_replies.specs.Streams.{sinks_seen};
-ghost use Rattle.smap_lines.specs.Editing.{is_write_fault};
+ghost use Rattle.smap_lines.specs.RunEnds.{is_write_fault};
 ghost use Rattle.smap_trace.specs.NotesSeen.{notes_seen};
 
 use crate::rewriting::{RewriteRequest, StoreEnd};

@@ -1,9 +1,9 @@
 //! Rewriting the stack trace on standard input over files and folders of maps, which are read when it names them.
-ghost use Rattle.std.specs.Prelude.{◌≡◌, ◌<◌, ◌^◌, [], false, true, option_copied, IfErr, IfOk};
+ghost use Rattle.std.specs.Prelude.{◌≡◌, ◌<◌, ◌^◌, [], false, true, option_copied, IfOk};
 ghost use Rattle.smap_text_answers.specs.RewriteFrom.{IsOverStore, RewritesFrom, RewritesText, RewritesTextFront, RewritesTextNoted, SaysUrls, known_of, most_passed, places_of, says_urls, request_seen, store_of};
 ghost use Rattle.smap_replies.specs.Streams.{streams_seen};
-ghost use Rattle.smap_lines.specs.Editing.{devices_seen, is_read_fault, is_write_fault};
-ghost use Rattle.smap_lines.specs.declared.fault.LineFault.TheVariants.{Memory};
+ghost use Rattle.smap_lines.specs.Editing.{devices_seen};
+ghost use Rattle.smap_lines.specs.RunEnds.{RunEnds, is_write_fault};
 ghost use Rattle.smap_store.specs.Stored.{FindsIn, GivesIn};
 ghost use Rattle.smap_trace.specs.Hiding.{hiding_seen};
 ghost use Rattle.smap_trace.specs.NotesSeen.{notes_seen};
@@ -232,13 +232,16 @@ fn rewrite_text<L: MapLoader, R: ByteSource, W: ByteSink>(
     requires input_works { (R.seen input.old).failed ≡ false }
     requires output_works { (W.seen output.old).failed ≡ false }
     requires limit { asked.now.options.most < 2 ^ 63 }
-    ensures rewrites { IfOk result (RewritesText asked.now.anywhere (FindsIn L.Loads)
+    ensures ends { RunEnds R.seen W.seen input.old input.new output.old output.new
+        (λ before after. RewritesText asked.now.anywhere (FindsIn L.Loads)
         (places_of asked.now.sources.now) asked.now.most_passed
-        (hiding_seen asked.now.options.hiding) asked.now.options.most
-        (devices_seen (R.seen input.old) (W.seen output.old))
-        (devices_seen (R.seen input.new) (W.seen output.new))
+        (hiding_seen asked.now.options.hiding) asked.now.options.most before after
         (store_of asked.now.sources.now cache.old loader.old)
-        (store_of asked.now.sources.now cache.new loader.new)) }
+        (store_of asked.now.sources.now cache.new loader.new))
+        (RewritesTextFront asked.now.anywhere
+        (GivesIn L.MayLoad (store_of asked.now.sources.now cache.old loader.old))
+        (places_of asked.now.sources.now) (hiding_seen asked.now.options.hiding)
+        asked.now.options.most) result }
     ensures noted { asked.now.explain ≡ true → IfOk result (λ counts.
         RewritesTextNoted asked.now.anywhere (FindsIn L.Loads) (places_of asked.now.sources.now)
         (known_of asked.now.sources.now) (hiding_seen asked.now.options.hiding)
@@ -248,18 +251,8 @@ fn rewrite_text<L: MapLoader, R: ByteSource, W: ByteSink>(
         (store_of asked.now.sources.now cache.old loader.old)
         (store_of asked.now.sources.now cache.new loader.new) counts
         (notes_seen notes.new) (notes_seen others.new)) }
-    ensures front { IfErr result (RewritesTextFront asked.now.anywhere
-        (GivesIn L.MayLoad (store_of asked.now.sources.now cache.old loader.old))
-        (places_of asked.now.sources.now)
-        (hiding_seen asked.now.options.hiding) asked.now.options.most
-        (devices_seen (R.seen input.old) (W.seen output.old))
-        (devices_seen (R.seen input.new) (W.seen output.new))) }
     ensures looked { Looked (FindsIn L.Loads) (store_of asked.now.sources.now cache.old loader.old)
         (store_of asked.now.sources.now cache.new loader.new) }
-    ensures input_failure { (R.seen input.new).failed ≡ is_read_fault result }
-    ensures output_failure { (W.seen output.new).failed ≡ is_write_fault result }
-    ensures memory_input { IfErr result (λ fault. fault ≡ Memory → input.new ≡ input.old) }
-    ensures memory_output { IfErr result (λ fault. fault ≡ Memory → output.new ≡ output.old) }
 {
     let (alloc, anywhere, options) = (asked.alloc, asked.anywhere, asked.options);
     let MapSources { words, locations } = asked.sources;

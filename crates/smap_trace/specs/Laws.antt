@@ -6,4 +6,3 @@ pub mod Rewriter
 pub mod NotingRewriter
 pub mod Noted
 pub mod Passed
-pub mod Unread

@@ -1,7 +1,7 @@
 //! Rewriting a trace.
-ghost use Rattle.std.specs.Prelude.{◌≡◌, ◌<◌, ◌+◌, ◌^◌, [], false, true, IfErr, IfOk};
-ghost use Rattle.smap_lines.specs.Editing.{devices_seen, is_read_fault, is_write_fault};
-ghost use Rattle.smap_lines.specs.declared.fault.LineFault.TheVariants.{Memory};
+ghost use Rattle.std.specs.Prelude.{◌≡◌, ◌<◌, ◌+◌, ◌^◌, [], false, true, IfOk};
+ghost use Rattle.smap_lines.specs.Editing.{devices_seen};
+ghost use Rattle.smap_lines.specs.RunEnds.{RunEnds};
 ghost use Rattle.smap_trace.specs.Hiding.{hiding_seen};
 ghost use Rattle.smap_trace.specs.Noted.{RewritesNoted};
 ghost use Rattle.smap_trace.specs.Passed.{RewritesPassing};
@@ -38,16 +38,9 @@ pub fn rewrite<R: ByteSource, W: ByteSink>(
 ) -> Result<Summary, RewriteFault>
     requires input_works { (R.seen input.old).failed ≡ false }
     requires output_works { (W.seen output.old).failed ≡ false }
-    ensures rewrites { IfOk result (λ summary. Rewrites
-        (devices_seen (R.seen input.old) (W.seen output.old))
-        (devices_seen (R.seen input.new) (W.seen output.new)) table.now hide_ignored summary) }
-    ensures front { IfErr result (λ fault. RewritesFront
-        (devices_seen (R.seen input.old) (W.seen output.old))
-        (devices_seen (R.seen input.new) (W.seen output.new)) table.now hide_ignored fault) }
-    ensures input_failure { (R.seen input.new).failed ≡ is_read_fault result }
-    ensures output_failure { (W.seen output.new).failed ≡ is_write_fault result }
-    ensures memory_input { IfErr result (λ fault. fault ≡ Memory → input.new ≡ input.old) }
-    ensures memory_output { IfErr result (λ fault. fault ≡ Memory → output.new ≡ output.old) }
+    ensures ends { RunEnds R.seen W.seen input.old input.new output.old output.new
+        (λ before after. Rewrites before after table.now hide_ignored)
+        (λ before after. RewritesFront before after table.now hide_ignored) result }
 {
     let mut maps = TableMaps(table);
     let options = RewriteOptions {
@@ -90,20 +83,13 @@ pub fn rewrite_over<R: ByteSource, W: ByteSink, M: Maps>(
     requires input_works { (R.seen input.old).failed ≡ false }
     requires output_works { (W.seen output.old).failed ≡ false }
     requires most { options.most < 2 ^ 63 }
-    ensures rewrites { IfOk result (RewritesOver M.Finds M.found
-        (hiding_seen options.entry.hiding) options.entry.most
-        (devices_seen (R.seen input.old) (W.seen output.old))
-        (devices_seen (R.seen input.new) (W.seen output.new)) maps.old maps.new) }
+    ensures ends { RunEnds R.seen W.seen input.old input.new output.old output.new
+        (λ before after. RewritesOver M.Finds M.found (hiding_seen options.entry.hiding)
+        options.entry.most before after maps.old maps.new)
+        (RewritesFrontOver (M.Gives maps.old) (hiding_seen options.entry.hiding)
+        options.entry.most) result }
     ensures passed { IfOk result (λ counts. counts.passed ≡ 0) }
-    ensures front { IfErr result (RewritesFrontOver (M.Gives maps.old)
-        (hiding_seen options.entry.hiding) options.entry.most
-        (devices_seen (R.seen input.old) (W.seen output.old))
-        (devices_seen (R.seen input.new) (W.seen output.new))) }
     ensures looked { Looked M.Finds maps.old maps.new }
-    ensures input_failure { (R.seen input.new).failed ≡ is_read_fault result }
-    ensures output_failure { (W.seen output.new).failed ≡ is_write_fault result }
-    ensures memory_input { IfErr result (λ fault. fault ≡ Memory → input.new ≡ input.old) }
-    ensures memory_output { IfErr result (λ fault. fault ≡ Memory → output.new ≡ output.old) }
 {
     let RewriteOptions { hiding, most } = options;
     let mut remembered = Remembered::new(alloc);
@@ -136,24 +122,18 @@ pub fn rewrite_noting<R: ByteSource, W: ByteSink, M: Maps, P: PlaceCounter>(
     requires output_works { (W.seen output.old).failed ≡ false }
     requires most { options.most < 2 ^ 63 }
     requires unnoted { notes_seen notes.old ≡ record { notes = []; is_short = false } }
-    ensures rewrites { IfOk result (RewritesPassing M.Finds M.found (P.count asked.now.places.now)
-        asked.now.most_passed (hiding_seen options.entry.hiding) options.entry.most
-        (devices_seen (R.seen input.old) (W.seen output.old))
-        (devices_seen (R.seen input.new) (W.seen output.new)) maps.old maps.new) }
+    ensures ends { RunEnds R.seen W.seen input.old input.new output.old output.new
+        (λ before after. RewritesPassing M.Finds M.found (P.count asked.now.places.now)
+        asked.now.most_passed (hiding_seen options.entry.hiding) options.entry.most before after
+        maps.old maps.new)
+        (RewritesFrontOver (M.Gives maps.old) (hiding_seen options.entry.hiding)
+        options.entry.most) result }
     ensures notes { asked.now.is_noted ≡ true → IfOk result (λ counts. RewritesNoted M.Finds M.found
         (hiding_seen options.entry.hiding) options.entry.most
         (devices_seen (R.seen input.old) (W.seen output.old))
         (devices_seen (R.seen input.new) (W.seen output.new)) maps.old maps.new counts
         (notes_seen notes.new)) }
-    ensures front { IfErr result (RewritesFrontOver (M.Gives maps.old)
-        (hiding_seen options.entry.hiding) options.entry.most
-        (devices_seen (R.seen input.old) (W.seen output.old))
-        (devices_seen (R.seen input.new) (W.seen output.new))) }
     ensures looked { Looked M.Finds maps.old maps.new }
-    ensures input_failure { (R.seen input.new).failed ≡ is_read_fault result }
-    ensures output_failure { (W.seen output.new).failed ≡ is_write_fault result }
-    ensures memory_input { IfErr result (λ fault. fault ≡ Memory → input.new ≡ input.old) }
-    ensures memory_output { IfErr result (λ fault. fault ≡ Memory → output.new ≡ output.old) }
 {
     let RewriteOptions { hiding, most } = options;
     let mut remembered = Remembered::new(alloc);

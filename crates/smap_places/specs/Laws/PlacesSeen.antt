@@ -1,10 +1,10 @@
 -- Laws of rewriting places over maps of which only some is seen: what is seen goes the same way, if looking for a map is seen so.
-use Rattle.std.specs.Prelude.{◌≡◌, ◌+◌, ◌++◌, ℕ, Bool, List, [], ◌∷◌, Option, Some, None, is_some, if◌then◌else◌, unwrap_or}
+use Rattle.std.specs.Prelude.{◌≡◌, ◌+◌, ◌++◌, ℕ, Bool, List, [], ◌∷◌, Option, is_some, if◌then◌else◌, unwrap_or}
 use Rattle.std.specs.List.{FoldsTo}
 use Rattle.std.proofs.Common.{ap, arith, refl, subst, sym, ◌∙◌}
-use Rattle.smap_io.specs.Device.{Gives}
 use Rattle.smap_lines.specs.Editing.{DevicesSeen}
 use Rattle.smap_lines.specs.Laws.Put.{takes_none}
+use Rattle.smap_lines.specs.Laws.RunEnds.{gives_none}
 use Rattle.smap_lines.specs.declared.fault.LineFault.{LineFault}
 use Rattle.smap_lines.specs.declared.fault.LineFault.TheVariants.{Memory}
 use Rattle.smap_record.specs.Record.{MapRecord}
@@ -100,10 +100,6 @@ module _ (Gives More : (url : List ℕ) → Option MapRecord → Type 0) (gives 
         let so = is.whole read first rest cut lines in
         (so.0, so.1, parts_more (parts_of begins first) so.0 so.2, so.3);
   }
-
-gives_none : (left : Option (List ℕ)) → Gives left left []
-gives_none None = refl
-gives_none (Some bytes) = refl
 
 -- where nothing was read
 pub front_of_none : (Allows : (url : List ℕ) → Option MapRecord → Type 0) (begins : List ℕ → List ℕ → Option PlaceUrl) (most : ℕ) (now : DevicesSeen)

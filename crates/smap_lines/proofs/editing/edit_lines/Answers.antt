@@ -1,6 +1,7 @@
 use Rattle.std.proofs.Common.{◌≡◌, rules, ◌∙◌, ◌++◌, ◌+◌, [], arith, ap, refl, take, length-append, length-take, append-nil}
-use Rattle.smap_lines.proofs.EditingLaws.{gives_both, gives_none, read_fails, too_much, write_fails}
+use Rattle.smap_lines.proofs.EditingLaws.{gives_both, read_fails, too_much, write_fails}
 use Rattle.smap_lines.proofs.LineLaws.{few_long}
+use Rattle.smap_lines.specs.Laws.RunEnds.{ends_memory, ends_read, ends_too_much, ends_whole, ends_write, front_of_none, gives_none}
 use Rattle.smap_lines.specs.Laws.Step.{few_lines}
 use Rattle.smap_lines.proofs.ThroughLaws.{last_may, through_counted, through_end, through_end_front, through_few, through_last_front}
 use Rattle.smap_lines.proofs.ThroughLaws.{through_long, through_read, through_start}
@@ -23,21 +24,26 @@ loop-count-init g c = record {
   output_works = c.requires.output_works;
 }
 
-pub returns-in_default-read-clause-front : goal.returns-in_default-read-clause-front
-returns-in_default-read-clause-front g c =
+pub returns-in_default-clause-ends : goal.returns-in_default-clause-ends
+returns-in_default-clause-ends g c = ends_memory c.requires.input_works c.requires.output_works (front_of_none _ _ _)
+
+pub returns-in_default-read-clause-ends : goal.returns-in_default-read-clause-ends
+returns-in_default-read-clause-ends g c =
     let read = c.loop-count.invariant.read in
-    read_fails g.row.E.Denot g.E.LineEditor.Becomes g.E.LineEditor.Steps g.E.LineEditor.room g.met.E.LineEditor.became g.met.E.LineEditor.same
+    ends_read c.in_default-read.ensures.failure c.loop-count.invariant.output_works
+    (read_fails g.row.E.Denot g.E.LineEditor.Becomes g.E.LineEditor.Steps g.E.LineEditor.room g.met.E.LineEditor.became g.met.E.LineEditor.same
     g.met.E.LineEditor.room_for_one g.met.E.LineEditor.some
     c.args.editor.now _ _ _ read.0 _ (omega (arith, read.2, c.loop-count.invariant.fits)) read.3 c.loop-count.invariant.none refl
-    (rw c.in_default-read.ensures.keeps read.1)
+    (rw c.in_default-read.ensures.keeps read.1))
 
-pub returns-then-total-most-clause-front : goal.returns-then-total-most-clause-front
-returns-then-total-most-clause-front g c =
+pub returns-then-total-most-clause-ends : goal.returns-then-total-most-clause-ends
+returns-then-total-most-clause-ends g c =
     let read = c.loop-count.invariant.read in
-    too_much g.row.E.Denot g.E.LineEditor.Becomes g.E.LineEditor.Steps g.E.LineEditor.room g.met.E.LineEditor.became g.met.E.LineEditor.same
+    ends_too_much (c.in-Ok.ensures.no_failure ∙ c.loop-count.invariant.input_works) c.loop-count.invariant.output_works
+    (too_much g.row.E.Denot g.E.LineEditor.Becomes g.E.LineEditor.Steps g.E.LineEditor.room g.met.E.LineEditor.became g.met.E.LineEditor.same
     g.met.E.LineEditor.room_for_one g.met.E.LineEditor.some
     c.args.editor.now _ _ _ read.0 _ (take c.in-Ok.count c.read.new.room) read.3 refl (gives_both _ _ _ _ _ read.1 c.in-Ok.ensures.gives)
-    (omega (arith, read.2, c.if-total-most.true, c.in-Ok.ensures.fits, length-take c.in-Ok.count c.read.new.room))
+    (omega (arith, read.2, c.if-total-most.true, c.in-Ok.ensures.fits, length-take c.in-Ok.count c.read.new.room)))
 
 pub edit_bytes-requires-clause-countable : goal.edit_bytes-requires-clause-countable
 edit_bytes-requires-clause-countable g c =
@@ -84,17 +90,18 @@ loop-count-preserved g c =
       output_works = c.in-Ok-edit_bytes.ensures.no_failure ∙ c.loop-count.invariant.output_works;
     })
 
-pub returns-in_default-edit_bytes-clause-front : goal.returns-in_default-edit_bytes-clause-front
-returns-in_default-edit_bytes-clause-front g c =
+pub returns-in_default-edit_bytes-clause-ends : goal.returns-in_default-edit_bytes-clause-ends
+returns-in_default-edit_bytes-clause-ends g c =
     let read = c.loop-count.invariant.read in
     let bytes = take c.in-Ok.count c.read.new.room in
     let sink : c.output-1.given.0 ≡ c.edit_bytes.new.output.sink.now = search rules in
-    rw sink (write_fails _ _ _ _ (read.0 ++ bytes)
+    rw sink (ends_write (c.in-Ok.ensures.no_failure ∙ c.loop-count.invariant.input_works) c.in_default-edit_bytes.ensures.failure
+    (write_fails _ _ _ _ (read.0 ++ bytes)
     (omega (arith, read.2, length-append read.0 bytes, c.if-total-most.false, c.in-Ok.ensures.fits, length-take c.in-Ok.count c.read.new.room))
     (gives_both _ _ _ _ _ read.1 c.in-Ok.ensures.gives)
     (c.in_default-edit_bytes.ensures.front _ _ _
     (through_read g.row.E.Denot g.E.LineEditor.Becomes g.E.LineEditor.Steps g.E.LineEditor.room g.met.E.LineEditor.became g.met.E.LineEditor.same
-    g.met.E.LineEditor.room_for_one g.met.E.LineEditor.some _ _ read.0 bytes _ read.3)))
+    g.met.E.LineEditor.room_for_one g.met.E.LineEditor.some _ _ read.0 bytes _ read.3))))
 
 pub finish-requires : goal.finish-requires
 finish-requires g c =
@@ -103,15 +110,16 @@ finish-requires g c =
     g.met.E.LineEditor.room_for_one g.met.E.LineEditor.some _ _ read.0 [] _ read.3 in
     omega (arith, few, read.2, read.3.room_left, c.requires.room, c.loop-count.invariant.fits)
 
-pub returns-in_default-finish-clause-front : goal.returns-in_default-finish-clause-front
-returns-in_default-finish-clause-front g c =
+pub returns-in_default-finish-clause-ends : goal.returns-in_default-finish-clause-ends
+returns-in_default-finish-clause-ends g c =
     let read = c.loop-count.invariant.read in
     let gives = rw c.if-count-eq0.true at c.in-Ok.ensures.gives in
     let sink : c.output-in_default-finish-1.given.0 ≡ c.finish.new.output.sink.now = search rules in
-    rw sink (write_fails _ _ _ _ read.0 (omega (arith, read.2, c.loop-count.invariant.fits))
+    rw sink (ends_write (c.in-Ok.ensures.no_failure ∙ c.loop-count.invariant.input_works) c.in_default-finish.ensures.put.2.failed
+    (write_fails _ _ _ _ read.0 (omega (arith, read.2, c.loop-count.invariant.fits))
     (rw (append-nil read.0) at (gives_both _ _ _ _ [] read.1 gives))
     (through_last_front g.row.E.Denot g.E.LineEditor.Becomes g.E.LineEditor.Steps g.E.LineEditor.room g.met.E.LineEditor.became g.met.E.LineEditor.same
-    g.met.E.LineEditor.room_for_one g.met.E.LineEditor.some _ _ read.0 _ _ _ read.3 c.in_default-finish.ensures.put.1 c.in_default-finish.ensures.put.2.front))
+    g.met.E.LineEditor.room_for_one g.met.E.LineEditor.some _ _ read.0 _ _ _ read.3 c.in_default-finish.ensures.put.1 c.in_default-finish.ensures.put.2.front)))
 
 pub edit_bytes-requires-clause-few : goal.edit_bytes-requires-clause-few
 edit_bytes-requires-clause-few g c =
@@ -137,8 +145,8 @@ overflow_add-result-in-Ok-write g c =
     let last = ap (λ counts. counts.long) c.in-Ok-finish.ensures.counts in
     omega (arith, counted.1, last, few_long read.0, few_lines read.0, read.2, c.loop-count.invariant.fits, c.requires.countable)
 
-pub returns-in-Ok-write-clause-edits : goal.returns-in-Ok-write-clause-edits
-returns-in-Ok-write-clause-edits g c =
+pub returns-in-Ok-write-clause-ends : goal.returns-in-Ok-write-clause-ends
+returns-in-Ok-write-clause-ends g c =
     let read = c.loop-count.invariant.read in
     let gives = rw c.if-count-eq0.true at c.in-Ok.ensures.gives in
     let counted = through_counted g.row.E.Denot g.E.LineEditor.Becomes g.E.LineEditor.Steps g.E.LineEditor.room g.met.E.LineEditor.became
@@ -148,7 +156,8 @@ returns-in-Ok-write-clause-edits g c =
     g.met.E.LineEditor.room_for_one g.met.E.LineEditor.some _ _ read.0 _ _ _ _ _ _ read.3 c.in-Ok-finish.ensures.put.1
     c.in-Ok-finish.ensures.put.2.put c.in-Ok-write.ensures.written in
     let sink : c.output-2-1.given.0 ≡ c.write.new.self.sink.now = search rules in
-    rw sink (record {
+    rw sink (ends_whole (c.in-Ok.ensures.no_failure ∙ c.loop-count.invariant.input_works)
+    (c.in-Ok-write.ensures.no_failure ∙ c.in-Ok-finish.ensures.put.2.works ∙ c.loop-count.invariant.output_works) (record {
       bytes = read.0;
       written = end.0;
       read = rw (append-nil read.0) at (gives_both _ _ _ _ [] read.1 gives);
@@ -158,18 +167,19 @@ returns-in-Ok-write-clause-edits g c =
       steps = end.2;
       counted = ap (λ last. c.loop-count.counts.lines + last.lines) c.in-Ok-finish.ensures.counts ∙ counted.0;
       long = ap (λ last. c.loop-count.counts.long + last.long) c.in-Ok-finish.ensures.counts ∙ counted.1;
-    })
+    }))
 
-pub returns-clause-front : goal.returns-clause-front
-returns-clause-front g c =
+pub returns-clause-ends : goal.returns-clause-ends
+returns-clause-ends g c =
     let read = c.loop-count.invariant.read in
     let gives = rw c.if-count-eq0.true at c.in-Ok.ensures.gives in
     let sink : c.output-2-1.given.0 ≡ c.write.new.self.sink.now = search rules in
-    rw sink (write_fails _ _ _ _ read.0 (omega (arith, read.2, c.loop-count.invariant.fits))
+    rw sink (ends_write (c.in-Ok.ensures.no_failure ∙ c.loop-count.invariant.input_works) c.in-Err.ensures.failure
+    (write_fails _ _ _ _ read.0 (omega (arith, read.2, c.loop-count.invariant.fits))
     (rw (append-nil read.0) at (gives_both _ _ _ _ [] read.1 gives))
     (through_end_front g.row.E.Denot g.E.LineEditor.Becomes g.E.LineEditor.Steps g.E.LineEditor.room g.met.E.LineEditor.became g.met.E.LineEditor.same
     g.met.E.LineEditor.room_for_one g.met.E.LineEditor.some _ _ read.0 _ _ _ _ _ read.3
     (last_may g.row.E.Denot g.E.LineEditor.Becomes g.E.LineEditor.Steps g.E.LineEditor.room g.met.E.LineEditor.became g.met.E.LineEditor.same
     g.met.E.LineEditor.room_for_one g.met.E.LineEditor.some c.args.editor.now (g.W.ByteSink.seen c.args.output.now).taken _ _ _ _ _ _
     c.in-Ok-finish.ensures.put.1)
-    c.in-Ok-finish.ensures.put.2.put c.in-Err.ensures.front))
+    c.in-Ok-finish.ensures.put.2.put c.in-Err.ensures.front)))

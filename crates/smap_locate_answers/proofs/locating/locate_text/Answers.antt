@@ -1,6 +1,6 @@
 use Rattle.std.proofs.Common.{◌≡◌, refl, rules, subst}
-use Rattle.std.proofs.lemmas.Result.{IfOk-weaker}
 use Rattle.smap_lines.specs.Editing.{EditsInto, devices_seen}
+use Rattle.smap_lines.specs.Laws.RunEnds.{ends_wider}
 use Rattle.smap_lines.specs.Limits.{most_text_bytes}
 use Rattle.smap_locate_answers.specs.Locating.{LocateStep}
 use Rattle.smap_locate_answers.proofs.LocatingLaws.{locates_seen, store_after}
@@ -10,18 +10,19 @@ use Rattle.smap_text_answers.specs.RewriteFrom.{store_of}
 use Rattle.smap_trace.specs.Rewriting.{Looked}
 use Rattle.smap_locate_answers.proofs.locating.locate_text.Goals as goal
 
-pub returns-clause-locates : goal.returns-clause-locates
-returns-clause-locates g c =
+pub returns-clause-ends : goal.returns-clause-ends
+returns-clause-ends g c =
     let new = c.edit_lines.new.editor in
     let cache : c.cache-1.given.0 ≡ new.maps.cache.now = search rules in
     let loader : c.loader-1.given.0 ≡ new.maps.loader.now = search rules in
     let before = devices_seen (g.R.ByteSource.seen c.args.input.now) (g.W.ByteSink.seen c.args.output.now) in
     let after = devices_seen (g.R.ByteSource.seen c.edit_lines.new.input) (g.W.ByteSink.seen c.edit_lines.new.output) in
-    IfOk-weaker c.edit_lines.result _ _ (λ counts is.
+    ends_wider c.edit_lines.result (λ counts is.
     subst (λ (s : StoredSeen g.row.L.Denot). EditsInto (LocateStep (FindsIn g.L.MapLoader.Loads) c.args.options) most_text_bytes before after
     (store_of c.args.sources.now c.args.cache.now c.args.loader.now) s counts)
     (store_after _ new.maps c.edit_lines.ensures.reaches.1 _ _ cache loader)
-    (locates_seen g.L.MapLoader.Loads _ most_text_bytes before after new counts (refl, same_store_self _) is)) c.edit_lines.ensures.edits
+    (locates_seen g.L.MapLoader.Loads _ most_text_bytes before after new counts (refl, same_store_self _) is))
+    (λ fault is. is) c.edit_lines.ensures.ends
 
 pub returns-clause-looked : goal.returns-clause-looked
 returns-clause-looked g c =

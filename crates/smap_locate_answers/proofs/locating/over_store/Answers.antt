@@ -28,7 +28,7 @@ returns-clause-over g c =
       loader = record { errors = seen c.args.errors.now; status = 0; code = c.args.first.now; reported = 0; refused = 0; lost = false };
     } in
     let last : StoredSeen LoaderSeen = store_of c.args.sources.now made.new.cache (loader_seen seen made.new.loader) in
-    let located = located_from gives seen _ request.options _ _ refl before after made.result made.ensures.locates made.ensures.front made.ensures.looked in
+    let located = located_from gives seen _ request.options _ _ refl before after made.result made.ensures.ends.whole made.ensures.ends.front made.ensures.looked in
     let numbered = subst (λ n. IsStoredLocated (gives request.maps.now.files.now) request.paths (option_copied request.maps.now.base) request.maps.now.interval (n + 1)
     request.options (start c.new-cache.result) last before after made.result) (sym (length-map request.arguments.now argument_of)) located in
     record {
@@ -38,11 +38,14 @@ returns-clause-over g c =
           (start cache) last before after made.result) c.new-cache.ensures numbered;
       errors = ap seen errors;
       code = refl;
-      input_failed = made.ensures.input_failure;
+      input_failed = made.ensures.ends.input_failure;
       untouched = λ memory. (
-        ap g.R.ByteSource.seen (untouched_by made.result _ made.ensures.memory_input memory),
-        ap g.W.ByteSink.seen (untouched_by made.result _ made.ensures.memory_output memory),
+        ap g.R.ByteSource.seen (untouched_by made.result _ made.ensures.ends.memory_input memory),
+        ap g.W.ByteSink.seen (untouched_by made.result _ made.ensures.ends.memory_output memory),
       );
       status = refl;
       shortages = c.shortages.ensures;
     }
+
+pub returns-clause-output_failure : goal.returns-clause-output_failure
+returns-clause-output_failure g c = c.locate_text-result.ensures.ends.output_failure

@@ -1,6 +1,7 @@
 use Rattle.std.proofs.Common.{◌≡◌, ◌==◌, ◌+◌, ◌-◌, ◌≤◌, ℕ, false, List, [], ◌++◌, ap, arith, cond, count_by, drop, length, refl, rules, subst, sym, take, ◌∙◌, length-drop}
 use Rattle.std.proofs.lemmas.Bool.{eq-eqb, eqb-true, false_from_ne_true}
 use Rattle.smap_io.specs.Device.{Takes}
+use Rattle.smap_lines.specs.Laws.RunEnds.{ends_memory, ends_read, ends_too_much, ends_whole, ends_write, gives_none}
 use Rattle.smap_trace.specs.Laws.Looked.{looked_both}
 use Rattle.smap_trace.specs.Noted.{AreNotesOf}
 use Rattle.smap_trace.specs.NotesSeen.{notes_seen}
@@ -13,17 +14,19 @@ use Rattle.smap_places.specs.Private.Window.{WindowState}
 use Rattle.smap_places.specs.Seeming.{knows}
 use Rattle.smap_places.proofs.BesideLaws.{fails_over, given_beside, same_beside, some_beside, writes_over}
 use Rattle.smap_places.proofs.CountLaws.{byte_is, is_end}
-use Rattle.smap_places.proofs.RewritingLaws.{cut_text, ends_more, gives_more, gives_none, last_bytes, long_more, maps_looked, no_end_left}
+use Rattle.smap_places.proofs.RewritingLaws.{cut_text, ends_more, gives_more, last_bytes, long_more, maps_looked, no_end_left}
 use Rattle.smap_places.proofs.RewritingLaws.{read_fails, rewrites, through_more, too_much, write_fails}
 use Rattle.smap_places.proofs.SeemingLaws.{sighted_cut, sighted_end, sighted_on, sighted_read, sighted_start}
 use Rattle.smap_places.proofs.ThroughLaws.{through_cut, through_shows, through_shows_all, through_start, through_written}
 use Rattle.smap_places.proofs.rewriting.rewrite_places_noting.Goals as goal
 
-pub returns-in_default-clause-front : goal.returns-in_default-clause-front
-returns-in_default-clause-front g c = front_of_none (GivesBeside c.args.finder.now.table g.M.Maps.Gives c.args.maps.now) _ c.args.most_bytes _
+pub returns-in_default-clause-ends : goal.returns-in_default-clause-ends
+returns-in_default-clause-ends g c =
+    ends_memory c.requires.input_works c.requires.output_works (front_of_none (GivesBeside c.args.finder.now.table g.M.Maps.Gives c.args.maps.now) _ c.args.most_bytes _)
 
-pub returns-in_default-2-clause-front : goal.returns-in_default-2-clause-front
-returns-in_default-2-clause-front g c = front_of_none (GivesBeside c.args.finder.now.table g.M.Maps.Gives c.args.maps.now) _ c.args.most_bytes _
+pub returns-in_default-2-clause-ends : goal.returns-in_default-2-clause-ends
+returns-in_default-2-clause-ends g c =
+    ends_memory c.requires.input_works c.requires.output_works (front_of_none (GivesBeside c.args.finder.now.table g.M.Maps.Gives c.args.maps.now) _ c.args.most_bytes _)
 
 pub loop-count-init : goal.loop-count-init
 loop-count-init g c =
@@ -54,15 +57,16 @@ loop-count-init g c =
       output_works = c.requires.output_works;
     })
 
-pub returns-in_default-read-clause-front : goal.returns-in_default-read-clause-front
-returns-in_default-read-clause-front g c =
+pub returns-in_default-read-clause-ends : goal.returns-in_default-read-clause-ends
+returns-in_default-read-clause-ends g c =
     let table = c.args.finder.now.table in
     let read = c.loop-count.invariant.read in
-    read_fails _ _ _ _ c.args.most_bytes _ _ read.0 _ _ _ _ _ _ _ _ read.3 (rw c.in_default-read.ensures.keeps read.1) (GivesBeside table g.M.Maps.Gives)
+    ends_read c.in_default-read.ensures.failure c.loop-count.invariant.output_works
+    (read_fails _ _ _ _ c.args.most_bytes _ _ read.0 _ _ _ _ _ _ _ _ read.3 (rw c.in_default-read.ensures.keeps read.1) (GivesBeside table g.M.Maps.Gives)
     (some_beside table g.M.Maps.Gives g.M.Maps.Finds g.met.M.Maps.some)
     (given_beside table g.M.Maps.Gives g.M.Maps.Finds g.M.Maps.found g.met.M.Maps.given)
     (same_beside table g.M.Maps.Gives g.M.Maps.Finds g.met.M.Maps.same) refl
-    (omega (arith, read.2, c.loop-count.invariant.fits)) c.in-Some.ensures.ends c.loop-count.invariant.whole
+    (omega (arith, read.2, c.loop-count.invariant.fits)) c.in-Some.ensures.ends c.loop-count.invariant.whole)
 
 pub returns-in_default-read-clause-looked : goal.returns-in_default-read-clause-looked
 returns-in_default-read-clause-looked g c =
@@ -70,8 +74,8 @@ returns-in_default-read-clause-looked g c =
     let maps : c.maps-1.given.0 ≡ c.loop-count.rewriter.maps.now = search rules in
     rw maps (maps_looked _ _ _ _ _ read.0 _ _ _ _ _ _ _ _ read.3)
 
-pub returns-then-count-most_bytes-clause-front : goal.returns-then-count-most_bytes-clause-front
-returns-then-count-most_bytes-clause-front g c =
+pub returns-then-count-most_bytes-clause-ends : goal.returns-then-count-most_bytes-clause-ends
+returns-then-count-most_bytes-clause-ends g c =
     let table = c.args.finder.now.table in
     let read = c.loop-count.invariant.read in
     let more = c.in-Ok.ensures.gives in
@@ -80,11 +84,12 @@ returns-then-count-most_bytes-clause-front g c =
     let is = through_more _ _ _ _ _ read.0 _ _ _ _ _ _ _ _ read.3 more.more now window in
     let longer = long_more read.0 c.loop-count.window.bytes more.more now window in
     let gives = gives_more _ _ _ read.0 c.loop-count.window.bytes more.more now window read.1 more.given in
-    too_much _ _ _ _ c.args.most_bytes _ _ read.0 _ _ _ _ _ _ _ _ is gives (GivesBeside table g.M.Maps.Gives)
+    ends_too_much (c.in-Ok.ensures.no_failure ∙ c.loop-count.invariant.input_works) c.loop-count.invariant.output_works
+    (too_much _ _ _ _ c.args.most_bytes _ _ read.0 _ _ _ _ _ _ _ _ is gives (GivesBeside table g.M.Maps.Gives)
     (some_beside table g.M.Maps.Gives g.M.Maps.Finds g.met.M.Maps.some)
     (given_beside table g.M.Maps.Gives g.M.Maps.Finds g.M.Maps.found g.met.M.Maps.given)
     (same_beside table g.M.Maps.Gives g.M.Maps.Finds g.met.M.Maps.same) refl
-    (omega (arith, longer, more.counted, read.2, c.loop-count.invariant.fits, c.if-count-most_bytes.true))
+    (omega (arith, longer, more.counted, read.2, c.loop-count.invariant.fits, c.if-count-most_bytes.true)))
 
 pub returns-then-count-most_bytes-clause-looked : goal.returns-then-count-most_bytes-clause-looked
 returns-then-count-most_bytes-clause-looked g c =
@@ -92,8 +97,8 @@ returns-then-count-most_bytes-clause-looked g c =
     let maps : c.maps-then-count-most_bytes-1.given.0 ≡ c.loop-count.rewriter.maps.now = search rules in
     rw maps (maps_looked _ _ _ _ _ read.0 _ _ _ _ _ _ _ _ read.3)
 
-pub returns-in_default-write_places-clause-front : goal.returns-in_default-write_places-clause-front
-returns-in_default-write_places-clause-front g c =
+pub returns-in_default-write_places-clause-ends : goal.returns-in_default-write_places-clause-ends
+returns-in_default-write_places-clause-ends g c =
     let table = c.args.finder.now.table in
     let read = c.loop-count.invariant.read in
     let more = c.in-Ok.ensures.gives in
@@ -108,13 +113,14 @@ returns-in_default-write_places-clause-front g c =
     let fails = fails_over g.W.ByteSink.seen _ _ c.loop-count.invariant.over _ _ _ _ _ g.M.Maps.Gives _ failed in
     let all = through_shows_all _ _ _ _ _ read.0 _ is in
     let sink : c.output-1.given.0 ≡ c.write_places.new.output.sink.now = search rules in
-    rw sink (write_fails _ _ _ _ c.args.most_bytes _ _ read.0 _ _ _ _ _ _ _ _ is gives (GivesBeside table g.M.Maps.Gives)
+    rw sink (ends_write (c.in-Ok.ensures.no_failure ∙ c.loop-count.invariant.input_works) c.in_default-write_places.ensures.failure
+    (write_fails _ _ _ _ c.args.most_bytes _ _ read.0 _ _ _ _ _ _ _ _ is gives (GivesBeside table g.M.Maps.Gives)
     (some_beside table g.M.Maps.Gives g.M.Maps.Finds g.met.M.Maps.some)
     (given_beside table g.M.Maps.Gives g.M.Maps.Finds g.M.Maps.found g.met.M.Maps.given)
     (same_beside table g.M.Maps.Gives g.M.Maps.Finds g.met.M.Maps.same)
     c.max-high.result fails.to fails.parts fails.text _
     (omega (arith, longer, more.counted, read.2, c.loop-count.invariant.fits, c.if-count-most_bytes.false)) fails.passed fails.may
-    (λ start least below. all start least (omega (arith, below, c.max-high.ensures, decided.within, inside))) c.loop-count.invariant.none fails.front)
+    (λ start least below. all start least (omega (arith, below, c.max-high.ensures, decided.within, inside))) c.loop-count.invariant.none fails.front))
 
 pub returns-in_default-write_places-clause-looked :
     goal.returns-in_default-write_places-clause-looked
@@ -195,8 +201,8 @@ loop-count-preserved g c =
       output_works = c.in-Ok-write_places.ensures.no_failure ∙ c.loop-count.invariant.output_works;
     })
 
-pub returns-then-count-eq0-clause-rewrites : goal.returns-then-count-eq0-clause-rewrites
-returns-then-count-eq0-clause-rewrites g c =
+pub returns-then-count-eq0-clause-ends : goal.returns-then-count-eq0-clause-ends
+returns-then-count-eq0-clause-ends g c =
     let read = c.loop-count.invariant.read in
     let more = c.in-Ok.ensures.gives in
     let now : List ℕ = c.read.new.self.bytes in
@@ -226,11 +232,12 @@ returns-then-count-eq0-clause-rewrites g c =
     c.loop-count.invariant.on writes.noted in
     let sink : c.output-1.given.0 ≡ c.write_places.new.output.sink.now = search rules in
     let maps : c.maps-then-count-eq0-1.given.0 ≡ c.write_places.new.self.maps.now = search rules in
-    rw (sink, maps) (rewrites _ _ _ _ c.args.most_bytes _ _ read.0 _ _ _ _ _ _ _ _ is gives to writes.parts writes.text writes.namings _ _ _
+    rw (sink, maps) (ends_whole (c.in-Ok.ensures.no_failure ∙ c.loop-count.invariant.input_works)
+    (c.in-Ok-write_places.ensures.no_failure ∙ c.loop-count.invariant.output_works) (rewrites _ _ _ _ c.args.most_bytes _ _ read.0 _ _ _ _ _ _ _ _ is gives to writes.parts writes.text writes.namings _ _ _
     (c.loop-count.ends + c.count_ends.result) c.from.result passed
     writes.steps c.loop-count.invariant.none writes.taken (omega (arith, c.in-Ok-write_places.ensures.far, high)) (c.in-Ok.ensures.ends c.if-count-eq0.true)
     (omega (arith, longer, more.counted, c.if-count-eq0.true, read.2, c.loop-count.invariant.fits)) (omega (arith, ends, counted, read.4)) last refl refl
-    (notes_seen c.write_places.new.self.notes.now) noted (knows c.args.finder.now) (notes_seen c.note_unknown.new.notes) sighted).0
+    (notes_seen c.write_places.new.self.notes.now) noted (knows c.args.finder.now) (notes_seen c.note_unknown.new.notes) sighted).0)
 
 pub returns-then-count-eq0-clause-noted : goal.returns-then-count-eq0-clause-noted
 returns-then-count-eq0-clause-noted g c on =

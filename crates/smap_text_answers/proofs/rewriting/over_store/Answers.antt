@@ -34,7 +34,7 @@ returns-clause-over g c =
     (length request.arguments.now + 1) c.args.sources.now request.anywhere m (hiding_seen request.hiding) request.limit_bytes (start c.new-cache.result) last
     before after c.rewrite_text-result.result) c.most_passed.ensures
     (rewritten_from gives seen _ _ _ refl c.args.sources.now request.anywhere c.most_passed.result (hiding_seen request.hiding) request.limit_bytes before after
-    c.rewrite_text-result.result made.ensures.rewrites made.ensures.front made.ensures.looked) in
+    c.rewrite_text-result.result made.ensures.ends.whole made.ensures.ends.front made.ensures.looked) in
     let numbered = subst (λ n. IsStoredRewritten (gives request.maps.now.files.now) request.paths (option_copied request.maps.now.base) request.maps.now.interval (n + 1)
     c.args.sources.now request.anywhere most (hiding_seen request.hiding) request.limit_bytes (start c.new-cache.result) last before after c.rewrite_text-result.result)
     (sym (length-map request.arguments.now argument_of)) rewritten in
@@ -57,10 +57,10 @@ returns-clause-over g c =
           request.limit_bytes before after counts (notes_seen made.new.notes) (notes_seen made.new.others) is))) (made.ensures.noted on);
       errors = ap seen errors;
       code = refl;
-      input_failed = made.ensures.input_failure;
+      input_failed = made.ensures.ends.input_failure;
       untouched = λ memory. (
-        ap g.R.ByteSource.seen (untouched_by c.rewrite_text-result.result _ made.ensures.memory_input memory),
-        ap g.W.ByteSink.seen (untouched_by c.rewrite_text-result.result _ made.ensures.memory_output memory),
+        ap g.R.ByteSource.seen (untouched_by c.rewrite_text-result.result _ made.ensures.ends.memory_input memory),
+        ap g.W.ByteSink.seen (untouched_by c.rewrite_text-result.result _ made.ensures.ends.memory_output memory),
       );
       status = refl;
       maps = rw (c.read.ensures, c.count.ensures) at c.saturating_add.ensures;
@@ -69,3 +69,6 @@ returns-clause-over g c =
       lost = refl;
       shortages = c.shortages.ensures;
     }
+
+pub returns-clause-output_failure : goal.returns-clause-output_failure
+returns-clause-output_failure g c = c.rewrite_text-result.ensures.ends.output_failure

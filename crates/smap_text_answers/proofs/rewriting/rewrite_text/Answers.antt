@@ -1,5 +1,6 @@
 use Rattle.std.proofs.Common.{◌≡◌, ap, refl, rules, subst}
-use Rattle.std.proofs.lemmas.Result.{IfErr-weaker, IfOk-weaker}
+use Rattle.std.proofs.lemmas.Result.{IfOk-weaker}
+use Rattle.smap_lines.specs.Laws.RunEnds.{ends_done, ends_failed, ends_memory, ends_wider}
 use Rattle.smap_lines.specs.Editing.{devices_seen}
 use Rattle.smap_places.specs.PlacesNoted.{RewritesPlacesNoted}
 use Rattle.smap_places.specs.PlacesOver.{RewritesPlacesOver}
@@ -31,8 +32,8 @@ returns-then-not-anywhere-clause-looked g c =
     subst (λ (s : StoredSeen g.row.L.Denot). Looked (FindsIn g.L.MapLoader.Loads) (store_of c.args.asked.now.sources.now c.args.cache.now c.args.loader.now) s)
     (store_after _ _ new looked.1 _ (ap (λ w. w.now) looked.1.words) _ _ cache loader) looked.0
 
-pub returns-then-not-anywhere-clause-rewrites : goal.returns-then-not-anywhere-clause-rewrites
-returns-then-not-anywhere-clause-rewrites g c =
+pub returns-then-not-anywhere-clause-ends : goal.returns-then-not-anywhere-clause-ends
+returns-then-not-anywhere-clause-ends g c =
     let new = c.rewrite_noting.new.maps in
     let looked = looked_seen _ (λ m. found_in (stored_seen m)) (FindsIn g.L.MapLoader.Loads) found_in stored_seen (IsSameStore _)
     (λ old new url is finds. (finds.0, same_store_on _ old new is finds.1)) (λ m url. refl) _ new (same_store_self _) c.rewrite_noting.ensures.looked in
@@ -40,13 +41,14 @@ returns-then-not-anywhere-clause-rewrites g c =
     let loader : c.loader-1.given.0 ≡ new.loader.now = search rules in
     let before = devices_seen (g.R.ByteSource.seen c.args.input.now) (g.W.ByteSink.seen c.args.output.now) in
     let after = devices_seen (g.R.ByteSource.seen c.rewrite_noting.new.input) (g.W.ByteSink.seen c.rewrite_noting.new.output) in
-    IfOk-weaker c.rewrite_noting.result _ _ (λ counts is. when_off c.args.asked.now.anywhere _ _ c.if-not-anywhere.true
+    ends_wider c.rewrite_noting.result (λ counts is. when_off c.args.asked.now.anywhere _ _ c.if-not-anywhere.true
     (subst (λ (s : StoredSeen g.row.L.Denot). RewritesPassing (FindsIn g.L.MapLoader.Loads) found_in (places_in (places_of c.args.asked.now.sources.now))
     c.args.asked.now.most_passed (hiding_seen c.args.asked.now.options.hiding) c.args.asked.now.options.most before after (store_of c.args.asked.now.sources.now c.args.cache.now c.args.loader.now) s counts)
     (store_after _ _ new looked.1 _ (ap (λ w. w.now) looked.1.words) _ _ cache loader)
     (passing_seen _ (λ m. found_in (stored_seen m)) (FindsIn g.L.MapLoader.Loads) found_in stored_seen (IsSameStore _)
     (λ old new url is finds. (finds.0, same_store_on _ old new is finds.1)) (λ m url. refl) (places_in (places_of c.args.asked.now.sources.now))
-    (hiding_seen c.args.asked.now.options.hiding) c.args.asked.now.most_passed c.args.asked.now.options.most before after _ new counts (same_store_self _) is))) (rw c.in-Ok.ensures at c.rewrite_noting.ensures.rewrites)
+    (hiding_seen c.args.asked.now.options.hiding) c.args.asked.now.most_passed c.args.asked.now.options.most before after _ new counts (same_store_self _) is)))
+    (λ fault is. when_off c.args.asked.now.anywhere _ _ c.if-not-anywhere.true is) (rw c.in-Ok.ensures at c.rewrite_noting.ensures.ends)
 
 pub returns-then-not-anywhere-clause-noted : goal.returns-then-not-anywhere-clause-noted
 returns-then-not-anywhere-clause-noted g c on =
@@ -68,17 +70,13 @@ returns-then-not-anywhere-clause-noted g c on =
       c.requires.no_others,
     )) (c.rewrite_noting.ensures.notes on)
 
-pub returns-then-not-anywhere-clause-front : goal.returns-then-not-anywhere-clause-front
-returns-then-not-anywhere-clause-front g c =
-    IfErr-weaker c.rewrite_noting.result _ _ (λ fault is. when_off c.args.asked.now.anywhere _ _ c.if-not-anywhere.true is) c.rewrite_noting.ensures.front
-
 -- ---- places
 
-pub returns-in_default-clause-front : goal.returns-in_default-clause-front
-returns-in_default-clause-front g c =
-    text_front_of_none c.args.asked.now.anywhere
+pub returns-in_default-clause-ends : goal.returns-in_default-clause-ends
+returns-in_default-clause-ends g c =
+    ends_memory c.requires.input_works c.requires.output_works (text_front_of_none c.args.asked.now.anywhere
     (GivesIn g.L.MapLoader.MayLoad (store_of c.args.asked.now.sources.now c.args.cache.now c.args.loader.now)) (places_of c.args.asked.now.sources.now)
-    (hiding_seen c.args.asked.now.options.hiding) c.args.asked.now.options.most _
+    (hiding_seen c.args.asked.now.options.hiding) c.args.asked.now.options.most _)
 
 pub returns-in-Ok-rewrite_places_noting-clause-looked : goal.returns-in-Ok-rewrite_places_noting-clause-looked
 returns-in-Ok-rewrite_places_noting-clause-looked g c =
@@ -90,8 +88,8 @@ returns-in-Ok-rewrite_places_noting-clause-looked g c =
     subst (λ (s : StoredSeen g.row.L.Denot). Looked (FindsIn g.L.MapLoader.Loads) (store_of c.args.asked.now.sources.now c.args.cache.now c.args.loader.now) s)
     (store_after _ _ new looked.1.0 _ refl _ _ cache loader) looked.0
 
-pub returns-in-Ok-rewrite_places_noting-clause-rewrites : goal.returns-in-Ok-rewrite_places_noting-clause-rewrites
-returns-in-Ok-rewrite_places_noting-clause-rewrites g c =
+pub returns-in-Ok-rewrite_places_noting-clause-ends : goal.returns-in-Ok-rewrite_places_noting-clause-ends
+returns-in-Ok-rewrite_places_noting-clause-ends g c =
     let new = c.rewrite_places_noting.new.maps in
     let words = c.args.asked.now.sources.now.words in
     let looked = looked_both words _ g.L.MapLoader.Loads new c.new-none.ensures (rw c.in-Ok.ensures at c.rewrite_places_noting.ensures.looked) in
@@ -100,8 +98,8 @@ returns-in-Ok-rewrite_places_noting-clause-rewrites g c =
     let before = devices_seen (g.R.ByteSource.seen c.args.input.now) (g.W.ByteSink.seen c.args.output.now) in
     let after = devices_seen (g.R.ByteSource.seen c.rewrite_places_noting.new.input) (g.W.ByteSink.seen c.rewrite_places_noting.new.output) in
     let summary = c.in-Ok-rewrite_places_noting.summary in
-    let is = rw c.in-Ok.ensures at c.in-Ok-rewrite_places_noting.ensures.rewrites in
-    when_on c.args.asked.now.anywhere _ _ c.if-not-anywhere.false (
+    let is = rw c.in-Ok.ensures at c.in-Ok-rewrite_places_noting.ensures.ends.whole in
+    ends_done c.in-Ok-rewrite_places_noting.ensures.ends (when_on c.args.asked.now.anywhere _ _ c.if-not-anywhere.false (
       subst (λ (s : StoredSeen g.row.L.Denot). RewritesPlacesOver (FindsIn g.L.MapLoader.Loads) found_in (places_of c.args.asked.now.sources.now)
           c.args.asked.now.options.most before after (store_of c.args.asked.now.sources.now c.args.cache.now c.args.loader.now) s summary)
           (store_after _ _ new looked.1.0 _ refl _ _ cache loader)
@@ -109,7 +107,7 @@ returns-in-Ok-rewrite_places_noting-clause-rewrites g c =
           summary is),
       refl,
       refl,
-    )
+    ))
 
 pub returns-in-Ok-rewrite_places_noting-clause-noted : goal.returns-in-Ok-rewrite_places_noting-clause-noted
 returns-in-Ok-rewrite_places_noting-clause-noted g c on =
@@ -141,12 +139,12 @@ returns-clause-looked g c =
     subst (λ (s : StoredSeen g.row.L.Denot). Looked (FindsIn g.L.MapLoader.Loads) (store_of c.args.asked.now.sources.now c.args.cache.now c.args.loader.now) s)
     (store_after _ _ new looked.1.0 _ refl _ _ cache loader) looked.0
 
-pub returns-clause-front : goal.returns-clause-front
-returns-clause-front g c =
+pub returns-clause-ends : goal.returns-clause-ends
+returns-clause-ends g c =
     let sources = c.args.asked.now.sources.now in
     let others : StoredSeen g.row.L.Denot =
     record { words = c.new-none.result; locations = sources.locations; cache = c.args.cache.now; loader = c.args.loader.now } in
-    when_on c.args.asked.now.anywhere _ _ c.if-not-anywhere.false
+    ends_failed c.in-Err.ensures.ends (when_on c.args.asked.now.anywhere _ _ c.if-not-anywhere.false
     (places_front_seen _ (GivesIn g.L.MapLoader.MayLoad (store_of sources c.args.cache.now c.args.loader.now))
     (gives_both g.L.MapLoader.MayLoad sources.words others c.new-none.ensures) (places_of sources) c.args.asked.now.options.most _ _ c.in-Err.fault
-    (rw c.in-Ok.ensures at c.in-Err.ensures.front))
+    (rw c.in-Ok.ensures at c.in-Err.ensures.ends.front)))
