@@ -1,6 +1,6 @@
 //! Checking map files: how much each holds.
 ghost use Rattle.std.specs.Prelude.{◌≡◌, ◌≢◌, false, map, option_copied, string_bytes, IfOk};
-ghost use Rattle.smap_check_answers.specs.Check.{ChecksAll, ChecksBytes, ChecksFile, IsObjectReported, IsRefusedReported};
+ghost use Rattle.smap_check_answers.specs.Check.{ChecksAll, ChecksFile, IsObjectReported, IsRefusedReported};
 ghost use Rattle.smap_check_answers.specs.Check.{IsWhyObject, accepted_line, form_of, paths_of};
 ghost use Rattle.smap_replies.specs.Outcome.{OrMemory, report_of};
 ghost use Rattle.smap_replies.specs.Streams.{sinks_seen};
@@ -10,9 +10,11 @@ use crate::lines;
 use smap_codes::Code;
 use smap_command::CheckOptions;
 use smap_explain::explain;
-use smap_io::{ByteSink, ReadFailure};
+use smap_io::ByteSink;
 use smap_record::{MapFile, MapRefusal};
-use smap_replies::{DONE, Failure, FileReader, MapReader, Reply, refused_map, report, unread_file};
+use smap_replies::{
+    DONE, Failure, FileReader, MapReader, Reply, file_bytes_explained, refused_map, report,
+};
 use smap_verdicts::{MapCounts, counts_json, map_counts, refusal_json};
 use std::alloc::{AllocError, Global};
 
@@ -120,27 +122,10 @@ fn checked_file<F: FileReader>(
     ensures { OrMemory (ChecksFile (F.gives maps.now.files.now) (option_copied maps.now.base)
         maps.now.interval how.form how.explain number path.now) (report_of result) }
 {
-    match maps.files.read_file(alloc, number, path) {
-        Ok(bytes) => answer_bytes(alloc, maps, &bytes, path, how),
-        Err(ReadFailure::Device) => Err(unread_file(alloc, maps.files, path, how.explain)?),
-        Err(ReadFailure::Memory) => Err(Failure::Memory),
-    }
-}
-
-// What is said of the file of these bytes at a path.
-fn answer_bytes<F: FileReader>(
-    alloc: Global,
-    maps: &MapReader<'_, F>,
-    bytes: &[u8],
-    path: &str,
-    how: Reporting,
-) -> Result<Reply, Failure>
-    ensures { OrMemory (ChecksBytes (option_copied maps.now.base) maps.now.interval how.form
-        how.explain path.now bytes.now) (report_of result) }
-{
-    match MapFile::read(alloc, bytes, maps.base, maps.interval) {
+    let bytes = file_bytes_explained(alloc, maps.files, number, path, how.explain)?;
+    match MapFile::read(alloc, &bytes, maps.base, maps.interval) {
         Ok(map) => Ok(Reply::Text(accepted_line(alloc, path, map_counts(&map), how.form)?)),
-        Err(refused) => refused_reply(alloc, path, bytes, refused, how),
+        Err(refused) => refused_reply(alloc, path, &bytes, refused, how),
     }
 }
 

@@ -13,7 +13,7 @@ use Rattle.smap_command.specs.declared.options.WriteOptions.{WriteOptions}
 use Rattle.smap_compose.specs.Composition.{all_composed}
 use Rattle.smap_by_text.specs.ByText.{IsWith, value_under}
 use Rattle.smap_locations.specs.Named.{Named}
-use Rattle.smap_record.specs.Record.{MapRecord, record_of}
+use Rattle.smap_record.specs.Record.{MapRecord}
 use Rattle.smap_record.specs.Sources.{StatedSource}
 use Rattle.smap_record.specs.Written.{text_of_source}
 use Rattle.smap_record.specs.declared.refusal.MapRefusal.{MapRefusal}
@@ -29,7 +29,8 @@ use Rattle.smap_replies.specs.Map.{ReportsMap, refusal_result, refused_file}
 use Rattle.smap_replies.specs.Outcome.{OrMemory, Report, misuse, out_of_memory, refusal}
 use Rattle.smap_replies.specs.Lists.{list_bytes_refusal, list_refusal}
 use Rattle.smap_replies.specs.Arguments.{argument_text}
-use Rattle.smap_replies.specs.Base.{base_of}
+use Rattle.smap_replies.specs.Standing.{record_standing}
+use Rattle.smap_replies.specs.Standing.StandingSeen.{at_url}
 use Rattle.smap_compose_answers.specs.Written.{written_result}
 
 -- ---- which sources have an inner map
@@ -105,7 +106,7 @@ abbrev pub ReadsInner : MayRead → (name path : List ℕ) → Result MapRecord 
 ReadsInner Reads name path result =
     ((report : Report) × OrMemory (IsUnread Reads 2 path) report × (result ≡ Err report))
     ⊎ ((bytes : List ℕ) × Reads 2 path (Ok bytes)
-    × ((result ≡ Err out_of_memory) ⊎ GivesFound path (record_of bytes (base_of None name) usual_interval) result))
+    × ((result ≡ Err out_of_memory) ⊎ GivesFound path (record_standing (at_url name) usual_interval bytes) result))
 
 abbrev pub with_name : (name : List ℕ) → (path : Option (List ℕ)) → Option (List ℕ × List ℕ)
 with_name name None = None

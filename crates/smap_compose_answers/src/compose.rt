@@ -12,7 +12,7 @@ use crate::written::{left_out_of, written};
 use smap_command::{USUAL_INTERVAL, WriteOptions};
 use smap_compose::{ComposeRefusal, Composed, compose_with};
 use smap_record::{MapFile, Url};
-use smap_replies::{Failure, FileReader, Reply, file_bytes, map_of, refused_by};
+use smap_replies::{Failure, FileReader, Reply, Standing, file_bytes, map_of, refused_by};
 use std::alloc::Global;
 
 /// The maps of two files that are to be composed.
@@ -41,11 +41,12 @@ pub fn answer_compose<F: FileReader>(
         maps.now.source maps.now.inner.now (option_copied maps.now.base))
         (report_of result) }
 {
+    let standing = Standing::At(maps.base);
     let bytes = file_bytes(alloc, reader, 0, maps.outer)?;
-    let outer_map = map_of(alloc, maps.outer, bytes, maps.base, USUAL_INTERVAL);
+    let outer_map = map_of(alloc, maps.outer, standing, USUAL_INTERVAL, bytes);
     let bytes = file_bytes(alloc, reader, 1, maps.inner)?;
     let outer_map = outer_map?;
-    let inner_map = map_of(alloc, maps.inner, bytes, maps.base, USUAL_INTERVAL)?;
+    let inner_map = map_of(alloc, maps.inner, standing, USUAL_INTERVAL, bytes)?;
     composed_two(alloc, outer_map, maps.source, inner_map, options)
 }
 

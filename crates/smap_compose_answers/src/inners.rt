@@ -22,8 +22,7 @@ use smap_command::USUAL_INTERVAL;
 use smap_locations::{ListFault, ListRefusal, NamedPaths, entry_of_line};
 use smap_record::{MapFile, SourceEntry};
 use smap_replies::{
-    Failure, FileReader, MapReader, file_bytes, read_map_at, refused_argument, refused_list,
-    text_of,
+    Failure, FileReader, Standing, file_bytes, map_of, refused_argument, refused_list, text_of,
 };
 use std::alloc::{AllocError, Global};
 
@@ -263,11 +262,6 @@ fn read_inner<F: FileReader>(
 ) -> Result<MapFile, Failure>
     ensures { ReadsInner (F.gives reader.now) name.now path.now (map_reported result) }
 {
-    let maps = MapReader {
-        files: reader,
-        base: None,
-        interval: USUAL_INTERVAL,
-    };
     let bytes = file_bytes(alloc, reader, 2, path)?;
-    read_map_at(alloc, &maps, name, path, bytes)
+    map_of(alloc, path, Standing::AtUrl(name), USUAL_INTERVAL, bytes)
 }

@@ -17,8 +17,8 @@ use Rattle.smap_record.specs.declared.refusal.MapRefusal.TheVariants.{Url}
 use Rattle.smap_store.specs.Fileless.{known_of}
 use Rattle.smap_store.specs.Loaded.{Outcome}
 use Rattle.smap_store.specs.declared.loader.NoMap.TheVariants.{Unnamed, Unread, Refused, Memory}
-use Rattle.smap_text_answers.specs.Loader.{record_loaded}
 use Rattle.smap_text_answers.specs.SameBytes.{BytesByPath}
+use Rattle.smap_text_answers.specs.Standing.{record_loaded}
 
 -- what the bytes of a file are found to be, by what they state; resolving a source may give a URL that is too long
 abbrev pub IsFoundIn : Result MapRecord MapRefusal → Outcome → Type 0

@@ -2,5 +2,6 @@ pub mod InTurnLaws
 pub mod NextLaws
 pub mod RunLaws
 mod ShownLaws
+pub mod StandingLaws
 pub mod TextLaws
 pub mod WhyLaws

@@ -1,5 +1,4 @@
 pub mod Arguments
-pub mod Base
 pub mod Files
 pub mod InTurn
 pub mod Lines
@@ -7,5 +6,6 @@ pub mod Lists
 pub mod Map
 pub mod Outcome
 pub mod Runs
+pub mod Standing
 pub mod Streams
 pub mod Why

@@ -68,12 +68,16 @@ abbrev pub IsUnreadFor : (path : List ℕ) → (explain : Bool) → Report → T
 IsUnreadFor path false report = report ≡ failure (file_failed_line path)
 IsUnreadFor path true report = (cause : UnreadCause) × (report ≡ failure (file_failed_line path ++ cause_text cause))
 
+-- that is so of the file of this number and path
+abbrev pub IsUnreadWhy : MayRead → (explain : Bool) → (number : ℕ) (path : List ℕ) → Report → Type 0
+IsUnreadWhy Reads explain number path report = Reads number path (Err Device) × IsUnreadFor path explain report
+
 -- ---- either
 
 -- the file of this number and path can't be read, or its bytes decide
 abbrev pub OfFileWhy : MayRead → (explain : Bool) → (number : ℕ) (path : List ℕ) → (List ℕ → Report → Type 0) → Report → Type 0
 OfFileWhy Reads explain number path Reports report =
-    (Reads number path (Err Device) × IsUnreadFor path explain report)
+    IsUnreadWhy Reads explain number path report
     ⊎ ((bytes : List ℕ) × Reads number path (Ok bytes) × Reports bytes report)
 
 -- its map is refused, or what it states decides

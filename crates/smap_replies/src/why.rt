@@ -1,5 +1,5 @@
 //! Saying why a file gives no map, where that is asked.
-ghost use Rattle.std.specs.Prelude.{◌≡◌, ◌≢◌, ◌++◌, option_copied, string_bytes, true, IfErr, IfOk};
+ghost use Rattle.std.specs.Prelude.{◌≡◌, ◌≢◌, ◌++◌, option_copied, string_bytes, true, IfErr, IfOk, Ok};
 ghost use Rattle.smap_explain.specs.Beginning.{has_bytes};
 ghost use Rattle.smap_record.specs.MapFile.{IsMapOf};
 ghost use Rattle.smap_record.specs.Record.{record_of};
@@ -7,14 +7,15 @@ ghost use Rattle.smap_record.specs.declared.refusal.MapRefusal.TheVariants.{Memo
 ghost use Rattle.smap_replies.specs.Lines.{file_failed_line};
 ghost use Rattle.smap_replies.specs.Map.{IsStated, Never, ReportsRead};
 ghost use Rattle.smap_replies.specs.Outcome.{OrMemory, failure_report};
-ghost use Rattle.smap_replies.specs.Why.{IsRefused, IsUnreadFor, IsWhyLine, ReportsMapWhy, cause_text};
+ghost use Rattle.smap_replies.specs.Why.{IsRefused, IsUnreadFor, IsUnreadWhy, IsWhyLine, ReportsMapWhy, cause_text};
 ghost use Rattle.smap_replies.specs.Why.{inline_text, is_of_script, is_script};
 
 use crate::files::{FileReader, UnreadCause};
 use crate::lines::file_failed_line;
-use crate::map::{MapReader, read_map};
+use crate::map::MapReader;
 use crate::outcome::Failure;
 use crate::refusal::refusal_line;
+use crate::standing::{Standing, map_of};
 use memchr::memmem;
 use smap_explain::{Beginning, Explanation, explain};
 use smap_io::ReadFailure;
@@ -43,14 +44,11 @@ pub fn read_map_explained<F: FileReader>(
         (ReportsMapWhy (F.gives maps.now.files.now) explain number path.now
         (option_copied maps.now.base) maps.now.interval Never) (failure_report failure)) }
 {
+    let bytes = file_bytes_explained(alloc, maps.files, number, path, explain)?;
     if !explain {
-        return read_map(alloc, maps, number, path);
+        return map_of(alloc, path, Standing::At(maps.base), maps.interval, bytes);
     }
-    match maps.files.read_file(alloc, number, path) {
-        Ok(bytes) => explained_map(alloc, path, &bytes, maps.base, maps.interval),
-        Err(ReadFailure::Device) => Err(unread_file(alloc, maps.files, path, true)?),
-        Err(ReadFailure::Memory) => Err(Failure::Memory),
-    }
+    explained_map(alloc, path, &bytes, maps.base, maps.interval)
 }
 
 // The map that the bytes of the file at this path are, or why they are none.
@@ -147,8 +145,28 @@ fn has_bytes(text: &[u8], bytes: &[u8]) -> bool
     memmem::find(text, bytes).is_some()
 }
 
-/// That the file at a path can't be read and, where that is asked, why not.
-pub fn unread_file<F: FileReader>(
+/// The bytes of the file of this number and path. Where it can't be read, and `explain` asks for that, why not is reported
+/// too.
+pub fn file_bytes_explained<F: FileReader>(
+    alloc: Global,
+    reader: &F,
+    number: usize,
+    path: &str,
+    explain: bool,
+) -> Result<Vec<u8>, Failure>
+    ensures read { IfOk result (λ bytes. F.gives reader.now number path.now (Ok bytes.items)) }
+    ensures unread { IfErr result (λ failure. OrMemory
+        (IsUnreadWhy (F.gives reader.now) explain number path.now) (failure_report failure)) }
+{
+    match reader.read_file(alloc, number, path) {
+        Ok(bytes) => Ok(bytes),
+        Err(ReadFailure::Device) => Err(unread_file(alloc, reader, path, explain)?),
+        Err(ReadFailure::Memory) => Err(Failure::Memory),
+    }
+}
+
+// That the file at a path can't be read and, where that is asked, why not.
+fn unread_file<F: FileReader>(
     alloc: Global,
     reader: &F,
     path: &str,

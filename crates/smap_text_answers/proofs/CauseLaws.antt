@@ -1,29 +1,32 @@
 -- Why a URL has no map, by what reading its file again comes to.
-use Rattle.std.specs.Prelude.{◌≡◌, ℕ, Bool, List, Option}
-use Rattle.std.proofs.Common.{◌∙◌, ap, inl, inr}
+use Rattle.std.specs.Prelude.{◌≡◌, ◌⊎◌, ℕ, Bool, List, Option}
+use Rattle.std.proofs.Common.{inl, inr, subst, sym}
 use Rattle.url.specs.Parts.{Parts}
 use Rattle.smap_record.specs.Record.{MapRecord}
 use Rattle.smap_replies.specs.Files.{MayRead}
-use Rattle.smap_replies.specs.Outcome.{Report}
 use Rattle.smap_store.specs.declared.loader.NoMap.{NoMap}
 use Rattle.smap_store.specs.declared.loader.NoMap.TheVariants.{Unnamed, Unread, Refused, Memory}
 use Rattle.smap_text_answers.specs.Loader.{FailsBy, IsLoaded}
 use Rattle.smap_text_answers.specs.Private.Causes.{SaysWhy}
-use Rattle.smap_text_answers.specs.UrlLines.{IsCause, body_of, late_text}
+use Rattle.smap_text_answers.specs.UrlLines.{IsCause, late_text}
 
 module _ (Reads : MayRead) (paths : Bool) (base : Option Parts) (k number : ℕ) (url path text : List ℕ) where
   -- it gives none
-  pub said_cause : (why : NoMap) (report : Report) → FailsBy Reads paths base k number why url path report → SaysWhy why path report text
-      → IsCause Reads paths base k number url path text
+  pub said_cause : (why : NoMap) → FailsBy Reads paths base k number why url path → SaysWhy why path text → IsCause Reads paths base k number url path text
   unfolding IsCause
-  said_cause Unnamed report fails says = absurd fails
-  said_cause Unread report unread says = inl (unread.0, says)
-  said_cause (Refused refusal) report (bytes, read, refused, is) says =
-      inr (inl (bytes, refusal, read, refused, says ∙ ap (λ (r : Report). body_of r.text) is))
-  said_cause Memory report fails says = absurd says
+  said_cause Unnamed fails says = absurd fails
+  said_cause Unread unread says = inl (unread, says)
+  said_cause (Refused refusal) (bytes, read, refused) says = inr (inl (bytes, refusal, read, refused, says))
+  said_cause Memory fails says = absurd says
 
   -- or one now
   pub late_cause : (stated : MapRecord) (file_bytes : ℕ) → IsLoaded Reads paths base k number url path stated file_bytes → text ≡ late_text path
       → IsCause Reads paths base k number url path text
   unfolding IsCause
   late_cause stated file_bytes loaded is = inr (inr ((stated, file_bytes, loaded), is))
+
+-- it is reported so, or that there was no memory to do that
+pub fails_told : (Reads : MayRead) (paths : Bool) (base : Option Parts) (k number : ℕ) (url path : List ℕ) (why told : NoMap)
+    → FailsBy Reads paths base k number why url path → (told ≡ why) ⊎ (told ≡ Memory) → FailsBy Reads paths base k number told url path
+fails_told Reads paths base k number url path why told fails (inl same) = subst (λ w. FailsBy Reads paths base k number w url path) (sym same) fails
+fails_told Reads paths base k number url path why told fails (inr memory) = subst (λ w. FailsBy Reads paths base k number w url path) (sym memory) tt

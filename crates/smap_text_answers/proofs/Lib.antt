@@ -1,11 +1,10 @@
 mod BesideLaws
-mod ByPathLaws
 mod BytesLaws
 mod CauseLaws
 mod Examples
-mod LoaderLaws
 mod NearestLaws
 mod SourcesLaws
+mod StandingLaws
 pub mod StoreLaws
 mod TraceLaws
 mod UrlLinesLaws

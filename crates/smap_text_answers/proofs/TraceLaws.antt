@@ -11,7 +11,8 @@ use Rattle.smap_replies.specs.Files.{IsUnread, MayRead}
 use Rattle.smap_replies.specs.Map.{Never, ReportsFound, refusal_result}
 use Rattle.smap_replies.specs.Outcome.{OrMemory, Report, out_of_memory}
 use Rattle.smap_text_answers.specs.Private.Gathering.{gathered}
-use Rattle.smap_text_answers.specs.Trace.{Gathers, Maps, Puts, PutsFound, PutsMap, PutsNext, record_named, url_refusal_result}
+use Rattle.smap_text_answers.specs.Standing.{record_named}
+use Rattle.smap_text_answers.specs.Trace.{Gathers, Maps, Puts, PutsFound, PutsMap, PutsNext, url_refusal_result}
 use Rattle.smap_replies.specs.declared.outcome.Failure.{Failure}
 use Rattle.url.specs.Parts.{Parts}
 

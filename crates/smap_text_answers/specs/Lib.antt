@@ -1,4 +1,3 @@
-pub mod ByPath
 pub mod Lines
 pub mod Nearest
 pub mod UrlLines
@@ -7,6 +6,7 @@ pub mod Rewrite
 pub mod RewriteFrom
 pub mod SameBytes
 pub mod Sources
+pub mod Standing
 pub mod Trace
 pub mod Private
 pub mod Laws

@@ -1,36 +1,25 @@
 -- The maps that are read when a text names them: each from its file, and what is said of one that can't be had.
-use Rattle.std.specs.Prelude.{◌≡◌, ◌⊎◌, ℕ, ◌+◌, ◌-◌, ◌^◌, ◌==◌, ◌||◌, Bool, false, true, List, Option, Some, None, Result, Ok, Err, MatchBool, cond, if◌then◌else◌, length, max, min, nat_lt}
+use Rattle.std.specs.Prelude.{◌≡◌, ◌⊎◌, ℕ, ◌+◌, ◌-◌, ◌^◌, ◌==◌, ◌||◌, Bool, false, true, List, Option, Some, None, Result, Ok, Err, MatchBool, ⊤, cond, length, max, min, nat_lt}
 use Rattle.url.specs.Parts.{Parts}
 use Rattle.std.specs.Option.{option_or}
-use Rattle.std.specs.Str.{is_utf8}
 use Rattle.smap_codes.specs.declared.code.Code.{Code}
 use Rattle.smap_io.specs.Device.{SinkSeen}
-use Rattle.smap_locations.specs.Paths.{without_query}
 use Rattle.smap_record.specs.Record.{MapRecord}
 use Rattle.smap_record.specs.declared.refusal.MapRefusal.{MapRefusal}
 use Rattle.smap_record.specs.declared.refusal.MapRefusal.TheVariants.{Url}
-use Rattle.smap_replies.specs.Files.{IsUnread, MayRead, OfFile}
-use Rattle.smap_replies.specs.Base.{base_of}
-use Rattle.smap_replies.specs.Map.{Never, ReportsFound, refusal_result}
+use Rattle.smap_io.specs.declared.transfer.ReadFailure.TheVariants.{Device}
+use Rattle.smap_replies.specs.Files.{MayRead}
+use Rattle.smap_replies.specs.Lines.{file_failed_line}
+use Rattle.smap_replies.specs.Map.{refusal_result}
+use Rattle.smap_replies.specs.Standing.{IsRefusedFor}
 use Rattle.smap_store.specs.Loaded.{Came}
 use Rattle.smap_store.specs.declared.loader.NoMap.{NoMap}
 use Rattle.smap_store.specs.declared.loader.NoMap.TheVariants.{Unnamed, Unread, Refused, Memory}
-use Rattle.smap_text_answers.specs.ByPath.{IsRefusedFor, record_at}
+use Rattle.smap_text_answers.specs.Standing.{record_loaded}
 use Rattle.smap_text_answers.specs.Lines.{map_memory_line}
 use Rattle.smap_replies.specs.Outcome.{Report, failure, out_of_memory}
 use Rattle.smap_replies.specs.Streams.{IsReportedTo}
 use Rattle.smap_text_answers.specs.declared.loader.FileLoader.{FileLoader}
-
--- ---- its base
-
--- the URL against which the sources of a map are resolved that is read for a URL: the base where there is one, else that URL
--- without its query and its fragment, where that is UTF-8 and a URL
-abbrev pub base_at : Option Parts → (url : List ℕ) → Option Parts
-base_at base url = if is_utf8 (without_query url) then base_of base (without_query url) else base
-
--- what the bytes of a file state as the map of a URL, with its sources named by that where paths are asked for
-abbrev pub record_loaded : (paths : Bool) → Option Parts → (k : ℕ) → (url bytes : List ℕ) → Result MapRecord MapRefusal
-record_loaded paths base k url bytes = record_at paths base (base_at base url) k url bytes
 
 -- ---- what reads maps
 
@@ -61,41 +50,35 @@ pub record IsSameLoader {F E : Type 0} (old new : FileLoader F E) : Type 0 where
   pub number : new.number ≡ old.number
   pub errors : new.errors.ghost_name ≡ old.errors.ghost_name
 
+-- how it is reported that no map comes from the file at a path: want of memory with the path, if there is memory for that
+abbrev pub IsReportFor : NoMap → (path : List ℕ) → Report → Type 0
+IsReportFor Unnamed path report = ⊥
+IsReportFor Unread path report = report ≡ failure (file_failed_line path)
+IsReportFor (Refused refusal) path report = report ≡ refusal_result path refusal
+IsReportFor Memory path report = (report ≡ failure (map_memory_line path)) ⊎ (report ≡ out_of_memory)
+
 module _ (Reads : MayRead) (paths : Bool) (base : Option Parts) (k number : ℕ) where
   -- reading the file at this path gives so many bytes, and these are a map that states this
   abbrev pub IsLoaded : (url path : List ℕ) → MapRecord → (file_bytes : ℕ) → Type 0
   IsLoaded url path stated file_bytes = (bytes : List ℕ) × Reads number path (Ok bytes) × (file_bytes ≡ length bytes)
       × (record_loaded paths base k url bytes ≡ Ok stated)
 
-  -- or it can't be read, or its map is refused, and this is reported, memory aside
-  abbrev pub FailsToRead : (url path : List ℕ) → Report → Type 0
-  FailsToRead url path report =
-      OfFile Reads number path (λ bytes. ReportsFound (refusal_result path) (record_loaded paths base k url bytes) Never) report
+  -- or none does: memory ran out; or the file can't be read; or its map is refused, for this
+  abbrev pub FailsBy : NoMap → (url path : List ℕ) → Type 0
+  FailsBy Unnamed url path = ⊥
+  FailsBy Unread url path = Reads number path (Err Device)
+  FailsBy (Refused refusal) url path =
+      (bytes : List ℕ) × Reads number path (Ok bytes) × IsRefusedFor (record_loaded paths base k url bytes) refusal
+  FailsBy Memory url path = ⊤
 
-  -- memory ran out; or the file can't be read; or its map is refused, for this
-  abbrev pub FailsBy : NoMap → (url path : List ℕ) → Report → Type 0
-  FailsBy Unnamed url path report = ⊥
-  FailsBy Memory url path report = report ≡ out_of_memory
-  FailsBy Unread url path report = IsUnread Reads number path report
-  FailsBy (Refused refusal) url path report =
-      (bytes : List ℕ) × Reads number path (Ok bytes) × IsRefusedFor (record_loaded paths base k url bytes) refusal × (report ≡ refusal_result path refusal)
-
-  -- the same, where memory's end is reported with the path, if there is memory for that
+  -- and this is reported
   abbrev pub FailsWith : NoMap → (url path : List ℕ) → Report → Type 0
-  FailsWith why url path report = FailsBy why url path report ⊎ ((why ≡ Memory) × (report ≡ failure (map_memory_line path)))
-
-  -- one of these
-  abbrev pub FailsToLoad : (url path : List ℕ) → Report → Type 0
-  FailsToLoad url path report = (report ≡ out_of_memory) ⊎ ((report ≡ failure (map_memory_line path)) ⊎ FailsToRead url path report)
+  FailsWith why url path report = FailsBy why url path × IsReportFor why path report
 
   -- what may come
   abbrev pub MayLoad : (url path : List ℕ) → Option MapRecord → Type 0
-  MayLoad url path None = (report : Report) × FailsToLoad url path report
+  MayLoad url path None = (why : NoMap) × (report : Report) × FailsWith why url path report
   MayLoad url path (Some stated) = (file_bytes : ℕ) × IsLoaded url path stated file_bytes
-
--- why the map at a path can't be had, named
-abbrev pub named_report : (path : List ℕ) → (report named : Report) → Type 0
-named_report path report named = (named ≡ report) ⊎ ((report ≡ out_of_memory) × (named ≡ failure (map_memory_line path)))
 
 -- one more, as far as 64 bits can count
 abbrev pub one_more : ℕ → ℕ

@@ -2,4 +2,3 @@
 pub mod Causes
 pub mod Gathering
 pub mod Sources
-pub mod Unloaded

@@ -6,7 +6,7 @@ use Rattle.smap_record.specs.Record.{MapRecord}
 use Rattle.smap_record.specs.declared.refusal.MapRefusal.{MapRefusal}
 use Rattle.smap_store.specs.ByPath.{MapsByPath}
 use Rattle.smap_replies.specs.Files.{MayRead}
-use Rattle.smap_text_answers.specs.Loader.{record_loaded}
+use Rattle.smap_text_answers.specs.Standing.{record_loaded}
 
 -- ---- the files
 

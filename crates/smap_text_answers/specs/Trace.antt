@@ -19,12 +19,11 @@ use Rattle.smap_trace.specs.declared.outcome.Summary.{Summary}
 use Rattle.smap_trace.specs.declared.refusal.TableRefusal.{TableRefusal}
 use Rattle.smap_trace.specs.declared.refusal.TableRefusal.TheVariants.{Memory}
 use Rattle.smap_replies.specs.Arguments.{argument_text}
-use Rattle.smap_replies.specs.Base.{base_of}
 use Rattle.smap_replies.specs.Lines.{argument_refused_line}
 use Rattle.smap_replies.specs.Files.{MayRead, IsUnread}
 use Rattle.smap_replies.specs.Map.{refusal_result}
 use Rattle.smap_replies.specs.Outcome.{OrMemory, Report, answer, fault_report, misuse, out_of_memory}
-use Rattle.smap_text_answers.specs.ByPath.{record_at}
+use Rattle.smap_text_answers.specs.Standing.{record_named}
 
 -- ---- the table
 
@@ -47,10 +46,6 @@ abbrev pub PutsFound : Maps → (url path : List ℕ) → Result MapRecord MapRe
 PutsFound maps url path (Err refused) result = result ≡ Err (refusal_result path refused)
 PutsFound maps url path (Ok stated) result =
     (result ≡ Err (refusal_result path Url)) ⊎ Puts maps url path stated (url_refusal maps url) result
-
--- what the bytes of a file state as the map of a URL, with its sources named by that where paths are asked for
-abbrev pub record_named : (paths : Bool) → Option Parts → (k : ℕ) → (url bytes : List ℕ) → Result MapRecord MapRefusal
-record_named paths base k url bytes = record_at paths base (base_of base url) k url bytes
 
 -- the map that these bytes are, with checkpoints at the interval k, goes into the table, unless memory runs out
 abbrev pub PutsMap : (paths : Bool) → Option Parts → (k : ℕ) → Maps → (url path bytes : List ℕ) → Result Maps Report → Type 0

@@ -20,8 +20,9 @@ use Rattle.smap_replies.specs.Streams.{IsReportedTo}
 use Rattle.smap_replies.specs.declared.files.UnreadCause.{UnreadCause}
 use Rattle.smap_replies.specs.declared.files.UnreadCause.TheVariants as causes
 use Rattle.smap_text.specs.Shown.{shown}
-use Rattle.smap_text_answers.specs.ByPath.{IsRefusedFor}
-use Rattle.smap_text_answers.specs.Loader.{IsLoaded, record_loaded}
+use Rattle.smap_replies.specs.Standing.{IsRefusedFor}
+use Rattle.smap_text_answers.specs.Loader.{IsLoaded}
+use Rattle.smap_text_answers.specs.Standing.{record_loaded}
 use Rattle.smap_store.specs.Fileless.{asks_no_file}
 use Rattle.smap_text_answers.specs.Nearest.{nearest_of}
 use Rattle.smap_trace.specs.UrlNotes.{NotesSeen, UrlNoteSeen}

@@ -9,13 +9,13 @@
 #![tactic(auto)]
 
 mod answering;
-mod by_path;
 mod ending;
 mod lines;
 mod loader;
 mod nearest;
 mod rewriting;
 mod sources;
+mod standing;
 mod trace;
 mod url_lines;
 

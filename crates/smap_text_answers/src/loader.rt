@@ -1,24 +1,20 @@
 //! The maps that are read when a text names them.
-ghost use Rattle.std.specs.Prelude.{◌≡◌, option_copied, IfErr, IfOk};
-ghost use Rattle.smap_text_answers.specs.ByPath.{MayRefuse};
-ghost use Rattle.smap_text_answers.specs.Loader.{FailsBy, IsLoaded, Notes, is_lost, is_of_url, loader_seen, named_report, record_loaded};
-ghost use Rattle.smap_text_answers.specs.Private.Unloaded.{IsUnloadedFor, unread_why};
-ghost use Rattle.smap_record.specs.MapFile.{IsMapOf};
-ghost use Rattle.smap_replies.specs.Outcome.{failure_report, failure, out_of_memory};
+ghost use Rattle.std.specs.Prelude.{◌≡◌, ◌⊎◌, option_copied, IfErr, IfOk};
+ghost use Rattle.smap_text_answers.specs.Loader.{FailsBy, IsLoaded, IsReportFor, Notes, is_lost, is_of_url, loader_seen};
+ghost use Rattle.smap_replies.specs.Outcome.{failure_report};
 ghost use Rattle.smap_store.specs.declared.loader.NoMap.TheVariants.{Memory};
 
-use crate::by_path::{goes_by_path, read_by_path};
 use crate::lines;
+use crate::standing::standing_loaded;
 use smap_codes::Code;
-use smap_io::ByteSink;
-use smap_locations::without_query;
-use smap_record::{MapFile, MapRefusal};
+use smap_io::{ByteSink, ReadFailure};
+use smap_record::MapRefusal;
 use smap_replies::{
-    Failure, FileReader, MapReader, NO_MEMORY, REFUSED, file_bytes, map_at_url, print_error,
+    Failure, FileReader, MapReader, REFUSED, file_failed_line, print_error, read_standing,
     refusal_of,
 };
 use smap_store::{LoadedMap, MapLoader, NoMap};
-use std::alloc::Global;
+use std::alloc::{AllocError, Global};
 
 // How many maps that can't be had are reported.
 const MOST_REPORTED: u64 = 100;
@@ -45,52 +41,29 @@ pub struct FileLoader<'m, 'r, 'e, F: FileReader, E: ByteSink> {
 }
 
 impl<F: FileReader, E: ByteSink> FileLoader<'_, '_, '_, F, E> {
-    // The map of a URL from the file at a path, or why there is none, beside how that is reported.
-    pub(crate) fn load_at(
-        &self,
-        alloc: Global,
-        url: &[u8],
-        path: &str,
-    ) -> Result<LoadedMap, Unloaded>
+    // The map of a URL from the file at a path, or why there is none.
+    pub(crate) fn load_at(&self, alloc: Global, url: &[u8], path: &str) -> Result<LoadedMap, NoMap>
         ensures read { IfOk result (λ loaded.
             IsLoaded (F.gives self.now.maps.now.files.now) self.now.paths
             (option_copied self.now.maps.now.base) self.now.maps.now.interval self.now.number
             url.now path.now loaded.map.stated loaded.file_bytes) }
-        ensures failed { IfErr result (λ unloaded.
+        ensures failed { IfErr result (λ why.
             FailsBy (F.gives self.now.maps.now.files.now) self.now.paths
             (option_copied self.now.maps.now.base) self.now.maps.now.interval self.now.number
-            unloaded.why url.now path.now (failure_report unloaded.failure)) }
-        ensures memory { IfErr result (λ unloaded.
-            failure_report unloaded.failure ≡ out_of_memory → unloaded.why ≡ Memory) }
+            why url.now path.now) }
     {
-        match file_bytes(alloc, self.maps.files, self.number, path) {
+        match self.maps.files.read_file(alloc, self.number, path) {
             Ok(bytes) => {
                 let file_bytes = bytes.len() as u64;
-                match self.map_at(alloc, url, bytes) {
+                let standing = standing_loaded(self.maps.base, self.paths, url);
+                match read_standing(alloc, standing, self.maps.interval, bytes) {
                     Ok(map) => Ok(LoadedMap { map, file_bytes }),
-                    Err(refusal) => Err(refused(alloc, path, refusal)),
+                    Err(MapRefusal::Memory) => Err(NoMap::Memory),
+                    Err(refusal) => Err(NoMap::Refused(refusal)),
                 }
             }
-            Err(failure) => Err(unread(failure)),
-        }
-    }
-
-    // The map that the bytes are, with its sources named by the URL, where it goes by that; else its base, where none is
-    // given, is the URL without its query and its fragment.
-    fn map_at(&self, alloc: Global, url: &[u8], bytes: Vec<u8>) -> Result<MapFile, MapRefusal>
-        ensures read { IfOk result (IsMapOf (record_loaded self.now.paths
-            (option_copied self.now.maps.now.base) self.now.maps.now.interval url.now bytes.items)
-            self.now.maps.now.interval) }
-        ensures refused { IfErr result (MayRefuse (record_loaded self.now.paths
-            (option_copied self.now.maps.now.base) self.now.maps.now.interval url.now
-            bytes.items)) }
-    {
-        if goes_by_path(self.maps, self.paths, url) {
-            return read_by_path(alloc, url, bytes, self.maps.interval);
-        }
-        match str::from_utf8(without_query(url)) {
-            Ok(url) => map_at_url(alloc, self.maps, url, bytes),
-            Err(_) => MapFile::read_owned(alloc, bytes, self.maps.base, self.maps.interval),
+            Err(ReadFailure::Device) => Err(NoMap::Unread),
+            Err(ReadFailure::Memory) => Err(NoMap::Memory),
         }
     }
 
@@ -132,10 +105,10 @@ impl<F: FileReader, E: ByteSink> MapLoader for FileLoader<'_, '_, '_, F, E> {
     fn load(&mut self, alloc: Global, url: &[u8], path: &str) -> Result<LoadedMap, NoMap> {
         match self.load_at(alloc, url, path) {
             Ok(loaded) => Ok(loaded),
-            Err(unloaded) => {
-                let Unloaded { why, failure } = unloaded;
-                self.note(why, &named(alloc, path, failure));
-                Err(why)
+            Err(why) => {
+                let told = unloaded_for(alloc, path, why);
+                self.note(told.why, &told.failure);
+                Err(told.why)
             }
         }
     }
@@ -147,13 +120,6 @@ impl<F: FileReader, E: ByteSink> MapLoader for FileLoader<'_, '_, '_, F, E> {
         loader.maps.now.interval loader.number _ _ url path came loads.0 };
 
     ghost same = { λ loader after url path other other_path came more loads may. same_load F.gives loader after loads.1 other other_path more may };
-}
-
-// Why no map came from a file, and how that is reported, before memory's end is named.
-#[derive(Drop)]
-pub(crate) struct Unloaded {
-    pub(crate) why: NoMap,
-    pub(crate) failure: Failure,
 }
 
 // Whether a map is lost of which its file does not say so: memory ran out, or the URL of a source was too long.
@@ -174,52 +140,44 @@ fn is_of_url(refusal: MapRefusal) -> bool
     matches!(refusal, MapRefusal::Url)
 }
 
-// What a failure to read a file comes to.
-fn unread(failure: Failure) -> Unloaded
-    ensures why { result.why ≡ unread_why (failure_report failure).text }
-    ensures reported { failure_report result.failure ≡ failure_report failure }
-{
-    let why = unread_why(&failure);
-    Unloaded { why, failure }
+// Why no map came from a file, and how that is reported.
+#[derive(Drop)]
+struct Unloaded {
+    why: NoMap,
+    failure: Failure,
 }
 
-// Why there is no map, by the failure to read its file.
-fn unread_why(failure: &Failure) -> NoMap
-    ensures { result ≡ unread_why (failure_report failure.now).text }
+// That no map came from the file at a path, for this; or for want of memory, where there is none to say so.
+fn unloaded_for(alloc: Global, path: &str, why: NoMap) -> Unloaded
+    ensures why { (result.why ≡ why) ⊎ (result.why ≡ Memory) }
+    ensures reported { IsReportFor result.why path.now (failure_report result.failure) }
 {
-    if failure.bytes() == NO_MEMORY.as_bytes() {
-        NoMap::Memory
-    } else {
-        NoMap::Unread
-    }
-}
-
-// What a refusal of the map in the file at a path comes to.
-fn refused(alloc: Global, path: &str, refusal: MapRefusal) -> Unloaded
-    ensures { IsUnloadedFor path.now refusal result.why (failure_report result.failure) }
-{
-    match refusal_of(alloc, path, refusal) {
-        Ok(failure) => Unloaded {
-            why: NoMap::Refused(refusal),
-            failure,
-        },
+    match failure_for(alloc, path, why) {
+        Ok(failure) => Unloaded { why, failure },
         Err(_) => Unloaded {
             why: NoMap::Memory,
-            failure: Failure::Memory,
+            failure: no_memory_for(alloc, path),
         },
     }
 }
 
-// Why the map of the file at a path can't be had: where memory ran out, by a line that names the file, if there is memory
-// for that.
-fn named(alloc: Global, path: &str, failure: Failure) -> Failure
-    ensures { named_report path.now (failure_report failure) (failure_report result) }
+// How it is reported; not here, where memory ran out.
+fn failure_for(alloc: Global, path: &str, why: NoMap) -> Result<Failure, AllocError>
+    ensures { IfOk result (λ failure. IsReportFor why path.now (failure_report failure)) }
 {
-    match failure {
-        Failure::Memory => match lines::map_memory_line(alloc, path) {
-            Ok(line) => Failure::Unreadable(line),
-            Err(_) => Failure::Memory,
-        },
-        other => other,
+    match why {
+        NoMap::Unread => Ok(Failure::Unreadable(file_failed_line(alloc, path)?)),
+        NoMap::Refused(refusal) => refusal_of(alloc, path, refusal),
+        NoMap::Unnamed | NoMap::Memory => Err(AllocError),
+    }
+}
+
+// That memory ran out: by a line that names the file at a path, if there is memory for that.
+fn no_memory_for(alloc: Global, path: &str) -> Failure
+    ensures { IsReportFor Memory path.now (failure_report result) }
+{
+    match lines::map_memory_line(alloc, path) {
+        Ok(line) => Failure::Unreadable(line),
+        Err(_) => Failure::Memory,
     }
 }

@@ -1,21 +1,16 @@
 //! Rewriting the stack trace on standard input.
-ghost use Rattle.std.specs.Prelude.{◌≡◌, ◌&&◌, [], false, map, option_copied, Ok, IfErr, IfOk};
-ghost use Rattle.smap_record.specs.MapFile.{IsMapOf};
-ghost use Rattle.smap_replies.specs.Map.{Never, ReportsFound, refusal_result};
-ghost use Rattle.smap_replies.specs.Outcome.{OrMemory, failure_report, report_of};
+ghost use Rattle.std.specs.Prelude.{◌≡◌, ◌&&◌, [], false, map, option_copied, Ok, IfOk};
+ghost use Rattle.smap_replies.specs.Outcome.{failure_report, report_of};
 ghost use Rattle.smap_lines.specs.Editing.{devices_seen};
 ghost use Rattle.smap_text_answers.specs.Private.Gathering.{gathered};
 ghost use Rattle.smap_locations.specs.ListLine.{is_rule};
-ghost use Rattle.smap_text_answers.specs.Trace.{Gathers, PutsNext, IsTraceRewritten, RewriteReports, record_named, rewrite_report, url_refusal_result};
+ghost use Rattle.smap_text_answers.specs.Trace.{Gathers, PutsNext, IsTraceRewritten, RewriteReports, rewrite_report, url_refusal_result};
 ghost use Rattle.smap_replies.specs.Arguments.{argument_of};
 
-use crate::by_path::{goes_by_path, map_by_path};
+use crate::standing::standing_named;
 use smap_io::{ByteSink, ByteSource};
 use smap_locations::is_rule;
-use smap_record::MapFile;
-use smap_replies::{
-    Failure, FileReader, MapReader, Reply, file_bytes, read_map_at, refused_argument,
-};
+use smap_replies::{Failure, FileReader, MapReader, Reply, file_bytes, map_of, refused_argument};
 use smap_trace::{RewriteFault, Summary, Table, TableRefusal, rewrite};
 use std::alloc::{AllocError, Global};
 
@@ -96,34 +91,13 @@ fn with_map<F: FileReader>(
         url.now path.now bytes.items (gathered result) }
 {
     let mut table = table?;
-    let map = map_for(alloc, maps, paths, url, path, bytes)?;
+    let standing = standing_named(maps.base, paths, url);
+    let map = map_of(alloc, path, standing, maps.interval, bytes)?;
     let owned = String::from_str(alloc, url)?;
     match table.add(owned, map) {
         Ok(()) => Ok(table),
         Err((refusal, _, _)) => Err(refused_url(alloc, refusal, url, path)?),
     }
-}
-
-// The map that the bytes of the file at a path are for a URL, with its sources named by that, where it goes by it.
-fn map_for<F: FileReader>(
-    alloc: Global,
-    maps: &MapReader<'_, F>,
-    paths: bool,
-    url: &str,
-    path: &str,
-    bytes: Vec<u8>,
-) -> Result<MapFile, Failure>
-    ensures read { IfOk result (IsMapOf (record_named paths (option_copied maps.now.base)
-        maps.now.interval url.now bytes.items) maps.now.interval) }
-    ensures refused { IfErr result (λ failure. OrMemory (ReportsFound (refusal_result path.now)
-        (record_named paths (option_copied maps.now.base) maps.now.interval url.now bytes.items)
-        Never) (failure_report failure)) }
-{
-    let named = url.as_bytes();
-    if goes_by_path(maps, paths, named) {
-        return map_by_path(alloc, named, path, bytes, maps.interval);
-    }
-    read_map_at(alloc, maps, url, path, bytes)
 }
 
 // Why a map is not put under a URL.

@@ -27,9 +27,10 @@ use Rattle.smap_store.specs.Loaded.{Came, Outcome, outcome_in}
 use Rattle.smap_store.specs.Stored.{Asks, Comes, FindsIn, Recalls, StoredSeen, Untouched, known_outcome, outcome_at, outcome_of}
 use Rattle.smap_store.specs.declared.loader.NoMap.{NoMap}
 use Rattle.smap_store.specs.declared.loader.NoMap.TheVariants.{Unnamed, Unread, Refused, Memory}
-use Rattle.smap_text_answers.specs.ByPath.{IsRefusedFor}
-use Rattle.smap_text_answers.specs.Loader.{FailsWith, LoaderSeen, Loads, record_loaded}
+use Rattle.smap_replies.specs.Standing.{IsRefusedFor}
+use Rattle.smap_text_answers.specs.Loader.{FailsWith, LoaderSeen, Loads}
 use Rattle.smap_text_answers.specs.SameBytes.{BytesByPath, ReadsAlike}
+use Rattle.smap_text_answers.specs.Standing.{record_loaded}
 
 -- ---- lines, one after another
 
@@ -85,12 +86,11 @@ module _ (Reads : MayRead) (paths : Bool) (base : Option Parts) (k number : ℕ)
       subst (λ b. IsFoundOf paths base k url b outcome) (sym (alike.same path bytes read)) is
 
   failed : (why : NoMap) (url path : List ℕ) (report : Report) → FailsWith Reads paths base k number why url path report → Found url (Some path) (Err why)
-  failed why url path report (inr named) = inl (ap (λ w. Err w) named.0)
-  failed Unnamed url path report (inl fails) = absurd fails
-  failed Memory url path report (inl fails) = inl refl
-  failed Unread url path report (inl unread) =
-      inr (subst (λ b. IsFoundOf paths base k url b (Err Unread)) (sym (alike.fails path unread.0)) refl)
-  failed (Refused refusal) url path report (inl (bytes, read, refused, is)) =
+  failed Unnamed url path report (never, is) = absurd never
+  failed Memory url path report (memory, is) = inl refl
+  failed Unread url path report (unread, is) =
+      inr (subst (λ b. IsFoundOf paths base k url b (Err Unread)) (sym (alike.fails path unread)) refl)
+  failed (Refused refusal) url path report ((bytes, read, refused), is) =
       inr (found_bytes url path bytes (Err (Refused refusal)) read (refused_in (record_loaded paths base k url bytes) refusal refused))
 
   loaded : (old new : LoaderSeen) (url path : List ℕ) (came : Came) → Loads Reads paths base k number old url path came new → Found url (Some path) (outcome_in came)

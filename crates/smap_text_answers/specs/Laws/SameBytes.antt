@@ -27,13 +27,12 @@ use Rattle.smap_trace.specs.UrlNotes.{NotesSeen}
 use Rattle.smap_trace.specs.declared.outcome.RewriteCounts.{RewriteCounts}
 use Rattle.smap_trace.specs.declared.outcome.Summary.{Summary}
 use Rattle.smap_replies.specs.Files.{MayRead}
-use Rattle.smap_text_answers.specs.ByPath.{IsRefusedFor}
-use Rattle.smap_text_answers.specs.Laws.Loader.{fails_to_load}
-use Rattle.smap_text_answers.specs.Loader.{FailsToLoad, FailsWith, LoaderSeen, Loads, is_lost, is_of_url, record_loaded}
-use Rattle.smap_replies.specs.Map.{Never, ReportsFound, refusal_result}
+use Rattle.smap_replies.specs.Standing.{IsRefusedFor}
+use Rattle.smap_text_answers.specs.Loader.{FailsBy, FailsWith, LoaderSeen, Loads, is_lost, is_of_url}
 use Rattle.smap_replies.specs.Outcome.{Report}
 use Rattle.smap_text_answers.specs.RewriteFrom.{AnswersByPath, IsOverStore, IsStoredRewritten, RequestSeen, RewritesTextBy, most_passed, places_of, store_start}
 use Rattle.smap_text_answers.specs.SameBytes.{AreSettled, BytesByPath, FailsSame, ReadsSame, maps_at, stated_by, stated_in}
+use Rattle.smap_text_answers.specs.Standing.{record_loaded}
 use Rattle.smap_replies.specs.Streams.{Streams}
 use Rattle.smap_text_answers.specs.declared.rewriting.StoreEnd.{StoreEnd}
 use Rattle.smap_text_answers.specs.declared.sources.MapSources.{MapSources}
@@ -76,18 +75,12 @@ module _ (Reads : MayRead) (paths : Bool) (base : Option Parts) (k number : ℕ)
   Settled loader = AreSettled Reads number bytes_at loader.status loader.lost
 
   -- what is said of a map that can't be had has a status
-  refused_status : (path : List ℕ) (report : Report) (found : Result MapRecord MapRefusal) → ReportsFound (refusal_result path) found Never report
-      → report.status ≡ 1
-  refused_status path report (Err refused) reported = ap (λ t. t.status) reported
-  refused_status path report (Ok stated) (inl reported) = ap (λ t. t.status) reported
-  refused_status path report (Ok stated) (inr never) = absurd never
-
-  fails_reported : (url path : List ℕ) (report : Report) → FailsToLoad Reads paths base k number url path report → report.status < 1 → ⊥
-  fails_reported url path report (inl memory) few = let status = ap (λ t. t.status) memory in omega (arith, status, few)
-  fails_reported url path report (inr (inl named)) few = let status = ap (λ t. t.status) named in omega (arith, status, few)
-  fails_reported url path report (inr (inr (inl unread))) few = let status = ap (λ t. t.status) unread.1 in omega (arith, status, few)
-  fails_reported url path report (inr (inr (inr (bytes, read, reported)))) few =
-      let status = refused_status path report (record_loaded paths base k url bytes) reported in omega (arith, status, few)
+  fails_reported : (why : NoMap) (url path : List ℕ) (report : Report) → FailsWith Reads paths base k number why url path report → report.status < 1 → ⊥
+  fails_reported Unnamed url path report fails few = absurd fails.1
+  fails_reported Unread url path report fails few = let status = ap (λ t. t.status) fails.1 in omega (arith, status, few)
+  fails_reported (Refused refusal) url path report (fails, is) few = let status = ap (λ t. t.status) is in omega (arith, status, few)
+  fails_reported Memory url path report (fails, inl named) few = let status = ap (λ t. t.status) named in omega (arith, status, few)
+  fails_reported Memory url path report (fails, inr memory) few = let status = ap (λ t. t.status) memory in omega (arith, status, few)
 
   -- where its map is refused, or it can't be read, its file has none
   refused_none : (found : Result MapRecord MapRefusal) (refusal : MapRefusal) → IsRefusedFor found refusal → is_of_url refusal ≡ false
@@ -95,23 +88,22 @@ module _ (Reads : MayRead) (paths : Bool) (base : Option Parts) (k number : ℕ)
   refused_none (Err given) refusal is kept = refl
   refused_none (Ok stated) refusal is kept = let lost : true ≡ false = ap is_of_url (sym is) ∙ kept in cc
 
-  fails_none : FailsSame Reads number bytes_at → (why : NoMap) (url path : List ℕ) (report : Report)
-      → FailsWith Reads paths base k number why url path report → is_lost why ≡ false → load url path ≡ None
-  fails_none fails why url path report (inr named) kept = let lost : true ≡ false = ap is_lost (sym named.0) ∙ kept in cc
-  fails_none fails Unnamed url path report (inl never) kept = absurd never
-  fails_none fails Memory url path report (inl memory) kept = cc
-  fails_none fails Unread url path report (inl unread) kept = ap (stated_by paths base k url) (fails path unread.0)
-  fails_none fails (Refused refusal) url path report (inl (bytes, read, refused, is)) kept =
+  fails_none : FailsSame Reads number bytes_at → (why : NoMap) (url path : List ℕ) → FailsBy Reads paths base k number why url path
+      → is_lost why ≡ false → load url path ≡ None
+  fails_none fails Unnamed url path never kept = absurd never
+  fails_none fails Memory url path memory kept = cc
+  fails_none fails Unread url path unread kept = ap (stated_by paths base k url) (fails path unread)
+  fails_none fails (Refused refusal) url path (bytes, read, refused) kept =
       ap (stated_by paths base k url) (same path bytes read) ∙ refused_none (record_loaded paths base k url bytes) refusal refused kept
 
   loads_settled : (old new : LoaderSeen) (url path : List ℕ) (came : Came) → Loads Reads paths base k number old url path came new
       → Settled new → Settled old × (record_in came ≡ load url path)
   loads_settled old new url path (Err why) loads (inl silent) =
       let status = loads.2.status in
-      absurd (fails_reported url path loads.0 (fails_to_load Reads paths base k number why url path loads.0 loads.1) (omega (arith, status, silent)))
+      absurd (fails_reported why url path loads.0 loads.1 (omega (arith, status, silent)))
   loads_settled old new url path (Err why) loads (inr (fails, all)) =
       let none = or_none old.lost (is_lost why) (sym loads.2.lost ∙ all) in
-      (inr (fails, none.0), sym (fails_none fails why url path loads.0 loads.1 none.1))
+      (inr (fails, none.0), sym (fails_none fails why url path loads.1.0 none.1))
   loads_settled old new url path (Ok (stated, file_bytes)) loads settled =
       let (bytes, read, many, is) = loads.0 in
       (subst Settled loads.1 settled, sym (ap (stated_by paths base k url) (same path bytes read) ∙ ap stated_in is))

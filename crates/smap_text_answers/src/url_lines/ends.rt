@@ -3,18 +3,17 @@ ghost use Rattle.std.specs.Prelude.{◌≡◌, ◌&&◌, map, not, option_copied
 ghost use Rattle.std.specs.Str.{bytes_eq};
 ghost use Rattle.smap_locations.specs.ListLine.{is_rule};
 ghost use Rattle.smap_replies.specs.Arguments.{argument_of};
-ghost use Rattle.smap_replies.specs.Outcome.{failure_report};
 ghost use Rattle.smap_text_answers.specs.Private.Causes.{SaysWhy};
 ghost use Rattle.smap_text_answers.specs.UrlLines.{IsCause, IsEnd};
 ghost use Rattle.smap_text_answers.specs.UrlLines.{body_of, cause_text, deciding_name, found_text, late_text, nearest_text, unknown_text, unmapped_text, unread_text, url_file, word_file};
 ghost use Rattle.smap_trace.specs.NotesSeen.{note_seen};
 
 use super::shown_url;
-use crate::loader::{FileLoader, Unloaded};
+use crate::loader::FileLoader;
 use crate::nearest::nearest_of;
 use smap_io::ByteSink;
 use smap_locations::{Locations, is_rule};
-use smap_replies::{FileReader, UnreadCause};
+use smap_replies::{FileReader, UnreadCause, refusal_of};
 use smap_store::{NoMap, asks_no_file};
 use smap_text::shown;
 use smap_trace::UrlNote;
@@ -174,7 +173,7 @@ fn cause_of<F: FileReader, E: ByteSink>(
 {
     match loader.load_at(alloc, url, path) {
         Ok(_) => Ok(late_text(alloc, path)?.into_bytes()),
-        Err(unloaded) => unloaded_text(alloc, loader.maps.files, path, &unloaded),
+        Err(why) => unloaded_text(alloc, loader.maps.files, path, why),
     }
 }
 
@@ -183,17 +182,19 @@ fn unloaded_text<F: FileReader>(
     alloc: Global,
     files: &F,
     path: &str,
-    unloaded: &Unloaded,
+    why: NoMap,
 ) -> Result<Vec<u8>, AllocError>
-    ensures { IfOk result (λ text. SaysWhy unloaded.now.why path.now
-        (failure_report unloaded.now.failure) text.items) }
+    ensures { IfOk result (λ text. SaysWhy why path.now text.items) }
 {
-    match unloaded.why {
+    match why {
         NoMap::Unread => {
             let text = unread_text(alloc, path, files.unread_cause(path))?;
             Ok(text.into_bytes())
         }
-        NoMap::Refused(_) => body_of(alloc, unloaded.failure.bytes()),
+        NoMap::Refused(refusal) => {
+            let failure = refusal_of(alloc, path, refusal)?;
+            body_of(alloc, failure.bytes())
+        }
         NoMap::Unnamed | NoMap::Memory => Err(AllocError),
     }
 }

@@ -1,5 +1,5 @@
 use Rattle.std.specs.Prelude.{option_copied}
-use Rattle.smap_text_answers.specs.Laws.Loader.{why_named}
+use Rattle.smap_text_answers.proofs.CauseLaws.{fails_told}
 use Rattle.smap_text_answers.proofs.loader.FileLoaderMapLoader.load.Goals as goal
 
 pub returns-in-Err : goal.returns-in-Err
@@ -7,8 +7,11 @@ returns-in-Err g c =
     let self = c.args.self.now in (
       (
         _,
-        why_named (g.F.FileReader.gives self.maps.now.files.now) self.paths (option_copied self.maps.now.base) self.maps.now.interval self.number
-            c.args.url.now c.args.path.now c.in-Err.unloaded.why _ _ c.in-Err.ensures.failed c.in-Err.ensures.memory c.named.ensures,
+        (
+          fails_told (g.F.FileReader.gives self.maps.now.files.now) self.paths (option_copied self.maps.now.base) self.maps.now.interval self.number
+              c.args.url.now c.args.path.now c.in-Err.why _ c.in-Err.ensures.failed c.unloaded_for-told.ensures.why,
+          c.unloaded_for-told.ensures.reported,
+        ),
         c.note.ensures.noted,
       ),
       record { maps = c.note.ensures.maps; paths = c.note.ensures.paths; number = c.note.ensures.number; errors = c.note.ensures.errors },
