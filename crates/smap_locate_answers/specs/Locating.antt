@@ -1,34 +1,18 @@
 -- How places are answered over maps that are read when a line names their URLs (this project's own): the map of each URL is looked
 -- for, and what is found then answers.
-use Rattle.std.specs.Prelude.{◌≡◌, ℕ, List, Option, Some, None, Result}
-use Rattle.std.specs.Result.{result_map_both, result_ok}
+use Rattle.std.specs.Prelude.{◌≡◌, ℕ, List, Option, Some, None}
+use Rattle.std.specs.Result.{result_ok}
 use Rattle.smap_lines.specs.Lines.{Line}
 use Rattle.smap_locate_answers.specs.Place.{Place, place_of}
 use Rattle.smap_positions.specs.Places.{bad_place_line, place_line}
 use Rattle.smap_positions.specs.declared.options.AnswerOptions.{AnswerOptions}
-use Rattle.smap_positions.specs.declared.places.Unanswered.{Unanswered}
-use Rattle.smap_positions.specs.declared.places.Unanswered.TheVariants as answers
 use Rattle.smap_record.specs.Record.{MapRecord}
 use Rattle.smap_store.specs.Loaded.{Outcome}
 use Rattle.smap_store.specs.Stored.{StoredSeen, outcome_at}
-use Rattle.smap_store.specs.declared.loader.NoMap.{NoMap}
-use Rattle.smap_store.specs.declared.loader.NoMap.TheVariants.{Unnamed, Unread, Refused, Memory}
-
--- ---- what answers
-
--- why no map answers
-abbrev pub unanswered_of : NoMap → Unanswered
-unanswered_of Unnamed = answers.NoMap
-unanswered_of Unread = answers.NoFile
-unanswered_of (Refused refused) = answers.Refused refused
-unanswered_of Memory = answers.NoMemory
-
-abbrev pub answer_from : Outcome → Result MapRecord Unanswered
-answer_from outcome = result_map_both (λ stated. stated) unanswered_of outcome
 
 -- the line for a place, where this is found under its URL
 abbrev pub located_line : AnswerOptions → Place → Outcome → List ℕ
-located_line options place outcome = place_line options place.url place.position (answer_from outcome)
+located_line options place outcome = place_line options place.url place.position outcome
 
 -- ---- a line
 

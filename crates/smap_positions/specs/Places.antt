@@ -16,9 +16,9 @@ use Rattle.smap_record.specs.declared.refusal.MapRefusal.TheVariants.{Text}
 use Rattle.smap_positions.specs.Json.{count, json_line, url_members}
 use Rattle.smap_positions.specs.Positions.{asked_line}
 use Rattle.smap_positions.specs.declared.options.AnswerOptions.{AnswerOptions}
-use Rattle.smap_positions.specs.declared.places.Unanswered.{Unanswered}
-use Rattle.smap_positions.specs.declared.places.Unanswered.TheVariants.{NoMap, NoFile, Refused, NoMemory}
 use Rattle.smap_positions.specs.declared.printed_position.PrintedPosition.{PrintedPosition}
+use Rattle.smap_store.specs.declared.loader.NoMap.{NoMap}
+use Rattle.smap_store.specs.declared.loader.NoMap.TheVariants.{Unnamed, Unread, Refused, Memory}
 
 -- ---- what is no place
 
@@ -30,38 +30,38 @@ bad_place_line form = if is_json form then json_line bad_place_value else line_f
 
 -- ---- why no map answers
 
-abbrev pub unanswered_word : Unanswered → List ℕ
-unanswered_word NoMap = codes "no map"
-unanswered_word NoFile = codes "no file"
+abbrev pub unanswered_word : NoMap → List ℕ
+unanswered_word Unnamed = codes "no map"
+unanswered_word Unread = codes "no file"
 unanswered_word (Refused code) = codes "refused"
-unanswered_word NoMemory = codes "no memory"
+unanswered_word Memory = codes "no memory"
 
 -- by which code the map is refused, where it is
-abbrev pub code_of : Unanswered → Option Code
-code_of NoMap = None
-code_of NoFile = None
+abbrev pub code_of : NoMap → Option Code
+code_of Unnamed = None
+code_of Unread = None
 code_of (Refused refused) = Some (map_code refused)
-code_of NoMemory = None
+code_of Memory = None
 
 -- the code of the fault for which a map's mappings are refused, where they are
 abbrev pub fault_in : MapRefusal → Option Code
 fault_in (Text section fault) = Some (kind_code fault.kind)
 fault_in other = None
 
-abbrev pub fault_of : Unanswered → Option Code
-fault_of NoMap = None
-fault_of NoFile = None
+abbrev pub fault_of : NoMap → Option Code
+fault_of Unnamed = None
+fault_of Unread = None
 fault_of (Refused refused) = fault_in refused
-fault_of NoMemory = None
+fault_of Memory = None
 
 abbrev pub words_of : (word : List ℕ) → (refusal : Option Code) → List (List ℕ)
 words_of word None = word ∷ []
 words_of word (Some code) = word ∷ codes " " ∷ label_of code ∷ []
 
-abbrev pub unanswered_line : Unanswered → List ℕ
+abbrev pub unanswered_line : NoMap → List ℕ
 unanswered_line why = line_from (words_of (unanswered_word why) (code_of why))
 
-abbrev pub unanswered_value : (url : List ℕ) → PrintedPosition → Unanswered → Data
+abbrev pub unanswered_value : (url : List ℕ) → PrintedPosition → NoMap → Data
 unanswered_value url position why = object (
     member (codes "answer") (string (unanswered_word why))
     (member (codes "column") (count position.column)
@@ -69,12 +69,12 @@ unanswered_value url position why = object (
     (member (codes "line") (count position.line)
     (member_where (codes "refusal") (option_map (λ code. string (label_of code)) (code_of why)) (url_members (Some url)))))))
 
-abbrev pub unanswered : Form → (url : List ℕ) → PrintedPosition → Unanswered → List ℕ
+abbrev pub unanswered : Form → (url : List ℕ) → PrintedPosition → NoMap → List ℕ
 unanswered form url position why = if is_json form then json_line (unanswered_value url position why) else unanswered_line why
 
 -- ---- a place
 
 -- what the map of its URL answers for it, or why none does
-abbrev pub place_line : AnswerOptions → (url : List ℕ) → PrintedPosition → Result MapRecord Unanswered → List ℕ
+abbrev pub place_line : AnswerOptions → (url : List ℕ) → PrintedPosition → Result MapRecord NoMap → List ℕ
 place_line options url position (Ok stated) = asked_line options (Some url) stated position
 place_line options url position (Err why) = unanswered options.form url position why

@@ -40,7 +40,7 @@ pub use generated::generated_text;
 pub use lookup::{lookup_as_json, lookup_text};
 pub use mappings::print_mappings;
 pub use options::{AnswerOptions, Direction, MappingsOptions, SourceOptions};
-pub use places::{AskedPlace, Unanswered, put_bad_place, put_place_line};
+pub use places::{AskedPlace, put_bad_place, put_place_line};
 pub use printed_position::PrintedPosition;
 pub use reading::{column_of, read_position};
 pub use sources::sources_text;

@@ -21,6 +21,7 @@ use smap_command::Form;
 use smap_io::{ByteSink, DeviceFault};
 use smap_lines::LineOutput;
 use smap_record::{MapFile, MapRefusal};
+use smap_store::NoMap;
 use std::alloc::Global;
 
 /// A generated position in the file of a URL, as it is asked for.
@@ -30,25 +31,12 @@ pub struct AskedPlace<'a> {
     pub position: PrintedPosition,
 }
 
-/// Why a place is not answered from a map.
-#[derive(Clone, Copy, Debug, PartialEq, Eq)]
-pub enum Unanswered {
-    /// No map is named for its URL.
-    NoMap,
-    /// The file of its map can't be read.
-    NoFile,
-    /// Its map is refused, for this.
-    Refused(MapRefusal),
-    /// Memory ran out.
-    NoMemory,
-}
-
 /// Puts the line for a place after the bytes that wait: what its map answers, or why none does. The call takes no memory.
 pub fn put_place_line<W: ByteSink>(
     alloc: Global,
     options: AnswerOptions,
     place: AskedPlace<'_>,
-    found: Result<&MapFile, Unanswered>,
+    found: Result<&MapFile, NoMap>,
     output: &mut LineOutput<'_, W>,
 ) -> Result<(), DeviceFault>
     ensures { IsPut W.seen output.old output.new
@@ -91,7 +79,7 @@ fn put_place<O: Output>(
     alloc: Global,
     options: AnswerOptions,
     place: AskedPlace<'_>,
-    found: Result<&MapFile, Unanswered>,
+    found: Result<&MapFile, NoMap>,
     output: &mut O,
 )
     ensures { O.Puts output.old output.new
@@ -131,7 +119,7 @@ pub fn put_answer<O: Output>(
 }
 
 // Puts the line that says why no map answers.
-fn put_unanswered<O: Output>(form: Form, place: AskedPlace<'_>, why: Unanswered, output: &mut O)
+fn put_unanswered<O: Output>(form: Form, place: AskedPlace<'_>, why: NoMap, output: &mut O)
     ensures { O.Puts output.old output.new
         (unanswered form place.entry.url.now place.entry.position why) }
 {
@@ -143,22 +131,22 @@ fn put_unanswered<O: Output>(form: Form, place: AskedPlace<'_>, why: Unanswered,
     }
 }
 
-fn put_unanswered_line<O: Output>(why: Unanswered, output: &mut O)
+fn put_unanswered_line<O: Output>(why: NoMap, output: &mut O)
     ensures { O.Puts output.old output.new (unanswered_line why) }
 {
     match why {
-        Unanswered::NoMap => output.put(b"no map\n"),
-        Unanswered::NoFile => output.put(b"no file\n"),
-        Unanswered::Refused(refused) => {
+        NoMap::Unnamed => output.put(b"no map\n"),
+        NoMap::Unread => output.put(b"no file\n"),
+        NoMap::Refused(refused) => {
             output.put(b"refused ");
             output.put(refused.code().label().as_bytes());
             output.put(b"\n");
         }
-        Unanswered::NoMemory => output.put(b"no memory\n"),
+        NoMap::Memory => output.put(b"no memory\n"),
     }
 }
 
-fn put_unanswered_object<O: Output>(place: AskedPlace<'_>, why: Unanswered, output: &mut O)
+fn put_unanswered_object<O: Output>(place: AskedPlace<'_>, why: NoMap, output: &mut O)
     ensures { O.Puts output.old output.new (compact_text
         (unanswered_value place.entry.url.now place.entry.position why)) }
 {
@@ -171,33 +159,33 @@ fn put_unanswered_object<O: Output>(place: AskedPlace<'_>, why: Unanswered, outp
     put_end(Some(place.url), output);
 }
 
-fn word_of(why: Unanswered) -> &'static str
+fn word_of(why: NoMap) -> &'static str
     ensures { result.now ≡ unanswered_word why }
 {
     match why {
-        Unanswered::NoMap => "no map",
-        Unanswered::NoFile => "no file",
-        Unanswered::Refused(_) => "refused",
-        Unanswered::NoMemory => "no memory",
+        NoMap::Unnamed => "no map",
+        NoMap::Unread => "no file",
+        NoMap::Refused(_) => "refused",
+        NoMap::Memory => "no memory",
     }
 }
 
 // By which code a map is refused, where it is.
-fn code_of(why: Unanswered) -> Option<Code>
+fn code_of(why: NoMap) -> Option<Code>
     ensures { result ≡ code_of why }
 {
     match why {
-        Unanswered::Refused(refused) => Some(refused.code()),
+        NoMap::Refused(refused) => Some(refused.code()),
         _ => None,
     }
 }
 
 // The code of the fault for which the mappings of a map are refused, where they are.
-fn fault_of(why: Unanswered) -> Option<Code>
+fn fault_of(why: NoMap) -> Option<Code>
     ensures { result ≡ fault_of why }
 {
     match why {
-        Unanswered::Refused(refused) => fault_in(refused),
+        NoMap::Refused(refused) => fault_in(refused),
         _ => None,
     }
 }

@@ -1,5 +1,5 @@
 //! Reading the map that a file is.
-ghost use Rattle.std.specs.Prelude.{◌≡◌, option_copied, IfErr, IfOk, Ok};
+ghost use Rattle.std.specs.Prelude.{option_copied, IfErr, IfOk, Ok};
 ghost use Rattle.smap_replies.specs.Files.{IsUnread};
 ghost use Rattle.smap_replies.specs.Map.{IsStated, Never, ReportsMap};
 ghost use Rattle.smap_replies.specs.Outcome.{OrMemory, failure_report};

@@ -1,5 +1,5 @@
 -- The maps that are read when a text names them: each from its file, and what is said of one that can't be had.
-use Rattle.std.specs.Prelude.{◌≡◌, ◌⊎◌, ℕ, ◌+◌, ◌-◌, ◌^◌, ◌==◌, ◌||◌, Bool, false, true, List, Option, Some, None, Result, Ok, Err, MatchBool, ⊤, cond, length, max, min, nat_lt}
+use Rattle.std.specs.Prelude.{◌≡◌, ◌⊎◌, ℕ, ◌+◌, ◌-◌, ◌^◌, ◌==◌, ◌||◌, Bool, false, true, List, Option, Some, None, Ok, Err, MatchBool, ⊤, cond, length, max, min, nat_lt}
 use Rattle.url.specs.Parts.{Parts}
 use Rattle.std.specs.Option.{option_or}
 use Rattle.smap_codes.specs.declared.code.Code.{Code}

@@ -1,5 +1,5 @@
 -- Laws of what reads maps from files, which its trait asks for.
-use Rattle.std.specs.Prelude.{◌≡◌, ℕ, List, Bool, Option, None, Ok, Err, option_copied, refl}
+use Rattle.std.specs.Prelude.{ℕ, List, Bool, Option, None, Ok, Err, option_copied, refl}
 use Rattle.std.proofs.Common.{inr, subst}
 use Rattle.url.specs.Parts.{Parts}
 use Rattle.smap_record.specs.Record.{MapRecord}

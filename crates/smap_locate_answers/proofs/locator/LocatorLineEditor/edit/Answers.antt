@@ -9,7 +9,7 @@ use Rattle.smap_locate_answers.proofs.locator.LocatorLineEditor.edit.Goals as go
 pub returns-clause-put : goal.returns-clause-put
 returns-clause-put g c =
     let finds = rw c.as_bytes-url.ensures.value at c.find.ensures.finds.0 in
-    let line = rw (c.answer_at-found.ensures, c.as_bytes-url.ensures.value) at c.put_place_line.ensures in
+    let line = rw (c.outcome_at-found.ensures, c.as_bytes-url.ensures.value) at c.put_place_line.ensures in
     put_one g.W.ByteSink.seen _ _ _ c.put_place_line.result _ _ line
     (rw (← c.in-Some.ensures.place) (became_at g.L.MapLoader.MayLoad g.L.MapLoader.Loads g.met.L.MapLoader.given _ _ _ (Some (place_seen c.in-Some.place)) _ (finds, refl)))
     (record { step = rw (← c.in-Some.ensures.place) (finds, refl); options = refl; same = c.find.ensures.finds.1 })
