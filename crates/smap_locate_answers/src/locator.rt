@@ -6,9 +6,10 @@ ghost use Rattle.smap_store.specs.Stored.{outcome_at};
 ghost use Rattle.smap_store.specs.StoredMaps.{stored_seen};
 
 use crate::place::read_place;
+use smap_command::AnswerOptions;
 use smap_io::{ByteSink, DeviceFault};
 use smap_lines::{LineEditor, LineOutput};
-use smap_positions::{AnswerOptions, Unanswered, put_bad_place, put_place_line};
+use smap_positions::{Unanswered, put_bad_place, put_place_line};
 use smap_record::MapFile;
 use smap_store::{MapLoader, NoMap, StoredMaps};
 use smap_trace::Maps;
