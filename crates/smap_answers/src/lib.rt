@@ -5,7 +5,7 @@
 //! let options = LookupOptions { form: Form::Text, explain: false };
 //! let (base, interval, after) = (None, USUAL_INTERVAL, false);
 //! let command = Command::Lookup { path, line: 0, column: 5, base, interval, after, options };
-//! let (status, input) = run_reading(rt.alloc(), &rt, &command, input, &mut output, &mut errors, &mut first);
+//! let (status, input) = run_reading(rt.alloc(), &rt, &command, false, input, &mut output, &mut errors, &mut first);
 //! ```
 #![tactic(auto)]
 

@@ -2,21 +2,20 @@
 ghost use Rattle.std.specs.Prelude.{◌≡◌, false, None, Option};
 ghost use Rattle.smap_replies.specs.Files.{gives_loaded};
 ghost use Rattle.smap_answers.specs.Run.{Runs, RunsOver};
-ghost use Rattle.smap_command.specs.Reading.{strips_ansi};
+ghost use Rattle.smap_command.specs.Reading.{reading_of};
 ghost use Rattle.smap_command.specs.Runnable.{IsRunnable};
 ghost use Rattle.smap_replies.specs.Streams.{streams_seen};
 
 use smap_check_answers::{answer_check, answer_explain, answer_fit};
 use smap_codes::Code;
-use smap_command::Command;
-use smap_compose_answers::{AllMaps, TwoMaps, answer_compose, answer_compose_all, answer_show};
+use smap_command::{Command, Direction, Fit, Reading};
+use smap_compose_answers::{answer_compose, answer_compose_all, answer_show};
 use smap_io::{ByteSink, ByteSource};
 use smap_locate_answers::{LocateRequest, answer_locate};
 use smap_map_answers::{
-    GeneratedAsked, LookUp, answer_content, answer_generated, answer_lookup, answer_mappings,
-    answer_positions, answer_raw, answer_sources,
+    LookUp, answer_content, answer_generated, answer_lookup, answer_mappings, answer_positions,
+    answer_raw, answer_sources,
 };
-use smap_positions::{AnswerOptions, Direction, MappingsOptions, SourceOptions};
 use smap_replies::{FileReader, Loaded, LoadedFiles, MapReader, report};
 use smap_sequences::WithoutSequences;
 use smap_text_answers::{TextRequest, answer_rewrite};
@@ -34,11 +33,11 @@ pub fn run<R: ByteSource, W: ByteSink, E: ByteSink>(
     errors: &mut E,
 ) -> u8
     requires command { IsRunnable command.now }
-    requires as_it_is { strips_ansi command.now ≡ false }
+    requires as_it_is { (reading_of command.now).strips_ansi ≡ false }
     requires input_works { (R.seen input.old).failed ≡ false }
     requires output_works { (W.seen output.old).failed ≡ false }
     requires errors_work { (E.seen errors.old).failed ≡ false }
-    ensures { (first : Option Code) × Runs (gives_loaded files.now) command.now result
+    ensures { (first : Option Code) × Runs (gives_loaded files.now) false command.now result
         (streams_seen (R.seen input.old) (W.seen output.old) (E.seen errors.old) None)
         (streams_seen (R.seen input.new) (W.seen output.new) (E.seen errors.new) first) }
 {
@@ -47,6 +46,7 @@ pub fn run<R: ByteSource, W: ByteSink, E: ByteSink>(
         alloc,
         &LoadedFiles(files),
         command,
+        false,
         input,
         output,
         errors,
@@ -60,11 +60,13 @@ pub fn run<R: ByteSource, W: ByteSink, E: ByteSink>(
 /// The code of the first refusal that is reported on standard error is put into `first`, where that has none. Where the
 /// command asks for it, the control sequences of a terminal are left out of the input before anything else looks at it. The
 /// caller gives a command at whose interval checkpoints may stand and whose numbers of bytes are in their ranges, and
-/// devices that have not failed.
+/// devices that have not failed. With `hint` standard error is told at the end, where nothing else was said, which option of
+/// `rewrite` takes the places of lines that are no frames.
 pub fn run_reading<F: FileReader, R: ByteSource, W: ByteSink, E: ByteSink>(
     alloc: Global,
     reader: &F,
     command: &Command,
+    hint: bool,
     mut input: R,
     output: &mut W,
     errors: &mut E,
@@ -74,16 +76,21 @@ pub fn run_reading<F: FileReader, R: ByteSource, W: ByteSink, E: ByteSink>(
     requires input_works { (R.seen input).failed ≡ false }
     requires output_works { (W.seen output.old).failed ≡ false }
     requires errors_work { (E.seen errors.old).failed ≡ false }
-    ensures { RunsOver (F.gives reader.now) command.now result.0
+    ensures { RunsOver (F.gives reader.now) hint command.now result.0
         (streams_seen (R.seen input) (W.seen output.old) (E.seen errors.old) first.old)
         (streams_seen (R.seen result.1) (W.seen output.new) (E.seen errors.new) first.new) }
 {
-    if !command.strips_ansi() {
-        let status = run_over(alloc, reader, command, &mut input, output, errors, first);
+    let Reading { strips_ansi, .. } = command.reading();
+    if !strips_ansi {
+        let status = run_over(
+            alloc, reader, command, hint, &mut input, output, errors, first,
+        );
         return (status, input);
     }
     let mut text = WithoutSequences::new(input);
-    let status = run_over(alloc, reader, command, &mut text, output, errors, first);
+    let status = run_over(
+        alloc, reader, command, hint, &mut text, output, errors, first,
+    );
     (status, text.into_inner())
 }
 
@@ -92,6 +99,7 @@ fn run_over<F: FileReader, R: ByteSource, W: ByteSink, E: ByteSink>(
     alloc: Global,
     reader: &F,
     command: &Command,
+    hint: bool,
     input: &mut R,
     output: &mut W,
     errors: &mut E,
@@ -101,14 +109,15 @@ fn run_over<F: FileReader, R: ByteSource, W: ByteSink, E: ByteSink>(
     requires input_works { (R.seen input.old).failed ≡ false }
     requires output_works { (W.seen output.old).failed ≡ false }
     requires errors_work { (E.seen errors.old).failed ≡ false }
-    ensures { Runs (F.gives reader.now) command.now result
+    ensures { Runs (F.gives reader.now) hint command.now result
         (streams_seen (R.seen input.old) (W.seen output.old) (E.seen errors.old) first.old)
         (streams_seen (R.seen input.new) (W.seen output.new) (E.seen errors.new) first.new) }
 {
+    let reading = command.reading();
     let maps = MapReader {
         files: reader,
-        base: command.base(),
-        interval: command.interval(),
+        base: reading.base,
+        interval: reading.interval,
     };
     let outcome = match command {
         Command::Raw {
@@ -136,65 +145,11 @@ fn run_over<F: FileReader, R: ByteSource, W: ByteSink, E: ByteSink>(
             };
             answer_lookup(alloc, &maps, path, asked)
         }
-        Command::Generated {
-            path,
-            source,
-            line,
-            column,
-            after,
-            options,
-            ..
-        } => {
-            let asked = GeneratedAsked {
-                source,
-                line: *line,
-                column: *column,
-                after: *after,
-                options: *options,
-            };
-            answer_generated(alloc, &maps, path, asked)
-        }
-        Command::Positions {
-            path,
-            after,
-            form,
-            ..
-        } => {
-            let options = AnswerOptions {
-                direction: Direction::of(*after),
-                form: *form,
-                context: None,
-            };
-            answer_positions(alloc, &maps, path, options, input, output)
-        }
-        Command::Mappings {
-            path,
-            line,
-            form,
-            ..
-        } => {
-            let options = MappingsOptions {
-                line: *line,
-                form: *form,
-            };
-            answer_mappings(alloc, &maps, path, options, output)
-        }
-        Command::Sources {
-            path,
-            generated,
-            by_bytes,
-            fit,
-            form,
-            ..
-        } => {
-            let options = SourceOptions {
-                by_bytes: *by_bytes,
-                fit: *fit,
-                form: *form,
-            };
-            answer_sources(alloc, &maps, path, generated.as_deref(), options)
-        }
-        Command::SourceContent { path, source } => answer_content(alloc, &maps, path, *source),
+        Command::Generated(asked) => answer_generated(alloc, &maps, asked),
+        Command::Positions(asked) => answer_positions(alloc, &maps, asked, input, output),
+        Command::Mappings(asked) => answer_mappings(alloc, &maps, asked, output),
+        Command::Sources(asked) => answer_sources(alloc, &maps, asked),
+        Command::SourceContent(asked) => answer_content(alloc, &maps, asked),
         Command::Rewrite {
             maps: arguments,
             hide_ignored,
@@ -206,51 +161,26 @@ fn run_over<F: FileReader, R: ByteSource, W: ByteSink, E: ByteSink>(
                 arguments,
                 hide_ignored: *hide_ignored,
                 options,
+                hint,
             };
             return answer_rewrite(alloc, &request, input, output, errors, first);
         }
-        Command::Locate {
-            maps: arguments,
-            options,
-            ..
-        } => {
-            let request = LocateRequest::new(&maps, arguments, options);
+        Command::Locate(asked) => {
+            let request = LocateRequest::new(&maps, asked);
             return answer_locate(alloc, &request, input, output, errors, first);
         }
         Command::Compose {
             outer,
             source,
             inner,
-            base,
             options,
-        } => {
-            let two = TwoMaps {
-                outer,
-                source: *source,
-                inner,
-                base: base.as_ref(),
-            };
-            answer_compose(alloc, reader, &two, *options)
-        }
-        Command::ComposeAll {
-            outer,
-            inners,
-            list,
-            base,
-            options,
-        } => {
-            let all = AllMaps {
-                outer,
-                words: inners,
-                list: list.as_deref(),
-                base: base.as_ref(),
-            };
-            answer_compose_all(alloc, reader, &all, *options)
-        }
-        Command::Fit { paths, options } => {
+            ..
+        } => answer_compose(alloc, &maps, outer, *source, inner, *options),
+        Command::ComposeAll(asked) => answer_compose_all(alloc, reader, asked),
+        Command::Fit(Fit { paths, options }) => {
             return answer_fit(alloc, &maps, paths, *options, output, errors, first);
         }
-        Command::Explain { code } => answer_explain(alloc, code.as_deref()),
+        Command::Explain(asked) => answer_explain(alloc, asked.code.as_deref()),
     };
     report(&outcome, output, errors, first)
 }

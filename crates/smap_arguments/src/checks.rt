@@ -9,7 +9,7 @@ use crate::mistakes::NO_GENERATED;
 use crate::usage::Usage;
 use crate::values::{copied_texts, flag_in, form_in, interval_in, text_if_given, texts_in};
 use clap::ArgMatches;
-use smap_command::{CheckOptions, Command, FitOptions};
+use smap_command::{CheckOptions, Command, Explain, Fit, FitOptions};
 use std::alloc::{AllocError, Global};
 use url::Url;
 
@@ -49,20 +49,20 @@ pub fn fit_in(alloc: Global, matches: &ArgMatches<'_>) -> Result<Command, Usage>
     if words.len() % 2 == 1 {
         return Err(Usage::Words(String::from_str(alloc, NO_GENERATED)?));
     }
-    Ok(Command::Fit {
+    Ok(Command::Fit(Fit {
         paths: copied_texts(alloc, words)?,
         options: FitOptions {
             form: form_in(matches),
             explain: flag_in(matches, "explain"),
         },
-    })
+    }))
 }
 
 pub fn explain_in(alloc: Global, matches: &ArgMatches<'_>) -> Result<Command, AllocError>
     ensures asked { IfOk result (NamedAsksFor (codes "explain") (rows_of (found_of matches.now))) }
     ensures in_range { IfOk result IsInRange }
 {
-    Ok(Command::Explain {
+    Ok(Command::Explain(Explain {
         code: text_if_given(alloc, matches, "CODE")?,
-    })
+    }))
 }

@@ -10,7 +10,7 @@ use crate::pairs::maps_in;
 use crate::usage::Usage;
 use crate::values::{bytes_in, context_in, flag_in, form_in, interval_in, text_if_given};
 use clap::ArgMatches;
-use smap_command::{Command, LocateOptions};
+use smap_command::{AnswerOptions, Command, Direction, Locate};
 use std::alloc::Global;
 use url::Url;
 
@@ -38,17 +38,17 @@ pub fn locate_in(
     if context.is_some() && !form.is_json() {
         return Err(Usage::Words(String::from_str(alloc, CONTEXT_ALONE)?));
     }
-    Ok(Command::Locate {
+    Ok(Command::Locate(Locate {
         maps,
         base,
         interval: interval_in(matches),
-        options: LocateOptions {
-            list: text_if_given(alloc, matches, "LIST")?,
-            paths,
-            cache_bytes: bytes_in(matches, "cache", 0),
-            after: flag_in(matches, "after"),
+        list: text_if_given(alloc, matches, "LIST")?,
+        paths,
+        cache_bytes: bytes_in(matches, "cache", 0),
+        options: AnswerOptions {
+            direction: Direction::of(flag_in(matches, "after")),
             form,
             context,
         },
-    })
+    }))
 }

@@ -8,7 +8,10 @@ use crate::values::{
     flag_in, form_in, interval_in, position_number_if_given, position_number_in, text_in,
 };
 use clap::ArgMatches;
-use smap_command::{Command, LookupOptions};
+use smap_command::{
+    AnswerOptions, Command, Direction, Generated, LookupOptions, MapChoice, Mappings,
+    MappingsOptions, Positions, USUAL_INTERVAL,
+};
 use std::alloc::{AllocError, Global};
 use url::Url;
 
@@ -49,18 +52,21 @@ pub fn generated_in(
         (NamedAsksFor (codes "lookup --generated") (rows_of (found_of matches.now))) }
     ensures in_range { IfOk result IsInRange }
 {
-    Ok(Command::Generated {
-        path: text_in(alloc, matches, "PATH")?,
+    Ok(Command::Generated(Generated {
+        map: MapChoice {
+            path: text_in(alloc, matches, "PATH")?,
+            base,
+            interval: USUAL_INTERVAL,
+        },
         source: text_in(alloc, matches, "SOURCE")?,
         line: position_number_in(matches, "LINE"),
         column: position_number_if_given(matches, "COLUMN"),
-        base,
         after: flag_in(matches, "after"),
         options: LookupOptions {
             form: form_in(matches),
             explain: flag_in(matches, "explain"),
         },
-    })
+    }))
 }
 
 pub fn positions_in(
@@ -74,13 +80,18 @@ pub fn positions_in(
         (NamedAsksFor (codes "positions") (rows_of (found_of matches.now))) }
     ensures in_range { IfOk result IsInRange }
 {
-    Ok(Command::Positions {
-        path: text_in(alloc, matches, "MAP")?,
-        base,
-        interval: interval_in(matches),
-        after: flag_in(matches, "after"),
-        form: form_in(matches),
-    })
+    Ok(Command::Positions(Positions {
+        map: MapChoice {
+            path: text_in(alloc, matches, "MAP")?,
+            base,
+            interval: interval_in(matches),
+        },
+        options: AnswerOptions {
+            direction: Direction::of(flag_in(matches, "after")),
+            form: form_in(matches),
+            context: None,
+        },
+    }))
 }
 
 pub fn mappings_in(
@@ -94,12 +105,17 @@ pub fn mappings_in(
         (NamedAsksFor (codes "mappings") (rows_of (found_of matches.now))) }
     ensures in_range { IfOk result IsInRange }
 {
-    Ok(Command::Mappings {
-        path: text_in(alloc, matches, "MAP")?,
-        base,
-        line: position_number_if_given(matches, "LINE"),
-        form: form_in(matches),
-    })
+    Ok(Command::Mappings(Mappings {
+        map: MapChoice {
+            path: text_in(alloc, matches, "MAP")?,
+            base,
+            interval: USUAL_INTERVAL,
+        },
+        options: MappingsOptions {
+            line: position_number_if_given(matches, "LINE"),
+            form: form_in(matches),
+        },
+    }))
 }
 
 pub fn raw_in(matches: &ArgMatches<'_>) -> Command

@@ -100,6 +100,5 @@ fn further_in(alloc: Global, matches: &ArgMatches<'_>) -> Result<FurtherOptions,
         hide: words_in(alloc, matches, "TEXT")?,
         explain: flag_in(matches, "explain"),
         paths: flag_in(matches, "paths"),
-        hint: false,
     })
 }

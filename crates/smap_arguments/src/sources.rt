@@ -10,7 +10,7 @@ use crate::mistakes::{BAD_ORDER, CONTENT_WITH_MORE, FIT_ALONE, SORT_ALONE};
 use crate::usage::Usage;
 use crate::values::{flag_in, form_in, has_text_in, source_in, text_if_given, text_in};
 use clap::ArgMatches;
-use smap_command::Command;
+use smap_command::{Command, MapChoice, SourceContent, SourceOptions, Sources, USUAL_INTERVAL};
 use std::alloc::Global;
 use url::Url;
 
@@ -40,14 +40,19 @@ pub fn sources_in(
     if fit && generated.is_none() {
         return Err(Usage::Words(String::from_str(alloc, FIT_ALONE)?));
     }
-    Ok(Command::Sources {
-        path,
-        base,
+    Ok(Command::Sources(Sources {
+        map: MapChoice {
+            path,
+            base,
+            interval: USUAL_INTERVAL,
+        },
         generated,
-        by_bytes,
-        fit,
-        form: form_in(matches),
-    })
+        options: SourceOptions {
+            by_bytes,
+            fit,
+            form: form_in(matches),
+        },
+    }))
 }
 
 // To write the content of this source, which nothing else may be asked with.
@@ -68,7 +73,7 @@ fn content_in(
     if flag_in(matches, "json") || flag_in(matches, "fit") || has_listing(matches) {
         return Err(Usage::Words(String::from_str(alloc, CONTENT_WITH_MORE)?));
     }
-    Ok(Command::SourceContent { path, source })
+    Ok(Command::SourceContent(SourceContent { path, source }))
 }
 
 // Whether a base, an order or a generated file is given.

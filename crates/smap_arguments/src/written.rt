@@ -12,7 +12,7 @@ use crate::pairs::pairs_in;
 use crate::usage::Usage;
 use crate::values::{flag_in, has_text_in, source_in, text_if_given, text_in};
 use clap::ArgMatches;
-use smap_command::{Command, WriteOptions};
+use smap_command::{Command, ComposeAll, WriteOptions};
 use std::alloc::{AllocError, Global};
 use url::Url;
 
@@ -55,13 +55,13 @@ pub fn compose_in(
     if has_inner(matches) {
         return Err(Usage::Words(String::from_str(alloc, SOURCE_WITH_INNERS)?));
     }
-    Ok(Command::ComposeAll {
+    Ok(Command::ComposeAll(ComposeAll {
         outer,
         inners,
         list,
         base,
         options: options_in(matches),
-    })
+    }))
 }
 
 // What `compose` is asked over one inner map, which has to be given with the number of its source.

@@ -26,14 +26,12 @@ fn main(rt: HostRuntime) -> ExitCode {
     let mut errors = FromStd::new(errors);
     let mut first = None;
     let status = match command_of(&rt) {
-        Ok(mut command) => {
-            if is_terminal {
-                command.ask_hint();
-            }
+        Ok(command) => {
             let (status, _) = run_reading(
                 rt.alloc(),
                 &rt,
                 &command,
+                is_terminal,
                 FromStd::new(rt.stdin()),
                 &mut output,
                 &mut errors,

@@ -9,16 +9,22 @@
 //! ```
 #![tactic(auto)]
 
+mod asked;
 mod command;
 mod limits;
 mod options;
 
-pub use command::Command;
+pub use asked::{
+    ComposeAll, Explain, Fit, Generated, Locate, MapChoice, Mappings, Positions, SourceContent,
+    Sources,
+};
+pub use command::{Command, Reading};
 pub use limits::{
     LIMIT, MOST_BYTES, MOST_CONTEXT, MOST_HIDDEN, MOST_INTERVAL, USUAL_CACHE_BYTES, USUAL_INTERVAL,
     USUAL_LIMIT_BYTES,
 };
 pub use options::{
-    CheckOptions, FitOptions, Form, FurtherOptions, LocateOptions, LookupOptions, WriteOptions,
+    AnswerOptions, CheckOptions, Direction, FitOptions, Form, FurtherOptions, LookupOptions,
+    MappingsOptions, SourceOptions, WriteOptions,
 };
 pub use url::Url;

@@ -1,6 +1,6 @@
 //! What may be asked of a command beside what it is about. Nothing of it is asked for by default.
 ghost use Rattle.std.specs.Prelude.{◌≡◌, [], false};
-ghost use Rattle.smap_command.specs.Options.{HasBytes, are_further, is_json, leaves_out};
+ghost use Rattle.smap_command.specs.Options.{HasBytes, are_further, direction_of, is_json, leaves_out};
 ghost use Rattle.smap_command.specs.declared.options.Form.TheVariants.{Text};
 
 use std::alloc::Global;
@@ -27,6 +27,56 @@ impl Form {
     {
         matches!(self, Form::Json)
     }
+}
+
+/// Which mapping answers a position, of those on its line.
+#[derive(Clone, Copy)]
+pub enum Direction {
+    /// The last one at the position or before it.
+    AtOrBefore,
+    /// The first one at the position or after it.
+    AtOrAfter,
+}
+
+impl Direction {
+    /// At the position or after it, where that is asked for.
+    pub fn of(after: bool) -> Direction
+        ensures { result ≡ direction_of after }
+    {
+        if after {
+            Direction::AtOrAfter
+        } else {
+            Direction::AtOrBefore
+        }
+    }
+}
+
+/// Which mappings answer positions, and how the answers are printed.
+#[derive(Clone, Copy)]
+pub struct AnswerOptions {
+    pub direction: Direction,
+    pub form: Form,
+    /// How many lines of its source stand in JSON before and behind that of a place that is found, where they are to: 0 to
+    /// `MOST_CONTEXT`.
+    pub context: Option<u32>,
+}
+
+/// Which mappings of a map are reported, and how.
+#[derive(Clone, Copy)]
+pub struct MappingsOptions {
+    /// Those of this generated line, from 0, or all.
+    pub line: Option<u32>,
+    pub form: Form,
+}
+
+/// How the sources of a map are reported.
+#[derive(Clone, Copy)]
+pub struct SourceOptions {
+    /// Whether those that make the most bytes come first; else they stand by index.
+    pub by_bytes: bool,
+    /// Whether it is said at the end how many mappings do not fit the generated file.
+    pub fit: bool,
+    pub form: Form,
 }
 
 /// How source maps are checked, beside the first.
@@ -112,27 +162,6 @@ pub struct FurtherOptions {
     pub explain: bool,
     /// Whether the sources of a map whose URL is a path are named by paths that go on from its folder.
     pub paths: bool,
-    /// Whether standard error is told at the end, where nothing else was said, which option takes the places of lines that
-    /// are no frames. No argument asks for it.
-    pub hint: bool,
-}
-
-/// How places are answered.
-#[derive(Drop)]
-pub struct LocateOptions {
-    /// The path of a file with more pairs, on a line each.
-    pub list: Option<String>,
-    /// Whether the sources of a map whose URL is a path are named by paths that go on from its folder.
-    pub paths: bool,
-    /// How many bytes the files may have whose maps are kept for when a line names them again: 0 to `MOST_BYTES`, and
-    /// `USUAL_CACHE_BYTES` where nothing else is asked for.
-    pub cache_bytes: Option<u64>,
-    /// Whether the first mapping at a position or after it answers; else the last one at it or before it.
-    pub after: bool,
-    pub form: Form,
-    /// How many lines of its source are shown before and behind that of a place that is found: 0 to `MOST_CONTEXT`. As text
-    /// none is.
-    pub context: Option<u32>,
 }
 
 impl FurtherOptions {
@@ -152,7 +181,6 @@ impl FurtherOptions {
             hide: Vec::new(alloc),
             explain: false,
             paths: false,
-            hint: false,
         }
     }
 
@@ -168,6 +196,5 @@ impl FurtherOptions {
             || !self.hide.is_empty()
             || self.explain
             || self.paths
-            || self.hint
     }
 }

@@ -11,43 +11,32 @@ ghost use Rattle.smap_mappings.specs.Exact.{GivesOr};
 use crate::written::{left_out_of, written};
 use smap_command::{USUAL_INTERVAL, WriteOptions};
 use smap_compose::{ComposeRefusal, Composed, compose_with};
-use smap_record::{MapFile, Url};
-use smap_replies::{Failure, FileReader, Reply, Standing, file_bytes, map_of, refused_by};
+use smap_record::MapFile;
+use smap_replies::{
+    Failure, FileReader, MapReader, Reply, Standing, file_bytes, map_of, refused_by,
+};
 use std::alloc::Global;
 
-/// The maps of two files that are to be composed.
-#[derive(Drop)]
-pub struct TwoMaps<'a> {
-    /// The path of the outer map.
-    pub outer: &'a str,
-    /// The number of its source, from 0, that the inner map is of.
-    pub source: u32,
-    /// The path of the inner map.
-    pub inner: &'a str,
-    /// The URL against which the sources of both are resolved, where one is given.
-    pub base: Option<&'a Url>,
-}
-
-/// Reads the maps that the files at the two paths are, the outer one first, and composes them, without what the options
-/// leave out. Where the outer map is refused, the other file is read all the same: one that can't be read is reported before
-/// that.
+/// Reads the maps that the files at the two paths are, the outer one first, and composes the first with that of its source
+/// of this number, from 0, without what the options leave out. Where the outer map is refused, the other file is read all
+/// the same: one that can't be read is reported before that.
 pub fn answer_compose<F: FileReader>(
     alloc: Global,
-    reader: &F,
-    maps: &TwoMaps<'_>,
+    maps: &MapReader<'_, F>,
+    outer: &str,
+    source: u32,
+    inner: &str,
     options: WriteOptions,
 ) -> Result<Reply, Failure>
-    ensures { OrMemory (ReportsComposed (F.gives reader.now) options maps.now.outer.now
-        maps.now.source maps.now.inner.now (option_copied maps.now.base))
-        (report_of result) }
+    ensures { OrMemory (ReportsComposed (F.gives maps.now.files.now) options outer.now source
+        inner.now (option_copied maps.now.base)) (report_of result) }
 {
-    let standing = Standing::At(maps.base);
-    let bytes = file_bytes(alloc, reader, 0, maps.outer)?;
-    let outer_map = map_of(alloc, maps.outer, standing, USUAL_INTERVAL, bytes);
-    let bytes = file_bytes(alloc, reader, 1, maps.inner)?;
+    let bytes = file_bytes(alloc, maps.files, 0, outer)?;
+    let outer_map = map_of(alloc, outer, Standing::At(maps.base), USUAL_INTERVAL, bytes);
+    let bytes = file_bytes(alloc, maps.files, 1, inner)?;
     let outer_map = outer_map?;
-    let inner_map = map_of(alloc, maps.inner, standing, USUAL_INTERVAL, bytes)?;
-    composed_two(alloc, outer_map, maps.source, inner_map, options)
+    let inner_map = map_of(alloc, inner, Standing::At(maps.base), USUAL_INTERVAL, bytes)?;
+    composed_two(alloc, outer_map, source, inner_map, options)
 }
 
 // The composed map, or why the maps are not composed.

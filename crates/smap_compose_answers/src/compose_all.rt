@@ -1,5 +1,5 @@
 //! Composing the map of a file with those of several of its sources.
-ghost use Rattle.std.specs.Prelude.{◌≡◌, ◌≤◌, ◌⊎◌, Err, length, map, option_copied, IfOk};
+ghost use Rattle.std.specs.Prelude.{◌≡◌, ◌≤◌, ◌⊎◌, Err, length, map, option_map, string_bytes, IfOk};
 ghost use Rattle.smap_compose_answers.specs.ComposeAll.{GathersInners, ReportsAllComposed, ReportsInners};
 ghost use Rattle.smap_replies.specs.Outcome.{OrMemory, out_of_memory, reply_report, report_of};
 ghost use Rattle.smap_compose_answers.specs.Private.Inners.{inners_reported, inners_stated};
@@ -14,78 +14,63 @@ use crate::compose::reported;
 use crate::inners::{named_inners, read_inners};
 use crate::outer_map::OuterMap;
 use crate::written::{left_out_of, written};
-use smap_command::{USUAL_INTERVAL, WriteOptions};
+use smap_command::{ComposeAll, USUAL_INTERVAL, WriteOptions};
 use smap_compose::{ComposeRefusal, Composed, compose_all};
-use smap_record::{MapFile, Url};
+use smap_record::MapFile;
 use smap_replies::{Failure, FileReader, MapReader, Reply, read_map};
 use std::alloc::{AllocError, Global};
-
-/// The map that is to be composed, and the maps of its sources.
-#[derive(Drop)]
-pub struct AllMaps<'a> {
-    /// The path of the outer map.
-    pub outer: &'a str,
-    /// Pairs of a source's name and of the path of its map.
-    pub words: &'a [(String, String)],
-    /// The path of a list of more of them.
-    pub list: Option<&'a str>,
-    /// The URL against which the outer map's sources are resolved, where one is given.
-    pub base: Option<&'a Url>,
-}
 
 /// Reads the map that the file of number 0 is, then the list of number 1, where there is one, then the maps of sources,
 /// which have the number 2, and composes them, without what the options leave out.
 pub fn answer_compose_all<F: FileReader>(
     alloc: Global,
     reader: &F,
-    maps: &AllMaps<'_>,
-    options: WriteOptions,
+    asked: &ComposeAll,
 ) -> Result<Reply, Failure>
-    ensures { OrMemory (ReportsAllComposed (F.gives reader.now) options maps.now.outer.now
-        (map argument_of maps.now.words.now) (option_copied maps.now.list)
-        (option_copied maps.now.base)) (report_of result) }
+    ensures { OrMemory (ReportsAllComposed (F.gives reader.now) asked.now.options
+        (string_bytes asked.now.outer) (map argument_of asked.now.inners.items)
+        (option_map string_bytes asked.now.list) asked.now.base) (report_of result) }
 {
     let outer_reader = MapReader {
         files: reader,
-        base: maps.base,
+        base: asked.base.as_ref(),
         interval: USUAL_INTERVAL,
     };
-    let outer = read_map(alloc, &outer_reader, 0, maps.outer)?;
-    composed_with(alloc, reader, maps, outer, options)
+    let outer = read_map(alloc, &outer_reader, 0, &asked.outer)?;
+    composed_with(alloc, reader, asked, outer)
 }
 
 // The outer map composed with those of its sources.
 fn composed_with<F: FileReader>(
     alloc: Global,
     reader: &F,
-    maps: &AllMaps<'_>,
+    asked: &ComposeAll,
     outer: MapFile,
-    options: WriteOptions,
 ) -> Result<Reply, Failure>
-    ensures { OrMemory (ReportsInners (F.gives reader.now) options
-        (map argument_of maps.now.words.now) (option_copied maps.now.list) outer.stated)
-        (report_of result) }
+    ensures { OrMemory (ReportsInners (F.gives reader.now) asked.now.options
+        (map argument_of asked.now.inners.items) (option_map string_bytes asked.now.list)
+        outer.stated) (report_of result) }
 {
-    let inners = gathered_inners(alloc, reader, maps, &outer)?;
-    reported(alloc, all_line(alloc, outer, inners, options))
+    let inners = gathered_inners(alloc, reader, asked, &outer)?;
+    reported(alloc, all_line(alloc, outer, inners, asked.options))
 }
 
 // The maps of the sources of the outer map, where they have one.
 fn gathered_inners<F: FileReader>(
     alloc: Global,
     reader: &F,
-    maps: &AllMaps<'_>,
+    asked: &ComposeAll,
     outer: &MapFile,
 ) -> Result<Vec<Option<MapFile>>, Failure>
     ensures gathered { (inners_reported result ≡ Err out_of_memory)
         ⊎ GathersInners (F.gives reader.now) outer.now.stated.sources
-        (map argument_of maps.now.words.now) (option_copied maps.now.list)
+        (map argument_of asked.now.inners.items) (option_map string_bytes asked.now.list)
         (inners_reported result) }
     ensures counted { IfOk result (λ inners. length inners.items
         ≡ length outer.now.stated.sources) }
 {
     let outer = OuterMap::new(alloc, outer)?;
-    let named = named_inners(alloc, reader, &outer, maps.words, maps.list)?;
+    let named = named_inners(alloc, reader, &outer, &asked.inners, asked.list.as_deref())?;
     read_inners(alloc, reader, &outer, &named)
 }
 

@@ -3,8 +3,7 @@
 //! ```text
 //! let options = WriteOptions { prune: true, no_content: false };
 //! let outcome = answer_show(alloc, &maps, "app.js.map", options);
-//! let two = TwoMaps { outer: "bundle.js.map", source: 0, inner: "app.js.map", base: None };
-//! let outcome = answer_compose(alloc, &files, &two, options);
+//! let outcome = answer_compose(alloc, &maps, "bundle.js.map", 0, "app.js.map", options);
 //! ```
 #![tactic(auto)]
 
@@ -16,6 +15,6 @@ mod outer_map;
 mod show;
 mod written;
 
-pub use compose::{TwoMaps, answer_compose};
-pub use compose_all::{AllMaps, answer_compose_all};
+pub use compose::answer_compose;
+pub use compose_all::answer_compose_all;
 pub use show::answer_show;

@@ -17,7 +17,7 @@ use Rattle.smap_locate_answers.specs.Locating.{BecomesAnswer, LocateStep, Locate
 use Rattle.smap_locate_answers.specs.Place.{Place, place_of}
 use Rattle.smap_locate_answers.specs.Private.Locator.{LocatorSteps}
 use Rattle.smap_locate_answers.specs.declared.locator.Locator.{Locator}
-use Rattle.smap_positions.specs.declared.options.AnswerOptions.{AnswerOptions}
+use Rattle.smap_command.specs.declared.options.AnswerOptions.{AnswerOptions}
 use Rattle.smap_record.specs.Record.{MapRecord}
 use Rattle.smap_replies.specs.Files.{MayRead}
 use Rattle.smap_store.specs.Cache.{CacheSeen}

@@ -12,7 +12,7 @@ use Rattle.smap_locate_answers.specs.ByPath.{AnswersAll, AnswersLine}
 use Rattle.smap_locate_answers.specs.Locating.{BecomesAnswer, LocateStep}
 use Rattle.smap_locate_answers.specs.declared.locating.LocateRequest.{LocateRequest}
 use Rattle.smap_locate_answers.specs.declared.locating.StoreEnd.{StoreEnd}
-use Rattle.smap_positions.specs.declared.options.AnswerOptions.{AnswerOptions}
+use Rattle.smap_command.specs.declared.options.AnswerOptions.{AnswerOptions}
 use Rattle.smap_replies.specs.Arguments.{argument_of}
 use Rattle.smap_replies.specs.Files.{MayRead}
 use Rattle.smap_replies.specs.Outcome.{Report, answer, fault_report}

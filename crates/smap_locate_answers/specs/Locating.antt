@@ -5,7 +5,7 @@ use Rattle.std.specs.Result.{result_ok}
 use Rattle.smap_lines.specs.Lines.{Line}
 use Rattle.smap_locate_answers.specs.Place.{Place, place_of}
 use Rattle.smap_positions.specs.Places.{bad_place_line, place_line}
-use Rattle.smap_positions.specs.declared.options.AnswerOptions.{AnswerOptions}
+use Rattle.smap_command.specs.declared.options.AnswerOptions.{AnswerOptions}
 use Rattle.smap_record.specs.Record.{MapRecord}
 use Rattle.smap_store.specs.Loaded.{Outcome}
 use Rattle.smap_store.specs.Stored.{StoredSeen, outcome_at}

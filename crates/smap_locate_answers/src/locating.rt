@@ -13,10 +13,9 @@ ghost use Rattle.smap_trace.specs.Rewriting.{Looked};
 
 use crate::locator::Locator;
 use smap_codes::Code;
-use smap_command::{LocateOptions, USUAL_CACHE_BYTES};
+use smap_command::{AnswerOptions, Locate, USUAL_CACHE_BYTES};
 use smap_io::{ByteSink, ByteSource};
 use smap_lines::{LineCounts, LineFault, MOST_TEXT_BYTES, edit_lines};
-use smap_positions::{AnswerOptions, Direction};
 use smap_replies::{DONE, Failure, FileReader, MapReader, Reply, report};
 use smap_store::{MapCache, MapLoader, StoredMaps};
 use smap_text_answers::{FileLoader, MapSources, report_shortage, sources_of};
@@ -41,26 +40,18 @@ pub struct LocateRequest<'a, 'r, F: FileReader> {
 }
 
 impl<'a, 'r, F: FileReader> LocateRequest<'a, 'r, F> {
-    /// What these arguments and options ask for, with the usual number of bytes where none is given.
-    pub fn new(
-        maps: &'a MapReader<'r, F>,
-        arguments: &'a [(String, String)],
-        options: &'a LocateOptions,
-    ) -> LocateRequest<'a, 'r, F>
+    /// What the command asks for, with the usual number of bytes where none is given.
+    pub fn new(maps: &'a MapReader<'r, F>, asked: &'a Locate) -> LocateRequest<'a, 'r, F>
         ensures maps { result.maps ≡ maps.entry }
-        ensures asked { request_seen result ≡ asked_of arguments.entry.now options.entry.now }
+        ensures asked { request_seen result ≡ asked_of asked.entry.now }
     {
         LocateRequest {
             maps,
-            arguments,
-            list: options.list.as_deref(),
-            paths: options.paths,
-            cache_bytes: options.cache_bytes.unwrap_or(USUAL_CACHE_BYTES),
-            options: AnswerOptions {
-                direction: Direction::of(options.after),
-                form: options.form,
-                context: options.context,
-            },
+            arguments: &asked.maps,
+            list: asked.list.as_deref(),
+            paths: asked.paths,
+            cache_bytes: asked.cache_bytes.unwrap_or(USUAL_CACHE_BYTES),
+            options: asked.options,
         }
     }
 }

@@ -1,3 +1,4 @@
 mod GeneratedLaws
+mod MapLaws
 mod PositionsLaws
 mod RawLaws

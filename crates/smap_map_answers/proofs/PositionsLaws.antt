@@ -9,7 +9,7 @@ use Rattle.smap_lines.specs.declared.fault.LineFault.TheVariants.{Write, Memory}
 use Rattle.smap_lines.specs.Laws.RunEnds.{gives_none}
 use Rattle.smap_positions.specs.Answering.{AnswersPositions}
 use Rattle.smap_positions.specs.Positions.{answered_line}
-use Rattle.smap_positions.specs.declared.options.AnswerOptions.{AnswerOptions}
+use Rattle.smap_command.specs.declared.options.AnswerOptions.{AnswerOptions}
 use Rattle.smap_positions.specs.declared.answering.PositionsSummary.{PositionsSummary}
 use Rattle.smap_record.specs.Record.{MapRecord}
 use Rattle.smap_replies.specs.Outcome.{out_of_memory}

@@ -1,5 +1,5 @@
 -- What `lookup --generated` prints: the generated places of an original place. Lines, columns and indices count from 0 here.
-use Rattle.std.specs.Prelude.{ℕ, ◌-◌, ◌==◌, ◌&&◌, ◌||◌, List, [], ◌∷◌, ◌++◌, Bool, false, true, Option, None, Some, codes, decimal, drop, filter, flat_map, if◌then◌else◌, length, nat_eq, nat_le, option_and_then, slice_get, slice_index, take}
+use Rattle.std.specs.Prelude.{ℕ, ◌-◌, ◌==◌, ◌&&◌, ◌||◌, List, [], ◌∷◌, ◌++◌, Bool, false, true, Option, None, Some, codes, decimal, drop, filter, flat_map, if◌then◌else◌, length, nat_eq, nat_le, option_and_then, slice_get, slice_index, string_bytes, take}
 use Rattle.std.specs.Char.{is_ascii_digit}
 use Rattle.std.specs.List.{ends_with, list_all, range_with_len}
 use Rattle.std.specs.Option.{option_map_or}
@@ -7,7 +7,7 @@ use Rattle.std.specs.Str.{bytes_eq}
 use Rattle.smap_codes.specs.Codes.{text_of}
 use Rattle.smap_codes.specs.declared.code.Code.TheVariants.{C4}
 use Rattle.smap_command.specs.Lines.{line_from}
-use Rattle.smap_command.specs.declared.options.LookupOptions.{LookupOptions}
+use Rattle.smap_command.specs.declared.asked.Generated.{Generated}
 use Rattle.smap_index.specs.Parts.{joined}
 use Rattle.smap_mappings.specs.declared.mapping.Mapping.{Mapping}
 use Rattle.smap_originals.specs.Generated.{generated_for, generated_next}
@@ -83,11 +83,10 @@ abbrev pub no_source_text : (explain : Bool) → List StatedSource → (text : L
 no_source_text explain sources text = no_source_line text ++ (if explain then alike_lines sources text else [])
 
 -- of these sources, where there are any
-abbrev pub sources_result : LookupOptions → (text : List ℕ) (line : ℕ) → Option ℕ → (after : Bool) → MapRecord → List ℕ → Report
-sources_result options text line column after stated sources =
-    if length sources == 0 then refusal (Some C4) (no_source_text options.explain stated.sources text)
-    else answer (generated_text options.form stated (mappings_from line column after (joined stated.parts) sources))
+abbrev pub sources_result : Generated → MapRecord → List ℕ → Report
+sources_result asked stated sources =
+    if length sources == 0 then refusal (Some C4) (no_source_text asked.options.explain stated.sources (string_bytes asked.source))
+    else answer (generated_text asked.options.form stated (mappings_from asked.line asked.column asked.after (joined stated.parts) sources))
 
-abbrev pub generated_result : LookupOptions → (text : List ℕ) (line : ℕ) → Option ℕ → (after : Bool) → MapRecord → Report
-generated_result options text line column after stated =
-    sources_result options text line column after stated (asked_sources stated.sources text)
+abbrev pub generated_result : Generated → MapRecord → Report
+generated_result asked stated = sources_result asked stated (asked_sources stated.sources (string_bytes asked.source))

@@ -7,7 +7,7 @@ use Rattle.smap_index.specs.Parts.{joined}
 use Rattle.smap_record.specs.Record.{MapRecord}
 use Rattle.smap_positions.specs.Json.{lookup_json}
 use Rattle.smap_positions.specs.Lookup.{lookup_text}
-use Rattle.smap_positions.specs.declared.options.Direction.{Direction}
+use Rattle.smap_command.specs.declared.options.Direction.{Direction}
 use Rattle.smap_verdicts.specs.Nearest.{nearest_text}
 
 -- which mappings stand nearest to the position

@@ -6,7 +6,7 @@ use Rattle.smap_lines.specs.declared.fault.LineFault.{LineFault}
 use Rattle.smap_lines.specs.declared.fault.LineFault.TheVariants.{Write, Memory}
 use Rattle.smap_record.specs.Record.{MapRecord}
 use Rattle.smap_positions.specs.Mappings.{mappings_text}
-use Rattle.smap_positions.specs.declared.options.MappingsOptions.{MappingsOptions}
+use Rattle.smap_command.specs.declared.options.MappingsOptions.{MappingsOptions}
 use Rattle.smap_replies.specs.Files.{MayRead}
 use Rattle.smap_replies.specs.Map.{IsStated, Never, ReportsMap}
 use Rattle.smap_replies.specs.Outcome.{OrMemory, Report, answer, fault_report}

@@ -9,7 +9,7 @@ use Rattle.smap_lines.specs.declared.fault.LineFault.TheVariants.{TooMuch, Memor
 use Rattle.smap_record.specs.Record.{MapRecord}
 use Rattle.smap_positions.specs.Answering.{AnswersPositions}
 use Rattle.smap_positions.specs.Positions.{answered_line}
-use Rattle.smap_positions.specs.declared.options.AnswerOptions.{AnswerOptions}
+use Rattle.smap_command.specs.declared.options.AnswerOptions.{AnswerOptions}
 use Rattle.smap_positions.specs.declared.answering.PositionsSummary.{PositionsSummary}
 use Rattle.smap_replies.specs.Files.{MayRead}
 use Rattle.smap_map_answers.specs.Lines.{bad_position_refused_line}

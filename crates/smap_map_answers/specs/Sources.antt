@@ -5,7 +5,7 @@ use Rattle.smap_record.specs.Record.{MapRecord}
 use Rattle.smap_record.specs.Sources.{StatedSource}
 use Rattle.smap_command.specs.Lines.{line_from}
 use Rattle.smap_positions.specs.Sources.{IsSourcesText}
-use Rattle.smap_positions.specs.declared.options.SourceOptions.{SourceOptions}
+use Rattle.smap_command.specs.declared.options.SourceOptions.{SourceOptions}
 use Rattle.smap_replies.specs.Files.{MayRead}
 use Rattle.smap_replies.specs.Map.{OfText}
 use Rattle.smap_replies.specs.Outcome.{Report, answer, refusal, refused_by}

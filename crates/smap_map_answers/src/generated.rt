@@ -12,7 +12,7 @@ ghost use Rattle.smap_map_answers.specs.Generated.{alike_line, alike_lines, alik
 ghost use Rattle.smap_map_answers.specs.Generated.{no_source_line, no_source_text, sources_result};
 
 use smap_codes::Code;
-use smap_command::LookupOptions;
+use smap_command::Generated;
 use smap_originals::{Asked, Direction, generated_for, generated_next};
 use smap_positions::generated_text;
 use smap_record::{MapFile, Mapping, source_name};
@@ -20,44 +20,26 @@ use smap_replies::{Failure, FileReader, MapReader, Reply, read_map_explained};
 use smap_text::shown;
 use std::alloc::{AllocError, Global};
 
-/// An original place that is looked up, and how the answer is reported.
-#[derive(Clone, Copy)]
-pub struct GeneratedAsked<'a> {
-    /// The name of a source, or its index, from 0, in brackets. All sources of one name are asked.
-    pub source: &'a str,
-    /// The line, from 0.
-    pub line: u32,
-    /// The column, from 0, in UTF-16 code units. Without one the whole line is asked for.
-    pub column: Option<u32>,
-    /// Whether the least original column that is not before the asked one answers, or the greatest that is not after it.
-    pub after: bool,
-    pub options: LookupOptions,
-}
-
-/// Looks an original place up in the map that the file at this path is. Where it is none, and that is asked, why is reported
+/// Looks an original place up in the map of the command. Where it is none, and that is asked, why is reported
 /// too.
 pub fn answer_generated<F: FileReader>(
     alloc: Global,
     maps: &MapReader<'_, F>,
-    path: &str,
-    asked: GeneratedAsked<'_>,
+    asked: &Generated,
 ) -> Result<Reply, Failure>
-    ensures { OrMemory (ReportsMapWhy (F.gives maps.now.files.now) asked.entry.options.explain
-        0 path.now (option_copied maps.now.base) maps.now.interval
-        (IsResult (generated_result asked.entry.options asked.entry.source.now asked.entry.line
-        asked.entry.column asked.entry.after)))
-        (report_of result) }
+    ensures { OrMemory (ReportsMapWhy (F.gives maps.now.files.now) asked.now.options.explain 0
+        (string_bytes asked.now.map.path) (option_copied maps.now.base) maps.now.interval
+        (IsResult (generated_result asked.now))) (report_of result) }
 {
-    let map = read_map_explained(alloc, maps, 0, path, asked.options.explain)?;
-    generated_of(alloc, &map, &asked)
+    let map = read_map_explained(alloc, maps, 0, &asked.map.path, asked.options.explain)?;
+    generated_of(alloc, &map, asked)
 }
 
 // What a map says of an original place.
-fn generated_of(alloc: Global, map: &MapFile, asked: &GeneratedAsked<'_>) -> Result<Reply, Failure>
-    ensures { OrMemory (IsResult (generated_result asked.now.options asked.now.source.now
-        asked.now.line asked.now.column asked.now.after) map.now.stated) (report_of result) }
+fn generated_of(alloc: Global, map: &MapFile, asked: &Generated) -> Result<Reply, Failure>
+    ensures { OrMemory (IsResult (generated_result asked.now) map.now.stated) (report_of result) }
 {
-    let sources = asked_sources(alloc, map, asked.source)?;
+    let sources = asked_sources(alloc, map, &asked.source)?;
     reported(alloc, map, sources, asked)
 }
 
@@ -66,14 +48,13 @@ fn reported(
     alloc: Global,
     map: &MapFile,
     sources: Vec<u32>,
-    asked: &GeneratedAsked<'_>,
+    asked: &Generated,
 ) -> Result<Reply, Failure>
-    ensures { OrMemory (λ report. report ≡ sources_result asked.now.options asked.now.source.now
-        asked.now.line asked.now.column asked.now.after map.now.stated sources.items)
+    ensures { OrMemory (λ report. report ≡ sources_result asked.now map.now.stated sources.items)
         (report_of result) }
 {
     if sources.is_empty() {
-        let text = no_source_text(alloc, map, asked.source, asked.options.explain)?;
+        let text = no_source_text(alloc, map, &asked.source, asked.options.explain)?;
         return Err(Failure::refusal(Code::C4, text));
     }
     let found = mappings_from(alloc, map, &sources, asked)?;
@@ -213,7 +194,7 @@ fn mappings_from(
     alloc: Global,
     map: &MapFile,
     sources: &[u32],
-    asked: &GeneratedAsked<'_>,
+    asked: &Generated,
 ) -> Result<Vec<Mapping>, AllocError>
     ensures { IfOk result (λ found. found.items ≡ mappings_from asked.now.line asked.now.column
         asked.now.after (joined map.now.stated.parts) sources.now) }
@@ -231,7 +212,7 @@ fn mappings_of(
     alloc: Global,
     map: &MapFile,
     source: u32,
-    asked: &GeneratedAsked<'_>,
+    asked: &Generated,
 ) -> Result<Vec<Mapping>, AllocError>
     ensures { IfOk result (λ found. found.items ≡ mappings_of asked.now.line asked.now.column
         asked.now.after (joined map.now.stated.parts) source) }

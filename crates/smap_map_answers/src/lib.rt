@@ -16,7 +16,7 @@ mod positions;
 mod raw;
 mod sources;
 
-pub use generated::{GeneratedAsked, answer_generated};
+pub use generated::answer_generated;
 pub use lookup::{LookUp, answer_lookup};
 pub use mappings::answer_mappings;
 pub use positions::answer_positions;

@@ -5,8 +5,8 @@ ghost use Rattle.smap_replies.specs.Map.{IsLine};
 ghost use Rattle.smap_replies.specs.Outcome.{OrMemory, report_of};
 ghost use Rattle.smap_replies.specs.Why.{ReportsMapWhy};
 
-use smap_command::LookupOptions;
-use smap_positions::{Direction, lookup_as_json, lookup_text};
+use smap_command::{Direction, LookupOptions};
+use smap_positions::{lookup_as_json, lookup_text};
 use smap_record::{MapFile, Meter};
 use smap_replies::{Failure, FileReader, MapReader, Reply, read_map_explained};
 use smap_verdicts::nearest_text;

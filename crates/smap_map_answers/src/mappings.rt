@@ -1,30 +1,31 @@
 //! Printing the mappings of a map file.
-ghost use Rattle.std.specs.Prelude.{◌≡◌, false, option_copied};
+ghost use Rattle.std.specs.Prelude.{◌≡◌, false, option_copied, string_bytes};
 ghost use Rattle.smap_map_answers.specs.Mappings.{MappingsReports, PrintingReports};
 ghost use Rattle.smap_replies.specs.Outcome.{report_of};
 ghost use Rattle.smap_positions.specs.Mappings.{mappings_text};
 
+use smap_command::{Mappings, MappingsOptions};
 use smap_io::ByteSink;
-use smap_positions::{MappingsOptions, print_mappings};
+use smap_positions::print_mappings;
 use smap_record::MapFile;
 use smap_replies::{Failure, FileReader, MapReader, Reply, read_map};
 use std::alloc::Global;
 
-/// Reads the map that the file at this path is, and prints those of its mappings that the options ask for on standard
+/// Reads the map of the command, and prints those of its mappings that the options ask for on standard
 /// output. The caller gives one that has not failed.
 pub fn answer_mappings<F: FileReader, W: ByteSink>(
     alloc: Global,
     maps: &MapReader<'_, F>,
-    path: &str,
-    options: MappingsOptions,
+    asked: &Mappings,
     output: &mut W,
 ) -> Result<Reply, Failure>
     requires output_works { (W.seen output.old).failed ≡ false }
-    ensures { MappingsReports (F.gives maps.now.files.now) path.now (option_copied maps.now.base)
-        maps.now.interval options (W.seen output.old) (W.seen output.new) (report_of result) }
+    ensures { MappingsReports (F.gives maps.now.files.now) (string_bytes asked.now.map.path)
+        (option_copied maps.now.base) maps.now.interval asked.now.options (W.seen output.old)
+        (W.seen output.new) (report_of result) }
 {
-    let map = read_map(alloc, maps, 0, path)?;
-    printed_mappings(alloc, &map, options, output)
+    let map = read_map(alloc, maps, 0, &asked.map.path)?;
+    printed_mappings(alloc, &map, asked.options, output)
 }
 
 // Prints the mappings of this map.

@@ -12,9 +12,10 @@ ghost use Rattle.smap_map_answers.specs.Private.Room.{IsRoom};
 use crate::lines;
 use itoa::Buffer;
 use smap_codes::Code;
+use smap_command::{AnswerOptions, Positions};
 use smap_io::{ByteSink, ByteSource};
 use smap_lines::LineFault;
-use smap_positions::{AnswerOptions, PositionsSummary};
+use smap_positions::PositionsSummary;
 use smap_record::MapFile;
 use smap_replies::{Failure, FileReader, MapReader, Reply, read_map};
 use std::alloc::Global;
@@ -22,25 +23,25 @@ use std::alloc::Global;
 // How many bytes the line has at most that refuses positions.
 const MOST_REFUSAL_BYTES: usize = 80;
 
-/// Answers the positions on the lines of standard input from the map that the file at this path is. The caller gives devices
-/// that have not failed.
+/// Answers the positions on the lines of standard input from the map of the command. The caller gives devices that have not
+/// failed.
 pub fn answer_positions<F: FileReader, R: ByteSource, W: ByteSink>(
     alloc: Global,
     maps: &MapReader<'_, F>,
-    path: &str,
-    options: AnswerOptions,
+    asked: &Positions,
     input: &mut R,
     output: &mut W,
 ) -> Result<Reply, Failure>
     requires input_works { (R.seen input.old).failed ≡ false }
     requires output_works { (W.seen output.old).failed ≡ false }
-    ensures { PositionsReports (F.gives maps.now.files.now) path.now (option_copied maps.now.base)
-        maps.now.interval options (devices_seen (R.seen input.old) (W.seen output.old))
+    ensures { PositionsReports (F.gives maps.now.files.now) (string_bytes asked.now.map.path)
+        (option_copied maps.now.base) maps.now.interval asked.now.options
+        (devices_seen (R.seen input.old) (W.seen output.old))
         (devices_seen (R.seen input.new) (W.seen output.new))
         (report_of result) }
 {
-    let map = read_map(alloc, maps, 0, path)?;
-    answer_over(alloc, &map, options, input, output)
+    let map = read_map(alloc, maps, 0, &asked.map.path)?;
+    answer_over(alloc, &map, asked.options, input, output)
 }
 
 // Answers them from this map.

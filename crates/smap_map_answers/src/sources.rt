@@ -1,31 +1,31 @@
 //! Printing the sources of a map, and how much of the generated file each makes.
-ghost use Rattle.std.specs.Prelude.{◌≡◌, option_copied};
+ghost use Rattle.std.specs.Prelude.{◌≡◌, option_copied, option_map, string_bytes};
 ghost use Rattle.smap_replies.specs.Map.{IsResult, ReportsMap};
 ghost use Rattle.smap_replies.specs.Outcome.{OrMemory, report_of};
 ghost use Rattle.smap_map_answers.specs.Sources.{IsSourcesReported, ReportsSources, content_report, content_result};
 
 use crate::lines;
 use smap_codes::Code;
-use smap_positions::{SourceOptions, sources_text};
+use smap_command::{SourceContent, SourceOptions, Sources};
+use smap_positions::sources_text;
 use smap_record::MapFile;
 use smap_replies::{Failure, FileReader, MapReader, Reply, read_map, read_text, refused_by};
 use std::alloc::Global;
 
-/// Reads the map that the file at this path is, and its generated file, where one is given, and prints the map's sources.
+/// Reads the map of the command, and its generated file, where one is given, and prints the map's sources.
 pub fn answer_sources<F: FileReader>(
     alloc: Global,
     maps: &MapReader<'_, F>,
-    path: &str,
-    generated: Option<&str>,
-    options: SourceOptions,
+    asked: &Sources,
 ) -> Result<Reply, Failure>
-    ensures { OrMemory (ReportsMap (F.gives maps.now.files.now) 0 path.now
+    ensures { OrMemory (ReportsMap (F.gives maps.now.files.now) 0 (string_bytes asked.now.map.path)
         (option_copied maps.now.base) maps.now.interval
-        (ReportsSources (F.gives maps.now.files.now) options
-        (option_copied generated.entry))) (report_of result) }
+        (ReportsSources (F.gives maps.now.files.now) asked.now.options
+        (option_map string_bytes asked.now.generated))) (report_of result) }
 {
-    let map = read_map(alloc, maps, 0, path)?;
-    sources_of(alloc, maps.files, &map, generated, options)
+    let map = read_map(alloc, maps, 0, &asked.map.path)?;
+    let generated = asked.generated.as_deref();
+    sources_of(alloc, maps.files, &map, generated, asked.options)
 }
 
 // The sources of a map, with its generated file at this path, where one is given.
@@ -62,18 +62,17 @@ fn reported_sources(
     Ok(Reply::Bytes(text))
 }
 
-/// Reads the map that the file at this path is, and prints the content of its source of this index, from 0.
+/// Reads the map that the file at the path is, and prints the content of its source of the index, from 0.
 pub fn answer_content<F: FileReader>(
     alloc: Global,
     maps: &MapReader<'_, F>,
-    path: &str,
-    source: u32,
+    asked: &SourceContent,
 ) -> Result<Reply, Failure>
-    ensures { OrMemory (ReportsMap (F.gives maps.now.files.now) 0 path.now
+    ensures { OrMemory (ReportsMap (F.gives maps.now.files.now) 0 (string_bytes asked.now.path)
         (option_copied maps.now.base) maps.now.interval
-        (IsResult (content_result source))) (report_of result) }
+        (IsResult (content_result asked.now.source))) (report_of result) }
 {
-    reported_content(alloc, &read_map(alloc, maps, 0, path)?, source)
+    reported_content(alloc, &read_map(alloc, maps, 0, &asked.path)?, asked.source)
 }
 
 // The content of the source of this index, or that there is no such source.

@@ -4,7 +4,7 @@ use Rattle.smap_lines.specs.Editing.{DevicesSeen, Edits}
 use Rattle.smap_lines.specs.Limits.{most_text_bytes}
 use Rattle.smap_record.specs.Record.{MapRecord}
 use Rattle.smap_positions.specs.Positions.{answered_line, first_bad, short_lines}
-use Rattle.smap_positions.specs.declared.options.AnswerOptions.{AnswerOptions}
+use Rattle.smap_command.specs.declared.options.AnswerOptions.{AnswerOptions}
 use Rattle.smap_positions.specs.declared.answering.PositionsSummary.{PositionsSummary}
 
 -- all that the input had, which is not too much, was read, and what it becomes was written, and nothing else

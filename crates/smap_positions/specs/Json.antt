@@ -12,7 +12,7 @@ use Rattle.smap_record.specs.Sources.{StatedSource}
 use Rattle.smap_record.specs.Written.{is_ignored_where, member_where, text_of_source, value_of_text}
 use Rattle.smap_positions.specs.Context.{context_value, source_context}
 use Rattle.smap_positions.specs.Lookup.{answer_excerpt, lookup_answer}
-use Rattle.smap_positions.specs.declared.options.Direction.{Direction}
+use Rattle.smap_command.specs.declared.options.Direction.{Direction}
 use Rattle.smap_positions.specs.declared.printed_position.PrintedPosition.{PrintedPosition}
 
 abbrev pub count : ℕ → Data

@@ -11,8 +11,8 @@ use Rattle.smap_text.specs.Excerpt.{excerpt_of}
 use Rattle.smap_text.specs.Shown.{shown}
 use Rattle.smap_command.specs.Lines.{line_from}
 use Rattle.smap_positions.specs.Lines.{none_line, unmapped_line, place_line}
-use Rattle.smap_positions.specs.declared.options.Direction.{Direction}
-use Rattle.smap_positions.specs.declared.options.Direction.TheVariants.{AtOrBefore, AtOrAfter}
+use Rattle.smap_command.specs.declared.options.Direction.{Direction}
+use Rattle.smap_command.specs.declared.options.Direction.TheVariants.{AtOrBefore, AtOrAfter}
 
 -- how a source of this index prints: by its name or, where it has none, by its index in brackets
 abbrev pub source_text : (name : Option (List ℕ)) → ℕ → List ℕ
@@ -46,10 +46,6 @@ answer_excerpt stated (Found column origin) = source_excerpt (slice_get stated.s
 abbrev pub excerpt_lines : Option (List ℕ) → List ℕ
 excerpt_lines None = []
 excerpt_lines (Some excerpt) = line_from (excerpt ∷ [])
-
-abbrev pub direction_of : (after : Bool) → Direction
-direction_of false = AtOrBefore
-direction_of true = AtOrAfter
 
 -- what the map answers for a generated line and column, from 0
 abbrev pub lookup_answer : Direction → (line column : ℕ) → MapRecord → Answer

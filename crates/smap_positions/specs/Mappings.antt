@@ -15,7 +15,7 @@ use Rattle.smap_command.specs.Options.{is_json}
 use Rattle.smap_command.specs.declared.options.Form.{Form}
 use Rattle.smap_positions.specs.Json.{count, json_line, origin_members}
 use Rattle.smap_positions.specs.Lookup.{answer_line}
-use Rattle.smap_positions.specs.declared.options.MappingsOptions.{MappingsOptions}
+use Rattle.smap_command.specs.declared.options.MappingsOptions.{MappingsOptions}
 
 -- ---- a mapping
 

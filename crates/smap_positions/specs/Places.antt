@@ -15,7 +15,7 @@ use Rattle.smap_record.specs.declared.refusal.MapRefusal.{MapRefusal}
 use Rattle.smap_record.specs.declared.refusal.MapRefusal.TheVariants.{Text}
 use Rattle.smap_positions.specs.Json.{count, json_line, url_members}
 use Rattle.smap_positions.specs.Positions.{asked_line}
-use Rattle.smap_positions.specs.declared.options.AnswerOptions.{AnswerOptions}
+use Rattle.smap_command.specs.declared.options.AnswerOptions.{AnswerOptions}
 use Rattle.smap_positions.specs.declared.printed_position.PrintedPosition.{PrintedPosition}
 use Rattle.smap_store.specs.declared.loader.NoMap.{NoMap}
 use Rattle.smap_store.specs.declared.loader.NoMap.TheVariants.{Unnamed, Unread, Refused, Memory}

@@ -10,8 +10,8 @@ use Rattle.smap_positions.specs.Json.{answer_value, bad_position_value, json_lin
 use Rattle.smap_positions.specs.Lines.{bad_position_line}
 use Rattle.smap_positions.specs.Lookup.{answer_line, lookup_answer}
 use Rattle.smap_positions.specs.PositionOf.{position_of}
-use Rattle.smap_positions.specs.declared.options.AnswerOptions.{AnswerOptions}
-use Rattle.smap_positions.specs.declared.options.Direction.{Direction}
+use Rattle.smap_command.specs.declared.options.AnswerOptions.{AnswerOptions}
+use Rattle.smap_command.specs.declared.options.Direction.{Direction}
 use Rattle.smap_positions.specs.declared.printed_position.PrintedPosition.{PrintedPosition}
 
 -- ---- a line

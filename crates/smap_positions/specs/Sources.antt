@@ -16,7 +16,7 @@ use Rattle.smap_command.specs.Lines.{line_from}
 use Rattle.smap_command.specs.Options.{is_json}
 use Rattle.smap_command.specs.declared.options.Form.{Form}
 use Rattle.smap_positions.specs.Lookup.{source_text}
-use Rattle.smap_positions.specs.declared.options.SourceOptions.{SourceOptions}
+use Rattle.smap_command.specs.declared.options.SourceOptions.{SourceOptions}
 
 -- the map has the source's content
 abbrev pub has_content : Option StatedSource → Bool

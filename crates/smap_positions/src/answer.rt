@@ -3,7 +3,7 @@ ghost use Rattle.std.specs.Prelude.{◌≡◌, ◌+◌, option_and_then, option_
 ghost use Rattle.smap_record.specs.Sources.{source_of};
 ghost use Rattle.smap_positions.specs.Lookup.{answer_excerpt, lookup_answer, source_excerpt};
 
-use crate::options::Direction;
+use smap_command::Direction;
 use smap_record::{Answer, MapFile, Meter, Origin, SourceEntry};
 use smap_text::excerpt;
 use std::alloc::{AllocError, Global};

@@ -5,13 +5,13 @@ ghost use Rattle.smap_positions.specs.Positions.{position_line};
 
 use crate::gathered_line::GatheredLine;
 use crate::json_form::put_bad_position;
-use crate::options::AnswerOptions;
 use crate::output::Output;
 use crate::places::put_answer;
 use crate::printed_position::PrintedPosition;
 use crate::reading::read_position;
 use crate::short_text::ShortText;
 use crate::text_form::BAD_POSITION;
+use smap_command::AnswerOptions;
 use smap_io::{ByteSink, DeviceFault};
 use smap_lines::{LineEditor, LineOutput};
 use smap_record::MapFile;

@@ -7,7 +7,7 @@ ghost use Rattle.smap_positions.specs.Answering.{AnswersPositions};
 ghost use Rattle.smap_positions.specs.Positions.{answered_line};
 
 use crate::answerer::PositionAnswerer;
-use crate::options::AnswerOptions;
+use smap_command::AnswerOptions;
 use smap_io::{ByteSink, ByteSource};
 use smap_lines::{LineFault, MOST_TEXT_BYTES, edit_lines};
 use smap_record::MapFile;

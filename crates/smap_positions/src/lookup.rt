@@ -6,9 +6,9 @@ ghost use Rattle.smap_positions.specs.Lookup.{lookup_text};
 use crate::answer::{answer_excerpt, from_one, lookup_answer};
 use crate::growing_text::GrowingText;
 use crate::json_form::{AskedPosition, put_answer_object};
-use crate::options::Direction;
 use crate::output::Output;
 use crate::text_form::put_answer_line;
+use smap_command::Direction;
 use smap_record::MapFile;
 use std::alloc::{AllocError, Global};
 

@@ -6,7 +6,7 @@ use crate::{
     composing, contents, indexes, look_ups, maps, numbers, originals, paths, positions, sources,
     texts, traces,
 };
-use smap_positions::Direction;
+use smap_command::Direction;
 
 /// Asks the call that a row names.
 pub fn answer_call(row: &Row<'_>, answer: &mut Answer) -> Result<(), RowFault> {

@@ -1,41 +1,44 @@
 //! Commands as texts.
 use smap_command::{
-    CheckOptions, Command, FitOptions, Form, FurtherOptions, LocateOptions, USUAL_CACHE_BYTES,
-    USUAL_LIMIT_BYTES, Url, WriteOptions,
+    CheckOptions, Command, ComposeAll, Direction, Fit, Form, FurtherOptions, Generated, Locate,
+    MapChoice, Mappings, Positions, Sources, USUAL_CACHE_BYTES, USUAL_LIMIT_BYTES, Url,
+    WriteOptions,
 };
 use std::alloc::{AllocError, Global};
 
 /// What a command asks. Lines and columns count from 0.
 pub fn command_text(alloc: Global, command: &Command) -> Result<String, AllocError> {
     match command {
-        Command::Raw { .. } => raw_text(alloc, command),
-        Command::Check { options, .. } => checking_text(alloc, command, options),
-        Command::Explain { code } => {
-            let code = code.as_deref().unwrap_or("all");
+        Command::Raw {
+            line,
+            column,
+            interval,
+        } => format!(in alloc; "raw {line} {column} every {interval}"),
+        Command::Check {
+            path,
+            base,
+            interval,
+            options,
+        } => checking_text(alloc, path, base_text(base), *interval, options),
+        Command::Explain(asked) => {
+            let code = asked.code.as_deref().unwrap_or("all");
             format!(in alloc; "explain {code}")
         }
-        Command::Fit { paths, options } => fitting_text(alloc, paths, *options),
+        Command::Fit(asked) => fitting_text(alloc, asked),
         Command::Lookup { .. } => lookup_text(alloc, command),
-        Command::Generated { .. } => generated_text(alloc, command),
-        Command::Positions { .. } => positions_text(alloc, command),
-        Command::Mappings { .. } | Command::Sources { .. } | Command::SourceContent { .. } =>
-            listing_text(alloc, command),
+        Command::Generated(asked) => generated_text(alloc, asked),
+        Command::Positions(asked) => positions_text(alloc, asked),
+        Command::Mappings(asked) => mappings_text(alloc, asked),
+        Command::Sources(asked) => sources_text(alloc, asked),
+        Command::SourceContent(asked) => {
+            let (path, source) = (&asked.path, asked.source);
+            format!(in alloc; "content {source} of {path}")
+        }
         Command::Rewrite { maps, options, .. } => rewriting_text(alloc, command, maps, options),
-        Command::Locate { maps, options, .. } => locating_text(alloc, command, maps, options),
+        Command::Locate(asked) => locating_text(alloc, asked),
+        Command::ComposeAll(asked) => composing_text(alloc, asked),
         _ => writing_text(alloc, command),
     }
-}
-
-fn raw_text(alloc: Global, command: &Command) -> Result<String, AllocError> {
-    let Command::Raw {
-        line,
-        column,
-        interval,
-    } = command
-    else {
-        return String::from_str(alloc, "another command");
-    };
-    format!(in alloc; "raw {line} {column} every {interval}")
 }
 
 fn lookup_text(alloc: Global, command: &Command) -> Result<String, AllocError> {
@@ -56,57 +59,35 @@ fn lookup_text(alloc: Global, command: &Command) -> Result<String, AllocError> {
     format!(in alloc; "lookup {path} {line} {column}{base} every {interval}{after}{json}{explain}")
 }
 
-fn generated_text(alloc: Global, command: &Command) -> Result<String, AllocError> {
-    let Command::Generated {
-        path,
-        source,
-        line,
-        column,
-        base,
-        after,
-        options,
-    } = command
-    else {
-        return String::from_str(alloc, "another command");
-    };
-    let (base, after) = (base_text(base), flag_text(*after, " after"));
+fn generated_text(alloc: Global, asked: &Generated) -> Result<String, AllocError> {
+    let MapChoice { path, base, .. } = &asked.map;
+    let (source, line, options) = (&asked.source, asked.line, asked.options);
+    let (base, after) = (base_text(base), flag_text(asked.after, " after"));
     let (json, explain) = (form_text(options.form), explain_text(options.explain));
-    let column = number_text(alloc, " ", *column)?;
+    let column = number_text(alloc, " ", asked.column)?;
     format!(in alloc; "generated {path} [{source}] {line}{column}{base}{after}{json}{explain}")
 }
 
-fn positions_text(alloc: Global, command: &Command) -> Result<String, AllocError> {
-    let Command::Positions {
+fn positions_text(alloc: Global, asked: &Positions) -> Result<String, AllocError> {
+    let MapChoice {
         path,
         base,
         interval,
-        after,
-        form,
-    } = command
-    else {
-        return String::from_str(alloc, "another command");
-    };
-    let (base, after) = (base_text(base), flag_text(*after, " after"));
-    let json = form_text(*form);
+    } = &asked.map;
+    let (base, after) = (base_text(base), after_text(asked.options.direction));
+    let json = form_text(asked.options.form);
     format!(in alloc; "positions {path}{base} every {interval}{after}{json}")
 }
 
 // `check` of one file, reported as text, or of several.
 fn checking_text(
     alloc: Global,
-    command: &Command,
+    path: &str,
+    base: &str,
+    interval: u32,
     options: &CheckOptions,
 ) -> Result<String, AllocError> {
-    let Command::Check {
-        path,
-        base,
-        interval,
-        ..
-    } = command
-    else {
-        return String::from_str(alloc, "another command");
-    };
-    let (base, explain) = (base_text(base), explain_text(options.explain));
+    let explain = explain_text(options.explain);
     if options.others.is_empty() && !options.form.is_json() {
         return format!(in alloc; "check {path}{base} every {interval}{explain}");
     }
@@ -117,53 +98,26 @@ fn checking_text(
     format!(in alloc; "check all{base} every {interval}{json}{explain} [{path}]{others}")
 }
 
-fn fitting_text(
-    alloc: Global,
-    paths: &[String],
-    options: FitOptions,
-) -> Result<String, AllocError> {
+fn fitting_text(alloc: Global, asked: &Fit) -> Result<String, AllocError> {
+    let options = asked.options;
     let (json, explain) = (form_text(options.form), explain_text(options.explain));
-    let paths = list_text(alloc, " [", paths, "]")?;
+    let paths = list_text(alloc, " [", &asked.paths, "]")?;
     format!(in alloc; "fit{json}{explain}{paths}")
 }
 
-fn listing_text(alloc: Global, command: &Command) -> Result<String, AllocError> {
-    match command {
-        Command::Mappings {
-            path,
-            base,
-            line,
-            form,
-        } => {
-            let (base, json) = (base_text(base), form_text(*form));
-            let line = number_text(alloc, " ", *line)?;
-            format!(in alloc; "mappings {path}{line}{base}{json}")
-        }
-        Command::Sources { form, .. } => sources_text(alloc, command, form_text(*form)),
-        Command::SourceContent { path, source } => format!(in alloc; "content {source} of {path}"),
-        _ => String::from_str(alloc, "another command"),
-    }
+fn mappings_text(alloc: Global, asked: &Mappings) -> Result<String, AllocError> {
+    let MapChoice { path, base, .. } = &asked.map;
+    let (base, json) = (base_text(base), form_text(asked.options.form));
+    let line = number_text(alloc, " ", asked.options.line)?;
+    format!(in alloc; "mappings {path}{line}{base}{json}")
 }
 
-fn sources_text(
-    alloc: Global,
-    command: &Command,
-    json: &'static str,
-) -> Result<String, AllocError> {
-    let Command::Sources {
-        path,
-        base,
-        generated,
-        by_bytes,
-        fit,
-        ..
-    } = command
-    else {
-        return String::from_str(alloc, "another command");
-    };
-    let (base, order) = (base_text(base), flag_text(*by_bytes, " by bytes"));
-    let fit = flag_text(*fit, " with fit");
-    let generated = path_text(alloc, " of ", generated.as_deref())?;
+fn sources_text(alloc: Global, asked: &Sources) -> Result<String, AllocError> {
+    let MapChoice { path, base, .. } = &asked.map;
+    let options = asked.options;
+    let (base, order) = (base_text(base), flag_text(options.by_bytes, " by bytes"));
+    let (fit, json) = (flag_text(options.fit, " with fit"), form_text(options.form));
+    let generated = path_text(alloc, " of ", asked.generated.as_deref())?;
     format!(in alloc; "sources {path}{generated}{base}{order}{fit}{json}")
 }
 
@@ -219,25 +173,22 @@ fn reading_flags_text(alloc: Global, options: &FurtherOptions) -> Result<String,
     format!(in alloc; "{anywhere}{summary}{explain}{paths}")
 }
 
-fn locating_text(
-    alloc: Global,
-    command: &Command,
-    maps: &[(String, String)],
-    options: &LocateOptions,
-) -> Result<String, AllocError> {
-    let Command::Locate { base, interval, .. } = command else {
-        return String::from_str(alloc, "another command");
-    };
-    let (base, after) = (base_text(base), flag_text(options.after, " after"));
-    let (json, paths) = (
-        form_text(options.form),
-        flag_text(options.paths, " by paths"),
-    );
-    let cache_bytes = options.cache_bytes.unwrap_or(USUAL_CACHE_BYTES);
+fn locating_text(alloc: Global, asked: &Locate) -> Result<String, AllocError> {
+    let (interval, options) = (asked.interval, asked.options);
+    let (base, after) = (base_text(&asked.base), after_text(options.direction));
+    let (json, paths) = (form_text(options.form), flag_text(asked.paths, " by paths"));
+    let cache_bytes = asked.cache_bytes.unwrap_or(USUAL_CACHE_BYTES);
     let context = number_text(alloc, " with ", options.context)?;
-    let maps = pairs_text(alloc, options.list.as_deref(), maps)?;
+    let maps = pairs_text(alloc, asked.list.as_deref(), &asked.maps)?;
     let given = format!(in alloc; "{after}{json}{context}{paths}{maps}")?;
     format!(in alloc; "locate{base} every {interval} cache {cache_bytes}{given}")
+}
+
+fn composing_text(alloc: Global, asked: &ComposeAll) -> Result<String, AllocError> {
+    let outer = &asked.outer;
+    let (base, options) = (base_text(&asked.base), options_text(asked.options));
+    let inners = pairs_text(alloc, asked.list.as_deref(), &asked.inners)?;
+    format!(in alloc; "compose all {outer}{base}{options}{inners}")
 }
 
 fn writing_text(alloc: Global, command: &Command) -> Result<String, AllocError> {
@@ -259,17 +210,6 @@ fn writing_text(alloc: Global, command: &Command) -> Result<String, AllocError> 
         } => {
             let (base, left) = (base_text(base), left_out_text(*options));
             format!(in alloc; "compose {outer} {source} {inner}{base}{left}")
-        }
-        Command::ComposeAll {
-            outer,
-            inners,
-            list,
-            base,
-            options,
-        } => {
-            let (base, options) = (base_text(base), options_text(*options));
-            let inners = pairs_text(alloc, list.as_deref(), inners)?;
-            format!(in alloc; "compose all {outer}{base}{options}{inners}")
         }
         _ => String::from_str(alloc, "another command"),
     }
@@ -334,6 +274,13 @@ fn number_text(
 
 fn flag_text(is_given: bool, text: &'static str) -> &'static str {
     if is_given { text } else { "" }
+}
+
+fn after_text(direction: Direction) -> &'static str {
+    match direction {
+        Direction::AtOrBefore => "",
+        Direction::AtOrAfter => " after",
+    }
 }
 
 fn form_text(form: Form) -> &'static str {

@@ -4,9 +4,9 @@ use crate::fault::RowFault;
 use crate::lists::{answer_text, push_word};
 use crate::row::{Row, number_in};
 use crate::texts::{packed, put_held};
+use smap_command::Direction;
 use smap_index::{Index, Part};
 use smap_mappings::Meter;
-use smap_positions::Direction;
 use std::alloc::{AllocError, Global};
 
 // The index of a row's text, with checkpoints at its interval.

@@ -5,9 +5,9 @@ use crate::indexes::is_few;
 use crate::lists::answer_text;
 use crate::maps::map_of;
 use crate::row::Row;
+use smap_command::Direction;
 use smap_index::Answer as Found;
 use smap_mappings::Meter;
-use smap_positions::Direction;
 use smap_record::MapFile;
 use std::alloc::{AllocError, Global};
 

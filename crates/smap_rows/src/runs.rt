@@ -63,14 +63,12 @@ fn status_of(
 {
     let files = RowFiles::new(row, first.saturating_add(2))?;
     match parse(row.alloc(), row.words(first)?) {
-        Ok(mut command) => {
-            if is_terminal {
-                command.ask_hint();
-            }
+        Ok(command) => {
             let (status, _) = run_reading(
                 row.alloc(),
                 &files,
                 &command,
+                is_terminal,
                 input,
                 output,
                 errors,

@@ -80,6 +80,7 @@ fn nothing_waits_while_more_is_awaited(rt: HostRuntime) -> Result<(), Fail> {
         alloc,
         &HeldFiles(&files),
         &command,
+        false,
         input,
         &mut output,
         &mut errors,

@@ -111,6 +111,7 @@ pub fn left_broken(
         alloc,
         &HeldFiles(files),
         &command,
+        false,
         FromStd::new(&mut reader),
         &mut FromStd::new(&mut writer),
         &mut errors,

@@ -29,6 +29,7 @@ fn assert_left(
         alloc,
         &HeldFiles(FILES),
         &command,
+        false,
         FromStd::new(io::repeat(byte)),
         &mut FromStd::new(io::sink()),
         &mut errors,

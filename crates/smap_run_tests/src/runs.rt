@@ -109,6 +109,7 @@ pub fn left_by(
         alloc,
         &HeldFiles(files),
         command,
+        false,
         input,
         &mut output,
         &mut errors,

@@ -18,13 +18,13 @@ module _ {A : Type 0} (maps : List (String A × String A)) where
   abbrev pub has_rule : Bool
   has_rule = list_any (λ pair. is_rule (string_bytes pair.0) (string_bytes pair.1)) maps
 
-  -- a rule is given, or an option
-  abbrev pub asks_for_more : FurtherOptions → Bool
-  asks_for_more options = are_further options || has_rule
+  -- a rule is given, or an option, or a terminal is to be told of what is passed over
+  abbrev pub asks_for_more : FurtherOptions → (hint : Bool) → Bool
+  asks_for_more options hint = are_further options || (hint || has_rule)
 
   -- what is asked then, with the usual numbers where none are given
-  abbrev pub request_of : (hide : Bool) → FurtherOptions → RequestSeen
-  request_of hide options = record {
+  abbrev pub request_of : (hide : Bool) → FurtherOptions → (hint : Bool) → RequestSeen
+  request_of hide options hint = record {
     arguments = map argument_of maps;
     list = option_map string_bytes options.list;
     paths = options.paths;
@@ -34,13 +34,13 @@ module _ {A : Type 0} (maps : List (String A × String A)) where
     limit_bytes = unwrap_or options.limit_bytes usual_limit_bytes;
     summary = options.summary;
     explain = options.explain;
-    hint = options.hint;
+    hint = hint;
   }
 
 -- what `rewrite` does to the streams, and the status with which it ends
 abbrev pub RunsRewrite : {A : Type 0} → MayRead → Option Parts → (k : ℕ) → List (String A × String A) → (hide : Bool) → FurtherOptions
-    → (status : ℕ) → (before after : Streams) → Type 0
-RunsRewrite Reads base k maps hide options status before after =
-    MatchBool (asks_for_more maps options)
-    (RewritesFrom Reads base k (request_of maps hide options) status before after)
+    → (hint : Bool) → (status : ℕ) → (before after : Streams) → Type 0
+RunsRewrite Reads base k maps hide options hint status before after =
+    MatchBool (asks_for_more maps options hint)
+    (RewritesFrom Reads base k (request_of maps hide options hint) status before after)
     (RunsOne (RewriteReports Reads base k (IsTraceRewritten hide) (map argument_of maps)) status before after)

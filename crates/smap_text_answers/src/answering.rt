@@ -26,6 +26,9 @@ pub struct TextRequest<'a, 'r, F: FileReader> {
     pub hide_ignored: bool,
     /// What else is asked for.
     pub options: &'a FurtherOptions,
+    /// Whether standard error is told at the end, where nothing else was said, which option takes the places of lines that
+    /// are no frames.
+    pub hint: bool,
 }
 
 /// Rewrites the text on standard input, and gives the exit status. Where there are files for URLs alone, and no options,
@@ -45,13 +48,14 @@ pub fn answer_rewrite<F: FileReader, R: ByteSource, W: ByteSink, E: ByteSink>(
     requires output_works { (W.seen output.old).failed ≡ false }
     ensures { RunsRewrite (F.gives request.now.maps.now.files.now)
         (option_copied request.now.maps.now.base) request.now.maps.now.interval
-        request.now.arguments.now request.now.hide_ignored request.now.options.now result
+        request.now.arguments.now request.now.hide_ignored request.now.options.now
+        request.now.hint result
         (streams_seen (R.seen input.old) (W.seen output.old) (E.seen errors.old) first.old)
         (streams_seen (R.seen input.new) (W.seen output.new) (E.seen errors.new) first.new) }
 {
     let (maps, arguments, options) = (request.maps, request.arguments, request.options);
-    let hide_ignored = request.hide_ignored;
-    if !asks_for_more(arguments, options) {
+    let (hide_ignored, hint) = (request.hide_ignored, request.hint);
+    if !asks_for_more(arguments, options, hint) {
         let outcome = rewrite_trace(alloc, maps, arguments, hide_ignored, input, output);
         return report(&outcome, output, errors, first);
     }
@@ -71,16 +75,16 @@ pub fn answer_rewrite<F: FileReader, R: ByteSource, W: ByteSink, E: ByteSink>(
         limit_bytes,
         summary: options.summary,
         explain: options.explain,
-        hint: options.hint,
+        hint,
     };
     rewrite_from(alloc, &request, input, output, errors, first)
 }
 
-// Whether a rule is given, or an option.
-fn asks_for_more(arguments: &[(String, String)], options: &FurtherOptions) -> bool
-    ensures { result ≡ asks_for_more arguments.now options.now }
+// Whether a rule is given, or an option, or a terminal is to be told of what is passed over.
+fn asks_for_more(arguments: &[(String, String)], options: &FurtherOptions, hint: bool) -> bool
+    ensures { result ≡ asks_for_more arguments.now options.now hint }
 {
-    options.are_given() || has_rule(arguments)
+    options.are_given() || hint || has_rule(arguments)
 }
 
 // Whether one of the pairs is a rule: it has a folder or a pattern.

@@ -15,7 +15,7 @@ use Rattle.smap_locate_answers.specs.Locating.{LocateStep, Locates}
 use Rattle.smap_locate_answers.specs.Place.{Place, place_of}
 use Rattle.smap_locations.specs.Laws.Key.{path_of_key}
 use Rattle.smap_locations.specs.Locations.{LocationsSeen, key_for, path_for}
-use Rattle.smap_positions.specs.declared.options.AnswerOptions.{AnswerOptions}
+use Rattle.smap_command.specs.declared.options.AnswerOptions.{AnswerOptions}
 use Rattle.smap_record.specs.Record.{MapRecord}
 use Rattle.smap_record.specs.declared.refusal.MapRefusal.{MapRefusal}
 use Rattle.smap_replies.specs.Files.{MayRead}

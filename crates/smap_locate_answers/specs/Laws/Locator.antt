@@ -8,7 +8,7 @@ use Rattle.smap_locate_answers.specs.Place.{Place, place_of}
 use Rattle.smap_locate_answers.specs.Private.Locator.{LocatorBecomes, LocatorReaches, LocatorSteps, no_limit}
 use Rattle.smap_locate_answers.specs.declared.locator.Locator.{Locator}
 use Rattle.smap_positions.specs.Places.{bad_place_line}
-use Rattle.smap_positions.specs.declared.options.AnswerOptions.{AnswerOptions}
+use Rattle.smap_command.specs.declared.options.AnswerOptions.{AnswerOptions}
 use Rattle.smap_record.specs.Record.{MapRecord}
 use Rattle.smap_store.specs.Loaded.{Came, record_in}
 use Rattle.smap_store.specs.Laws.Outcome.{outcome_found}

@@ -8,7 +8,7 @@ use Rattle.smap_record.specs.Record.{MapRecord}
 use Rattle.smap_positions.specs.Private.Answerer.{after_position, answer_of, room_of}
 use Rattle.smap_positions.specs.Positions.{answered_line}
 use Rattle.smap_positions.specs.declared.answerer.PositionAnswerer.{PositionAnswerer}
-use Rattle.smap_positions.specs.declared.options.AnswerOptions.{AnswerOptions}
+use Rattle.smap_command.specs.declared.options.AnswerOptions.{AnswerOptions}
 
 room_by : (answerer : PositionAnswerer) (line : Line) → room_of answerer ≤ room_of (after_position answerer line) + 1
 room_by answerer line = omega arith

@@ -1,4 +1,4 @@
-use Rattle.std.proofs.Common.{option_copied}
+use Rattle.std.proofs.Common.{option_copied, string_bytes}
 use Rattle.std.proofs.lemmas.Result.{err_from_is_err_and}
 use Rattle.smap_map_answers.specs.Generated.{generated_result}
 use Rattle.smap_replies.specs.Map.{IsResult}
@@ -9,6 +9,6 @@ pub returns-in_err-map : goal.returns-in_err-map
 returns-in_err-map g c =
     let maps = c.args.maps.now in
     let p = err_from_is_err_and c.from_residual.result c.from_residual.ensures.1 in
-    rw (p.1, p.2) (refused_why (g.F.FileReader.gives maps.files.now) c.args.asked.options.explain 0 c.args.path.now (option_copied maps.base)
-    maps.interval (IsResult (generated_result c.args.asked.options c.args.asked.source.now c.args.asked.line c.args.asked.column c.args.asked.after))
-    _ c.in_err-map.ensures.refused)
+    let asked = c.args.asked.now in
+    rw (p.1, p.2) (refused_why (g.F.FileReader.gives maps.files.now) asked.options.explain 0 (string_bytes asked.map.path) (option_copied maps.base)
+    maps.interval (IsResult (generated_result asked)) _ (rw c.deref.ensures at c.in_err-map.ensures.refused))

@@ -5,6 +5,5 @@ use Rattle.smap_map_answers.proofs.generated.generated_of.Goals as goal
 
 pub returns : goal.returns
 returns c =
-    let asked = c.args.asked.now in
-    subst (λ l. OrMemory (λ report. report ≡ sources_result asked.options asked.source.now asked.line asked.column asked.after c.args.map.now.stated l) (report_of c.reported.result))
-    c.in_ok-sources.ensures c.reported.ensures
+    subst (λ l. OrMemory (λ report. report ≡ sources_result c.args.asked.now c.args.map.now.stated l) (report_of c.reported.result))
+    (rw c.deref.ensures at c.in_ok-sources.ensures) c.reported.ensures
