@@ -1,0 +1,816 @@
+"""The places of a text, wherever they stand, as a model that computes: `rewrite_anywhere(text, maps)`.
+
+It says what `rewrite --anywhere` is to write. Nothing here is made from smap's own code. A place is read backwards from its
+numbers:
+
+- A **pair** is the `:`, the line, the `:` and the column of a place. Its **piece** is what stands on its line between the pair
+  before and this one: each byte is in one piece.
+- An **escape** is what stands for another byte in JSON, in a string of a program, of nginx or of syslog. It counts as what it
+  means. A **colour** is a control sequence of a terminal.
+- A **virtual line** is a string in a line, or a line in that string.
+- An **edge** is a place at which a URL may begin.
+
+The URL of a pair is found in the first of four **ways** that has a map: 0 the frame, 1 as named, 2 by a pattern, 3 with a query.
+
+Each loop goes through bytes once: through those of a line, or of a piece, at most 2,048 and the longest name.
+"""
+
+from __future__ import annotations
+
+import re
+from typing import Callable, Dict, Iterable, Iterator, List, NamedTuple, Optional, Tuple
+
+# What a map answers to a URL, a line and a column: a name, a line and a column, all but the URL from 1.
+Original = Tuple[bytes, int, int]
+LookUp = Callable[[bytes, int, int], Optional[Original]]
+
+MOST_NUMBER = 2147483648
+# Bytes of a line that may be a frame, and bytes before a pair that may decide its URL.
+MOST_LINE = 65536
+# Bytes of a URL outside of frames, or of what stands behind a name.
+MOST_RUN = 2048
+
+
+def table(test: Callable[[int], bool]) -> bytes:
+    """For each byte 1 where a test says so, and 0."""
+    return bytes(test(byte) for byte in range(256))
+
+
+LETTERS = b"ABCDEFGHIJKLMNOPQRSTUVWXYZabcdefghijklmnopqrstuvwxyz"
+DIGITS = b"0123456789"
+WORD = table(lambda byte: byte >= 0x80 or byte in LETTERS + DIGITS)
+# A byte behind which a URL may begin.
+EDGE = table(lambda byte: not WORD[byte] and byte not in rb"_-./\%~+$:")
+CONTROL = table(lambda byte: byte <= 0x20 or byte == 0x7F)
+# A byte that ends the word before a pair.
+ENDS_WORD = table(lambda byte: bool(CONTROL[byte]) or byte in b"\"'`,;|<>()[]{}\\")
+# A byte that does not stand behind a name.
+BARRED = table(lambda byte: bool(CONTROL[byte]) or byte in b"\"'`<>")
+
+# ---------------------------------------------------------------------------------------------
+# Which map a URL has.
+# ---------------------------------------------------------------------------------------------
+
+_QUERY = re.compile(rb"[?#]")
+
+
+def without_query(url: bytes) -> bytes:
+    """What stands before the first `?` or `#`."""
+    return _QUERY.split(url, maxsplit=1)[0]
+
+
+def is_utf8(text: bytes) -> bool:
+    """Whether a text is UTF-8."""
+    try:
+        text.decode()
+    except UnicodeDecodeError:
+        return False
+    return True
+
+
+def path_in(folder: bytes, rest: bytes) -> Optional[bytes]:
+    """The path of the map of a URL that has this behind the folder's prefix."""
+    if any(byte < 0x20 or byte in b"\x7f\\:" for byte in rest) or {b"", b".", b".."} & set(rest.split(b"/")) or not is_utf8(rest):
+        return None
+    return folder + rest + b".map"
+
+
+class Pattern(NamedTuple):
+    """What stands behind a `*`, and a file or a folder."""
+
+    text: bytes
+    path: bytes
+
+    def is_folder(self) -> bool:
+        """Whether it is for the URLs in which its text stands."""
+        return self.path.endswith(b"/")
+
+    def path_for(self, url: bytes) -> Optional[bytes]:
+        """The path that it has for a URL; None where it is not for it, and empty where its folder has none."""
+        short = without_query(url)
+        if not self.is_folder():
+            return self.path if self._ends(url) or self._ends(short) else None
+        at = self._first_in(short)
+        if at < 0:
+            return None
+        rest = short[at + len(self.text):]
+        return path_in(self.path, rest.replace(b"\\", b"/") if self.text.endswith(b"\\") else rest) or b""
+
+    def _begins_piece(self, url: bytes, at: int) -> bool:
+        return at == 0 or url[at - 1] in b"/\\" or self.text[:1] in (b"/", b"\\")
+
+    def _ends(self, url: bytes) -> bool:
+        return url.endswith(self.text) and self._begins_piece(url, len(url) - len(self.text))
+
+    def _first_in(self, url: bytes) -> int:
+        at = url.find(self.text)
+        while at >= 0 and not self._begins_piece(url, at):
+            at = url.find(self.text, at + 1)
+        return at
+
+
+# The texts of a tree byte by byte; -1 where one ends.
+Tree = Dict[int, "Tree"]  # type: ignore[misc]
+
+
+def tree_of(texts: Iterable[bytes]) -> Tree:
+    """The tree of texts."""
+    tree: Tree = {}
+    for text in texts:
+        node = tree
+        for byte in text:
+            node = node.setdefault(byte, {})
+        node[-1] = {}
+    return tree
+
+
+class Maps:
+    """Named URLs, lists, folders and patterns; and `look_up_in`, which has the map of a path."""
+
+    def __init__(self, look_up_in: Callable[[bytes], Optional[LookUp]], words: Iterable[bytes], listed: Iterable[bytes] = ()) -> None:
+        """Words are those of the command line, `URL=PATH`; those of a list are written alike."""
+        self.look_up_in = look_up_in
+        self.arguments: Dict[bytes, bytes] = {}
+        self.listed: Dict[bytes, bytes] = {}
+        self.folders: Dict[bytes, bytes] = {}
+        self.patterns: List[Pattern] = []
+        for named, word in [*((self.arguments, word) for word in words), *((self.listed, word) for word in listed)]:
+            url, _, path = word.rpartition(b"=")
+            if url.startswith(b"*"):
+                self.patterns.append(Pattern(url[1:], path))
+            else:
+                (self.folders if path.endswith(b"/") else named)[url] = path
+        # No text with a quotation mark is found outside of frames: so JSON stays JSON.
+        names = [name for name in (*self.arguments, *self.listed) if b'"' not in name]
+        self.back_by_name = tree_of(name[::-1] for name in names)
+        self.back_by_argument = tree_of(name[::-1] for name in names if name in self.arguments)
+        self.back_by_listed = tree_of(name[::-1] for name in names if name in self.listed and name == without_query(name))
+        prefixes = [prefix for prefix in self.folders if b'"' not in prefix and prefix == without_query(prefix)]
+        self.by_prefix = tree_of(prefixes)
+        self.longest_prefix = max(map(len, prefixes), default=0)
+
+    def path_of_name(self, url: bytes) -> Optional[bytes]:
+        """The file that an argument or a list names for a URL."""
+        return self.arguments.get(url) or self.listed.get(url)
+
+    def path_as_named(self, url: bytes) -> Optional[bytes]:
+        """The file that is named for a URL, but for patterns."""
+        short = without_query(url)
+        path = self.path_of_name(url) or self.listed.get(short)
+        if path:
+            return path
+        prefix = max((prefix for prefix in self.folders if short.startswith(prefix)), key=len, default=None)
+        return None if prefix is None else path_in(self.folders[prefix], short[len(prefix):])
+
+    def path_by_pattern(self, url: bytes) -> Optional[bytes]:
+        """The file that the pattern that decides has for a URL."""
+        having = [one for one in self.patterns if one.text and one.path_for(url) is not None]
+        return max(having, key=lambda one: (len(one.text), not one.is_folder())).path_for(url) or None if having else None
+
+    def path_for(self, url: bytes) -> Optional[bytes]:
+        """The file that is named for a URL."""
+        return self.path_as_named(url) or self.path_by_pattern(url)
+
+
+# ---------------------------------------------------------------------------------------------
+# Escapes and colours.
+# ---------------------------------------------------------------------------------------------
+
+
+class Escape(NamedTuple):
+    """From which byte to which it stands, and the character that it means."""
+
+    start: int
+    end: int
+    means: int
+
+
+_ESCAPES = re.compile(rb"\\+|#0[0-3][0-7]")
+_ENDING = re.compile(rb"[nrtbf\"']|u[0-9A-Fa-f]{4}|x[0-9A-Fa-f]{2}")
+_BACKSLASHES = re.compile(rb"\\*")
+_MEANT = dict(zip(b"nrtbf\"'", b"\n\r\t\b\f\"'"))
+_PARAMETERS = re.compile(rb"\[[0-9;]{0,32}m")
+
+
+def is_written_backslash(means: int) -> bool:
+    """Whether a run of backslashes goes on behind an escape of this character: `\\x5Cn` is `\\n` that was escaped."""
+    return means == 0x5C
+
+
+def escape_at(text: bytes, start: int, end: int) -> Optional[Escape]:
+    """The escape whose first run of backslashes is this."""
+    found = None
+    while ending := _ENDING.match(text, end):
+        what = ending[0]
+        found = Escape(start, ending.end(), _MEANT[what[0]] if len(what) == 1 else int(what[1:], 16))
+        if not is_written_backslash(found.means):
+            break
+        end = _BACKSLASHES.match(text, found.end).end()  # type: ignore[union-attr]
+    return found
+
+
+def escapes_in(text: bytes) -> Iterator[Escape]:
+    """The escapes of a line."""
+    at = 0
+    while run := _ESCAPES.search(text, at):
+        start, at = run.span()
+        found = Escape(start, at, int(run[0][1:], 8)) if run[0].startswith(b"#") else escape_at(text, start, at)
+        if found:
+            yield found
+            at = found.end
+
+
+def colours_in(text: bytes, escapes: List[Escape]) -> Iterator[Tuple[int, int]]:
+    """The colours of a line, each from its ESC on, which may be an escape."""
+    signs = [(at, at + 1) for at in range(len(text)) if text[at] == 0x1B] if b"\x1b" in text else []
+    for start, end in signs + [(one.start, one.end) for one in escapes if one.means == 0x1B]:
+        parameters = _PARAMETERS.match(text, end)
+        if parameters:
+            yield start, parameters.end()
+
+
+# ---------------------------------------------------------------------------------------------
+# A line.
+# ---------------------------------------------------------------------------------------------
+
+
+class Pair(NamedTuple):
+    """From which byte to which it stands, and where its piece begins."""
+
+    start: int
+    end: int
+    line: int
+    column: int
+    piece: int
+
+
+class VirtualLine(NamedTuple):
+    """From which byte to which it stands; and whether an escape or a quotation mark begins it."""
+
+    start: int
+    end: int
+    is_quoted: bool
+
+
+_PAIR = re.compile(rb":([1-9][0-9]{0,9}):([1-9][0-9]{0,9})(?![0-9]|[:-][0-9])")
+_IN_BRACKETS = re.compile(rb"://\[[0-9A-Za-z:.%_~-]*\]")
+_PATH_BEHIND_COLON = re.compile(rb":/(?!/)")
+_QUOTES = re.compile(rb"[\"'\n\r]")
+
+_PATH = re.compile(rb"[/?]")
+_SEPARATOR = re.compile(rb"[/\\]")
+_PAIRED = {ord(")"): 0, ord("]"): 1, ord("}"): 2, ord("("): 3, ord("["): 4, ord("{"): 5}
+
+# What a byte of a line counts as that only looks so: one within an escape or a colour.
+NOTHING = 0xFF
+NOT_ASCII = bytes(range(0x80, 0x100))
+EDGES = bytes(byte for byte in range(0x80) if EDGE[byte])
+
+
+def is_edge_behind(means: int) -> bool:
+    """Whether a URL may begin behind an escape of this character."""
+    return means < 0x80 and bool(EDGE[means])
+
+
+def is_apostrophe(text: bytes, start: int, end: int) -> bool:
+    """Whether a `'` here stands within a word, which a letter alone is not: `b'..'`."""
+    if start < 2 or end >= len(text) or not WORD[text[start - 1]] or not WORD[text[end]]:
+        return False
+    return not EDGE[text[start - 2]]
+
+
+class Line:
+    """A line, with what counts in it. `counts` has for each byte what it counts as."""
+
+    def __init__(self, text: bytes) -> None:
+        self.text = text
+        self.escapes = list(escapes_in(text))
+        self.colours = list(colours_in(text, self.escapes))
+        self.counts = bytearray(text)
+        self.edges = bytearray(b"\1" + text.translate(EDGE))
+        # Where escapes and colours end, and where those begin that end there.
+        self.starts: Dict[int, int] = {}
+        for start, end, means in self.escapes:
+            self._put(start, end, is_edge_behind(means))
+            self.counts[end - 1] = min(means, 0x80)
+        for start, end in self.colours:
+            self._put(start, end, True)
+        self._find_paths()
+        self.virtual_lines = list(self._virtual_lines())
+        self.pairs = list(self._pairs())
+
+    def _put(self, start: int, end: int, is_edge: bool) -> None:
+        self.counts[start:end] = bytes([NOTHING]) * (end - start)
+        self.edges[start + 1:end] = bytes(end - start - 1)
+        self.edges[end] = is_edge
+        self.starts[end] = start
+
+    # Each `:` before a single `/` is an edge, but behind `file` or one letter alone.
+    def _find_paths(self) -> None:
+        for colon in _PATH_BEHIND_COLON.finditer(self.text):
+            at = colon.start()
+            self.edges[at + 1] = not (self._stands_alone(at, 1, LETTERS) or self._stands_alone(at, 4, b"file"))
+
+    def _stands_alone(self, end: int, length: int, letters: bytes) -> bool:
+        start = end - length
+        if start < 0 or (not self.edges[start] and WORD[self.text[start - 1]]):
+            return False
+        return self.text[start:end] == letters if length > 1 else self.text[start] in letters
+
+    # They end before a quotation mark, or an escape of one or of a line's end, and begin behind it.
+    def _virtual_lines(self) -> Iterator[VirtualLine]:
+        begin, is_quoted = 0, False
+        for found in _QUOTES.finditer(bytes(self.counts)):
+            end = found.end()
+            start = self.starts.get(end, found.start())
+            if found[0] in b"\n\r" and start == found.start():
+                continue
+            if found[0] == b"'" and is_apostrophe(self.text, start, end):
+                self.counts[end - 1], self.edges[end] = ord("x"), 0
+                continue
+            yield VirtualLine(begin, start, is_quoted)
+            begin, is_quoted = end, True
+        yield VirtualLine(begin, len(self.text), is_quoted)
+
+    def _pairs(self) -> Iterator[Pair]:
+        inside = [found.span() for found in _IN_BRACKETS.finditer(self.text)]
+        piece, past = 0, 0
+        for found in _PAIR.finditer(self.text):
+            while past < len(inside) and inside[past][1] <= found.start():
+                past += 1
+            is_inside = past < len(inside) and inside[past][0] < found.start()
+            line, column = int(found[1]), int(found[2])
+            if not is_inside and line <= MOST_NUMBER and column <= MOST_NUMBER:
+                yield Pair(found.start(), found.end(), line, column, piece)
+                piece = found.end()
+
+
+# ---------------------------------------------------------------------------------------------
+# A path.
+# ---------------------------------------------------------------------------------------------
+
+_ROOT = re.compile(rb"[A-Za-z]:(?=/)|file:(?=/)")
+_NAME = re.compile(rb"[A-Za-z0-9\x80-\xff]|\.\.?$|~$")
+_EDGE_BEFORE_PATH = re.compile(rb"[\x00-\x20!-#&-*,;-@\[\]^`{-}\x7f]/")
+
+
+def is_path(url: bytes, strange: bytes) -> bool:
+    """Whether a URL without a scheme is a path: before its first `?` no `/` stands behind a byte at which a URL may end, nor a
+    `:` in it, but that of a drive or of `file:`; and its first piece is a name, `.`, `..` or `~`, of none of these bytes.
+
+    So it does not begin with a file and a line, as grep prints them, with a sign of a list or of a difference, or a date.
+    """
+    root = _ROOT.match(url)
+    path = url[root.end() if root else 0:].partition(b"?")[0]
+    if b"/" not in path:
+        return True
+    first = path[:path.index(b"/")]
+    return b":" not in path and not _EDGE_BEFORE_PATH.search(path) and (
+        first == b"" or bool(_NAME.search(first)) and not set(first) & set(strange)
+    )
+
+
+# ---------------------------------------------------------------------------------------------
+# 0. The frame.
+# ---------------------------------------------------------------------------------------------
+
+
+class Place(NamedTuple):
+    """From which byte of its line to which it stands, its URL, the file that is named for that, its line and column."""
+
+    start: int
+    end: int
+    url: bytes
+    path: bytes
+    line: int
+    column: int
+
+
+_AT = re.compile(rb"[ \t]*at ")
+
+
+def place_span(text: bytes, start: int, end: int) -> Optional[Tuple[int, int]]:
+    """Where the URL of a place stands that is the whole of a text from one byte to another."""
+    column = text.rfind(b":", start, end)
+    line = text.rfind(b":", start, max(column, start))
+    found = _PAIR.match(text[line:end]) if line > start else None
+    if not found or found.end() != end - line or max(int(found[1]), int(found[2])) > MOST_NUMBER:
+        return None
+    return start, line
+
+
+def frame_span(text: bytes) -> Optional[Tuple[int, int]]:
+    """Where the URL of a frame stands, if a line is a frame."""
+    if len(text) > MOST_LINE or b"\r" in text[:-1]:
+        return None
+    end = len(text) - text.endswith(b"\r")
+    at = _AT.match(text)
+    if not at:
+        sign = text.find(b"@", 0, end)
+        return place_span(text, sign + 1, end) if sign >= 0 else None
+    start = at.end()
+    if text.endswith(b")", start, end):
+        call = text.find(b" (", start, end)
+        return place_span(text, call + 2, end - 1) if call > start else None
+    start += len(b"async ") if text.startswith(b"async ", start) else 0
+    return None if text.startswith(b"async ", start) else place_span(text, start, end)
+
+
+# A scheme, `/`, `\\` or a drive.
+_BEGINNING = rb"(?:[A-Za-z][A-Za-z0-9+.-]*://|[A-Za-z][A-Za-z0-9+-]*:/|/|\\|[A-Za-z]:\\)"
+_BEGINS = re.compile(_BEGINNING)
+_BEGINS_AGAIN = re.compile(rb"[\x00-\x20\x7f][\x00-\x20!-#&-*,;-@\[\]^`{-}\x7f]*" + _BEGINNING)
+_BRACKETS = re.compile(rb"[()\[\]{}]")
+_BLANK_OR_QUOTE = re.compile(rb"[\x00-\x20\"'\x7f]")
+
+
+def has_paired_brackets(text: bytes) -> bool:
+    """Whether each bracket of a text is closed by one of its kind behind it."""
+    open_ones = [0, 0, 0]
+    for byte in text:
+        kind = _PAIRED.get(byte, -1)
+        if kind >= 0:
+            open_ones[kind % 3] += -1 if kind < 3 else 1
+            if open_ones[kind % 3] < 0:
+                return False
+    return not any(open_ones)
+
+
+def is_sentence(url: bytes) -> bool:
+    """Whether a frame's URL that begins as one does is a sentence: it has a blank, and behind that or a sign another begins."""
+    return bool(_BLANK_OR_QUOTE.search(url)) and bool(_BEGINS_AGAIN.search(url) or _EDGE_BEFORE_PATH.search(_BRACKETS.sub(b"x", url)))
+
+
+def is_function(head: bytes) -> bool:
+    """Whether what stands before a frame's URL ends with no `@`, or is a function: with a separator it may be the beginning of a URL,
+    `https://h/npm/a@1/app.js`, and the `@` stands in it."""
+    return not head.endswith(b"@") or not _SEPARATOR.search(head)
+
+
+def is_for_pattern(line: Line, virtual: VirtualLine, start: int, pair: Pair) -> bool:
+    """Whether a pattern may have the URL of a frame, since it is one and no more: its brackets stand in pairs, it holds no pair, no
+    escape begins it, and it begins as a URL and is no sentence, or is a relative path."""
+    url = line.text[start:pair.start]
+    counts = bytes(line.counts[start:pair.start])
+    if not has_paired_brackets(url) or pair.piece > start or counts[0] == NOTHING:
+        return False
+    if _BEGINS.match(url):
+        return not is_sentence(counts.replace(bytes([NOTHING]), b""))
+    if NOTHING in counts or _BLANK_OR_QUOTE.search(counts) or not is_function(line.text[virtual.start:start]):
+        return False
+    return is_path(_BRACKETS.sub(b"x", url).replace(b"\\", b"/"), EDGES)
+
+
+def urls_of_frame(url: bytes, is_quoted: bool) -> List[bytes]:
+    """What a frame's URL may be: in a string each backslash is two; or it is named as it stands there."""
+    return [url.replace(b"\\\\", b"\\"), url] if is_quoted and b"\\\\" in url else [url]
+
+
+def place_of_frame(line: Line, virtual: VirtualLine, pair: Pair, maps: Maps) -> Optional[Place]:
+    """The place of the frame that a virtual line is, whose last pair is this."""
+    span = frame_span(line.text[virtual.start:virtual.end])
+    if not span or virtual.start + span[1] != pair.start:
+        return None
+    start, end = virtual.start + span[0], pair.start
+    # In a string no query and no folder has what stands behind another pair.
+    as_named = maps.path_of_name if virtual.is_quoted and pair.piece > start else maps.path_as_named
+    by_pattern = maps.path_by_pattern if maps.patterns and is_for_pattern(line, virtual, start, pair) else lambda _: None
+    for url in urls_of_frame(line.text[start:end], virtual.is_quoted):
+        path = as_named(url) or by_pattern(url)
+        if path:
+            return Place(start, pair.end, url, path, pair.line, pair.column)
+    return None
+
+
+# ---------------------------------------------------------------------------------------------
+# 1. As named. 3. With a query.
+# ---------------------------------------------------------------------------------------------
+
+
+def beginnings(tree: Tree, text: bytes, low: int, end: int) -> Iterator[int]:
+    """Where names begin that end before a byte, from the shortest on."""
+    node = tree
+    for at in range(end - 1, low - 1, -1):
+        found = node.get(text[at])
+        if found is None:
+            return
+        node = found
+        if -1 in node:
+            yield at
+
+
+def longest_end(tree: Tree, text: bytes, start: int, end: int) -> int:
+    """Where the longest of the texts ends that begins at a byte, or that byte."""
+    node, longest = tree, start
+    for at in range(start, end):
+        found = node.get(text[at])
+        if found is None:
+            break
+        node = found
+        if -1 in node:
+            longest = at + 1
+    return longest
+
+
+def is_barred(line: Line, at: int) -> bool:
+    """Whether a byte, or the escape that ends with it, does not stand behind a name."""
+    return bool(BARRED[line.text[at]] or (at + 1 in line.starts and BARRED[line.counts[at]]))
+
+
+_NO_UTF8 = re.compile("[\udc80-\udcff]")
+
+
+def bytes_of_no_character(text: bytes, start: int, end: int) -> List[int]:
+    """Where the bytes stand that are not UTF-8."""
+    if text.isascii():
+        return []
+    places, at = [], start
+    for character in text[start:end].decode(errors="surrogateescape"):
+        if _NO_UTF8.match(character):
+            places.append(at)
+        at += len(character.encode(errors="surrogateescape"))
+    return places
+
+
+class Behind:
+    """What stands behind a name and before a pair, from each of the last 2,048 bytes of a piece on: whether it `fits` there, so
+    that it has no barred byte, no backslash before a `?` or `#`, and brackets in pairs; and whether what stands before its
+    first `?` or `#` is a `plain` path."""
+
+    def __init__(self, line: Line, pair: Pair) -> None:
+        self.low = max(pair.piece, pair.start - MOST_RUN)
+        self.fits = bytearray(pair.start - self.low + 1)
+        self.plain = bytearray(pair.start - self.low + 1)
+        self.queries: List[int] = []
+        text = line.text
+        wrong = set(bytes_of_no_character(text, self.low, pair.start))
+        open_ones = [0, 0, 0]
+        has_backslash = is_wrong = False
+        piece_end = pair.start
+        for at in range(pair.start - 1, self.low - 1, -1):
+            byte = text[at]
+            if is_barred(line, at):
+                break
+            kind = _PAIRED.get(byte)
+            if kind is not None:
+                open_ones[kind % 3] += 1 if kind < 3 else -1
+                if open_ones[kind % 3] < 0:
+                    break
+            if byte in b"?#":
+                has_backslash = is_wrong = False
+                piece_end = at
+                self.queries.append(at)
+            elif byte == ord("/"):
+                is_wrong = is_wrong or text[at + 1:min(at + 4, piece_end)] in (b"", b".", b"..")
+                piece_end = at
+            elif byte in b"\\:" or at in wrong:
+                has_backslash = has_backslash or byte == ord("\\")
+                is_wrong = True
+            self.fits[at - self.low] = not has_backslash and not any(open_ones)
+            self.plain[at - self.low] = not is_wrong and text[at:min(at + 3, piece_end)] not in (b"", b".", b"..")
+
+    def fits_at(self, at: int) -> bool:
+        """Whether what stands from a byte on may stand behind a name."""
+        return at >= self.low and bool(self.fits[at - self.low])
+
+    def is_in_folder(self, at: int) -> bool:
+        """Whether it may stand behind a prefix, and a folder has a file for it."""
+        return self.fits_at(at) and bool(self.plain[at - self.low])
+
+
+def begin_as_named(line: Line, pair: Pair, behind: Behind, maps: Maps) -> int:
+    """Where the longest URL begins that is named, or that a list has without its query, or a folder; its end where none does."""
+    text, best = line.text, pair.start
+    for at in beginnings(maps.back_by_name, text, pair.piece, pair.start):
+        best = at if line.edges[at] else best
+    for query in behind.queries:
+        if behind.fits_at(query):
+            for at in beginnings(maps.back_by_listed, text, pair.piece, query):
+                best = at if line.edges[at] and at < best else best
+    if maps.by_prefix:
+        for at in range(max(pair.piece, behind.low - maps.longest_prefix), best):
+            if line.edges[at] and text[at] in maps.by_prefix:
+                end = longest_end(maps.by_prefix, text, at, pair.start)
+                if end > at and behind.is_in_folder(end):
+                    return at
+    return best
+
+
+def begin_with_query(line: Line, pair: Pair, behind: Behind, maps: Maps) -> Tuple[int, int]:
+    """Where the longest URL of an argument begins and ends that has a query or a fragment behind it."""
+    best = pair.start, pair.start
+    for query in behind.queries:
+        if behind.fits_at(query):
+            for at in beginnings(maps.back_by_argument, line.text, pair.piece, query):
+                best = (at, query) if line.edges[at] and at < best[0] else best
+    return best
+
+
+# ---------------------------------------------------------------------------------------------
+# 2. By a pattern.
+# ---------------------------------------------------------------------------------------------
+
+_SCHEME_BACK = re.compile(rb"[A-Za-z0-9+.-]*")
+_LETTER = re.compile(rb"[A-Za-z]")
+_ABSOLUTE = re.compile(rb"/|[A-Za-z][A-Za-z0-9+.-]*:/")
+_OPENING = {ord("("): 1, ord(")"): -1}
+
+
+def word_start(line: Line, pair: Pair, low: int) -> int:
+    """Where the word before a pair begins, not before a byte."""
+    at = pair.start
+    while at > low and not ENDS_WORD[line.text[at - 1]] and at not in line.starts:
+        at -= 1
+    return at
+
+
+def scheme_start(word: bytes) -> int:
+    """Where the scheme before the last `://` of a word begins, -1 where there is none."""
+    mark = word.rfind(b"://")
+    letters = _SCHEME_BACK.match(word[:mark][::-1]) if mark >= 0 else None
+    first = _LETTER.search(word, mark - letters.end(), mark) if letters else None
+    return first.start() if first else -1
+
+
+class Before:
+    """What stands before the URL of a pattern that begins without a scheme, in its piece and its virtual line: whether it may be
+    the end of a longer one."""
+
+    def __init__(self, line: Line, virtual: VirtualLine, pair: Pair, start: int) -> None:
+        self.line = line
+        self.start = start
+        self.low = max(virtual.start, pair.piece, pair.end - MOST_LINE)
+        self.counts = bytes(line.counts[self.low:start])
+        # Back to a blank, a control byte or a quotation mark, through colours and other escapes.
+        end = max((at for at in range(len(self.counts)) if CONTROL[self.counts[at]] or self.counts[at] in b"\"'"), default=-1)
+        self.stretch = self.counts[end + 1:].replace(bytes([NOTHING]), b"")
+        # The byte before it, but for colours.
+        self.last = self.counts.replace(bytes([NOTHING]), b"")[-1:]
+
+    def has_scheme(self) -> bool:
+        """A URL with a scheme begins before it, and nothing ends it."""
+        return b"://" in self.stretch
+
+    def is_in_call(self) -> bool:
+        """It stands behind a blank within a `(` that is open."""
+        closed, has_blank = 0, False
+        for byte in reversed(self.counts):
+            has_blank = has_blank or byte in b" \t"
+            closed = max(-1, closed - _OPENING.get(byte, 0))
+            if closed < 0 and has_blank:
+                return True
+            closed = max(0, closed)
+        return False
+
+    def has_path(self) -> bool:
+        """A path stands before it, as it may with blanks in it."""
+        return bool(_SEPARATOR.search(self.counts))
+
+    def has_separator(self) -> bool:
+        """A path goes on before it, and no blank ends it."""
+        return bool(_SEPARATOR.search(self.stretch))
+
+    def is_behind_colour(self) -> bool:
+        """A colour ends before it, which does not begin at an edge."""
+        return self.counts[-1:] == bytes([NOTHING]) and self.last != b"" and not EDGE[self.last[0]]
+
+
+def is_free(line: Line, start: int) -> bool:
+    """Whether a URL without a scheme may begin with a word: at an edge."""
+    return bool(line.edges[start])
+
+
+def may_go_on(before: Before, url: bytes) -> bool:
+    """Whether a URL without a scheme may be the end of a path with blanks, commas, brackets or colours in it."""
+    if _ABSOLUTE.match(url):
+        return (before.last in (b")", b"]", b"}") or before.is_behind_colour()) and before.has_path()
+    return before.has_separator() or (before.last in (b" ", b"\t") and before.has_path())
+
+
+def path_start(line: Line, start: int, end: int) -> int:
+    """Where a URL without a scheme begins in a word: behind the last `:` before a single `/`, or else behind the last edge before the
+    first `/`, in both before the first `?`."""
+    query = line.text.find(b"?", start, end)
+    end = query if query >= 0 else end
+    path = line.text.find(b"/", start, end)
+    for at in range(end - 1, start, -1):
+        if line.edges[at] and line.text[at - 1:at + 1] == b":/":
+            return at
+    return next((at for at in range(path if path >= 0 else end, start, -1) if line.edges[at]), start)
+
+
+def begin_by_pattern(line: Line, virtual: VirtualLine, pair: Pair) -> int:
+    """Where the URL begins that a pattern may have; its end where none does."""
+    start = word_start(line, pair, max(pair.piece, pair.start - MOST_RUN))
+    word = line.text[start:pair.start]
+    if start > pair.piece and line.text[start - 1] == ord("\\"):
+        return pair.start
+    # A word that goes on has a scheme in its last bytes, or there is no place.
+    goes_on = start > pair.piece and start not in line.starts and not ENDS_WORD[line.text[start - 1]]
+    scheme = scheme_start(word)
+    if scheme >= goes_on:
+        return start + scheme
+    begin = path_start(line, start, pair.start)
+    url = line.text[begin:pair.start]
+    before = Before(line, virtual, pair, begin)
+    if goes_on or not is_free(line, begin) or b"://" in word or before.has_scheme() or not is_path(url, NOT_ASCII):
+        return pair.start
+    return pair.start if may_go_on(before, url) or not _ABSOLUTE.match(url) and before.is_in_call() else begin
+
+
+# ---------------------------------------------------------------------------------------------
+# The places.
+# ---------------------------------------------------------------------------------------------
+
+
+def place_before(line: Line, virtual: VirtualLine, pair: Pair, maps: Maps) -> Optional[Place]:
+    """The place of a pair that is in no frame."""
+    behind = Behind(line, pair)
+    start = begin_as_named(line, pair, behind, maps)
+    if start < pair.start:
+        return _place(line, start, pair.start, pair, maps.path_as_named)
+    start = begin_by_pattern(line, virtual, pair) if maps.patterns else pair.start
+    if start < pair.start and maps.path_by_pattern(line.text[start:pair.start]):
+        return _place(line, start, pair.start, pair, maps.path_for)
+    start, end = begin_with_query(line, pair, behind, maps)
+    return _place(line, start, end, pair, maps.path_as_named) if start < end else None
+
+
+def _place(line: Line, start: int, end: int, pair: Pair, path_of: Callable[[bytes], Optional[bytes]]) -> Place:
+    url = line.text[start:end]
+    path = path_of(url)
+    assert path, url
+    return Place(start, pair.end, url, path, pair.line, pair.column)
+
+
+def places_of(text: bytes, maps: Maps) -> List[Place]:
+    """The places of a line."""
+    if not _PAIR.search(text):
+        return []
+    line = Line(text)
+    if not line.pairs:
+        return []
+    whole = VirtualLine(0, len(text), False)
+    frame = place_of_frame(line, whole, line.pairs[-1], maps)
+    if frame:
+        return [frame]
+    places, pairs = [], iter(line.pairs)
+    pair = next(pairs, None)
+    for virtual in line.virtual_lines:
+        within = []
+        while pair and pair.start < virtual.end:
+            within.append(pair)
+            pair = next(pairs, None)
+        frame = place_of_frame(line, virtual, within[-1], maps) if within and virtual != whole else None
+        places += [frame] if frame else [place for one in within if (place := place_before(line, virtual, one, maps))]
+    return places
+
+
+def printed(place: Place, maps: Maps, is_printed: Callable[[bytes], bool]) -> Optional[bytes]:
+    """What stands in a place's stead, where its map has an original, in a source whose name is printed."""
+    look_up = maps.look_up_in(place.path)
+    original = look_up(place.url, place.line, place.column) if look_up else None
+    if original is None or not is_printed(original[0]):
+        return None
+    return b"%s:%d:%d" % original
+
+
+def is_printed_in_frames(name: bytes) -> bool:
+    """Whether a name is printed in a frame: it is not empty, and has no control byte."""
+    return name != b"" and not any(byte < 0x20 or byte == 0x7F for byte in name)
+
+
+def is_printed_anywhere(name: bytes) -> bool:
+    """Whether a name is printed anywhere in a text: it has no quotation mark and no backslash either."""
+    return is_printed_in_frames(name) and not set(b'"\\') & set(name)
+
+
+def rewrite_line(text: bytes, maps: Maps) -> bytes:
+    """What a line becomes."""
+    out, at = [], 0
+    for place in places_of(text, maps):
+        new = printed(place, maps, is_printed_anywhere)
+        if new is not None:
+            out += [text[at:place.start], new]
+            at = place.end
+    return b"".join([*out, text[at:]])
+
+
+def rewrite_anywhere(text: bytes, maps: Maps) -> bytes:
+    """What a text becomes whose places are rewritten, each line by itself."""
+    return b"\n".join(rewrite_line(line, maps) for line in text.split(b"\n"))
+
+
+def rewrite_frames(text: bytes, maps: Maps) -> bytes:
+    """What a trace becomes whose frames are rewritten, as `rewrite` does without `--anywhere`."""
+    lines = []
+    for line in text.split(b"\n"):
+        span = frame_span(line)
+        pair = _PAIR.match(line, span[1]) if span else None
+        path = maps.path_for(line[span[0]:span[1]]) if span else None
+        if span and pair and path:
+            place = Place(span[0], pair.end(), line[span[0]:span[1]], path, int(pair[1]), int(pair[2]))
+            new = printed(place, maps, is_printed_in_frames)
+            line = line if new is None else line[:place.start] + new + line[place.end:]
+        lines.append(line)
+    return b"\n".join(lines)
