@@ -245,11 +245,25 @@ class Pair(NamedTuple):
 
 
 class VirtualLine(NamedTuple):
-    """From which byte to which it stands; and whether an escape or a quotation mark begins it."""
+    """From which byte to which it stands; and how many backslashes mean one in it: 0 where neither an escape nor a quotation mark
+    begins it."""
 
     start: int
     end: int
-    is_quoted: bool
+    unit: int
+
+
+class Mark(NamedTuple):
+    """A quotation mark or a line's end: from which byte to which it stands, and how many backslashes it has."""
+
+    start: int
+    end: int
+    backslashes: int
+    is_line_end: bool
+
+    def unit(self) -> int:
+        """How many backslashes mean one behind it: in `".."` it is two, in `\\".."` four."""
+        return max(2, 2 * self.backslashes) if self.is_line_end else 2 * self.backslashes + 2
 
 
 _PAIR = re.compile(rb":([1-9][0-9]{0,9}):([1-9][0-9]{0,9})(?![0-9]|[:-][0-9])")
@@ -296,7 +310,9 @@ class Line:
         for start, end in self.colours:
             self._put(start, end, True)
         self._find_paths()
-        self.virtual_lines = list(self._virtual_lines())
+        self.marks = list(self._marks())
+        self.virtual_lines = list(virtual_lines(text, self.marks, lambda mark, unit: True))
+        self.lines_of_strings = list(virtual_lines(text, self.marks, ends_line_of_string))
         self.pairs = list(self._pairs())
 
     def _put(self, start: int, end: int, is_edge: bool) -> None:
@@ -317,20 +333,17 @@ class Line:
             return False
         return self.text[start:end] == letters if length > 1 else self.text[start] in letters
 
-    # They end before a quotation mark, or an escape of one or of a line's end, and begin behind it.
-    def _virtual_lines(self) -> Iterator[VirtualLine]:
-        begin, is_quoted = 0, False
+    # Quotation marks, but for apostrophes, and escapes of those and of line ends.
+    def _marks(self) -> Iterator[Mark]:
         for found in _QUOTES.finditer(bytes(self.counts)):
             end = found.end()
             start = self.starts.get(end, found.start())
             if found[0] in b"\n\r" and start == found.start():
                 continue
             if found[0] == b"'" and is_apostrophe(self.text, start, end):
-                self.counts[end - 1], self.edges[end] = ord("x"), 0
+                self.counts[end - 1], self.edges[end] = 0x80, 0
                 continue
-            yield VirtualLine(begin, start, is_quoted)
-            begin, is_quoted = end, True
-        yield VirtualLine(begin, len(self.text), is_quoted)
+            yield Mark(start, end, len(_BACKSLASHES.match(self.text, start)[0]), found[0] in b"\n\r")  # type: ignore[index]
 
     def _pairs(self) -> Iterator[Pair]:
         inside = [found.span() for found in _IN_BRACKETS.finditer(self.text)]
@@ -343,6 +356,21 @@ class Line:
             if not is_inside and line <= MOST_NUMBER and column <= MOST_NUMBER:
                 yield Pair(found.start(), found.end(), line, column, piece)
                 piece = found.end()
+
+
+def ends_line_of_string(mark: Mark, unit: int) -> bool:
+    """Whether a mark ends a line in which so many backslashes mean one: `\\\\n` is a backslash and an n where `\\n` is a line's end."""
+    return not mark.is_line_end or 2 * mark.backslashes <= max(unit, 2)
+
+
+def virtual_lines(text: bytes, marks: List[Mark], ends: Callable[[Mark, int], bool]) -> Iterator[VirtualLine]:
+    """The parts of a line between marks, but for those that do not end one."""
+    begin, unit = 0, 0
+    for mark in marks:
+        if ends(mark, unit):
+            yield VirtualLine(begin, mark.start, unit)
+            begin, unit = mark.end, mark.unit()
+    yield VirtualLine(begin, len(text), unit)
 
 
 # ---------------------------------------------------------------------------------------------
@@ -473,9 +501,9 @@ def place_of_frame(line: Line, virtual: VirtualLine, pair: Pair, maps: Maps) -> 
         return None
     start, end = virtual.start + span[0], pair.start
     # In a string no query and no folder has what stands behind another pair.
-    as_named = maps.path_of_name if virtual.is_quoted and pair.piece > start else maps.path_as_named
+    as_named = maps.path_of_name if virtual.unit > 0 and pair.piece > start else maps.path_as_named
     by_pattern = maps.path_by_pattern if maps.patterns and is_for_pattern(line, virtual, start, pair) else lambda _: None
-    for url in urls_of_frame(line.text[start:end], virtual.is_quoted):
+    for url in urls_of_frame(line.text[start:end], virtual.unit > 0):
         path = as_named(url) or by_pattern(url)
         if path:
             return Place(start, pair.end, url, path, pair.line, pair.column)
@@ -610,25 +638,33 @@ def begin_with_query(line: Line, pair: Pair, behind: Behind, maps: Maps) -> Tupl
 # 2. By a pattern.
 # ---------------------------------------------------------------------------------------------
 
-_SCHEME_BACK = re.compile(rb"[A-Za-z0-9+.-]*")
+SCHEME = table(lambda byte: byte in LETTERS + DIGITS + b"+.-")
 _LETTER = re.compile(rb"[A-Za-z]")
 _ABSOLUTE = re.compile(rb"/|[A-Za-z][A-Za-z0-9+.-]*:/")
+_BEHIND_AT = re.compile(rb"(?<![0-9A-Za-z\x80-\xff])at[ \t]+\Z")
 _OPENING = {ord("("): 1, ord(")"): -1}
 
 
 def word_start(line: Line, pair: Pair, low: int) -> int:
-    """Where the word before a pair begins, not before a byte."""
+    """Where the word before a pair begins, not before a byte. An escape stands in it where what it means does."""
     at = pair.start
-    while at > low and not ENDS_WORD[line.text[at - 1]] and at not in line.starts:
+    while at > low and not ends_word(line, at):
+        at = line.starts.get(at, at - 1)
+    return max(at, low)
+
+
+def ends_word(line: Line, at: int) -> bool:
+    """Whether a byte, an escape or a colour ends a word that stands behind it."""
+    return line.counts[at - 1] == NOTHING or bool(ENDS_WORD[line.counts[at - 1]])
+
+
+def scheme_start(line: Line, start: int, end: int) -> int:
+    """Where the scheme before the last `://` of a word begins, -1 where there is none. No escape stands in it."""
+    mark = line.text.rfind(b"://", start, end)
+    at = mark
+    while at > start and at not in line.starts and SCHEME[line.text[at - 1]]:
         at -= 1
-    return at
-
-
-def scheme_start(word: bytes) -> int:
-    """Where the scheme before the last `://` of a word begins, -1 where there is none."""
-    mark = word.rfind(b"://")
-    letters = _SCHEME_BACK.match(word[:mark][::-1]) if mark >= 0 else None
-    first = _LETTER.search(word, mark - letters.end(), mark) if letters else None
+    first = _LETTER.search(line.text, at, mark) if mark >= 0 else None
     return first.start() if first else -1
 
 
@@ -652,13 +688,13 @@ class Before:
         return b"://" in self.stretch
 
     def is_in_call(self) -> bool:
-        """It stands behind a blank within a `(` that is open."""
+        """It stands behind a blank within a `(` that is open, and not right behind `at`: `(address at app.js:1:2)`."""
         closed, has_blank = 0, False
         for byte in reversed(self.counts):
             has_blank = has_blank or byte in b" \t"
-            closed = max(-1, closed - _OPENING.get(byte, 0))
+            closed -= _OPENING.get(byte, 0)
             if closed < 0 and has_blank:
-                return True
+                return not _BEHIND_AT.search(self.counts)
             closed = max(0, closed)
         return False
 
@@ -706,12 +742,12 @@ def begin_by_pattern(line: Line, virtual: VirtualLine, pair: Pair) -> int:
     if start > pair.piece and line.text[start - 1] == ord("\\"):
         return pair.start
     # A word that goes on has a scheme in its last bytes, or there is no place.
-    goes_on = start > pair.piece and start not in line.starts and not ENDS_WORD[line.text[start - 1]]
-    scheme = scheme_start(word)
-    if scheme >= goes_on:
-        return start + scheme
+    goes_on = start > pair.piece and not ends_word(line, start)
+    scheme = scheme_start(line, start, pair.start)
+    if scheme >= start + goes_on:
+        return scheme
     begin = path_start(line, start, pair.start)
-    url = line.text[begin:pair.start]
+    url = bytes(line.counts[begin:pair.start]).replace(bytes([NOTHING]), b"")
     before = Before(line, virtual, pair, begin)
     if goes_on or not is_free(line, begin) or b"://" in word or before.has_scheme() or not is_path(url, NOT_ASCII):
         return pair.start
@@ -750,20 +786,33 @@ def places_of(text: bytes, maps: Maps) -> List[Place]:
     line = Line(text)
     if not line.pairs:
         return []
-    whole = VirtualLine(0, len(text), False)
-    frame = place_of_frame(line, whole, line.pairs[-1], maps)
-    if frame:
-        return [frame]
-    places, pairs = [], iter(line.pairs)
-    pair = next(pairs, None)
-    for virtual in line.virtual_lines:
-        within = []
-        while pair and pair.start < virtual.end:
-            within.append(pair)
-            pair = next(pairs, None)
-        frame = place_of_frame(line, virtual, within[-1], maps) if within and virtual != whole else None
-        places += [frame] if frame else [place for one in within if (place := place_before(line, virtual, one, maps))]
-    return places
+    places, pairs = [], line.pairs
+    tried = set()
+    # Frames have no other place: first the whole line, then lines of strings, then virtual lines.
+    for level in ([VirtualLine(0, len(text), 0)], line.lines_of_strings, line.virtual_lines):
+        others = []
+        for virtual, within in shared(level, pairs):
+            frame = place_of_frame(line, virtual, within[-1], maps) if virtual[:2] not in tried else None
+            tried.add(virtual[:2])
+            if frame:
+                places.append(frame)
+            else:
+                others += within
+        pairs = others
+    for virtual, within in shared(line.virtual_lines, pairs):
+        places += [place for pair in within if (place := place_before(line, virtual, pair, maps))]
+    return sorted(places)
+
+
+def shared(level: List[VirtualLine], pairs: List[Pair]) -> Iterator[Tuple[VirtualLine, List[Pair]]]:
+    """The virtual lines that have some of the pairs, and those that they have."""
+    at = 0
+    for virtual in level:
+        first = at
+        while at < len(pairs) and pairs[at].start < virtual.end:
+            at += 1
+        if at > first:
+            yield virtual, pairs[first:at]
 
 
 def printed(place: Place, maps: Maps, is_printed: Callable[[bytes], bool]) -> Optional[bytes]:
