@@ -5,12 +5,13 @@ numbers:
 
 - A **pair** is the `:`, the line, the `:` and the column of a place. Its **piece** is what stands on its line between the pair
   before and this one: each byte is in one piece.
-- An **escape** is what stands for another byte in JSON, in a string of a program, of nginx or of syslog. It counts as what it
-  means. A **colour** is a control sequence of a terminal.
+- An **escape** is what stands for another byte in JSON, in a string of a program, of nginx or of syslog. It counts as what
+  it means. A **colour** is a control sequence of a terminal.
 - A **virtual line** is a string in a line, or a line in that string.
 - An **edge** is a place at which a URL may begin.
 
 The URL of a pair is found in the first of four **ways** that has a map: 0 the frame, 1 as named, 2 by a pattern, 3 with a query.
+What can't be told apart stays.
 
 Each loop goes through bytes once: through those of a line, or of a piece, at most 2,048 and the longest name.
 """
@@ -70,7 +71,9 @@ def is_utf8(text: bytes) -> bool:
 
 def path_in(folder: bytes, rest: bytes) -> Optional[bytes]:
     """The path of the map of a URL that has this behind the folder's prefix."""
-    if any(byte < 0x20 or byte in b"\x7f\\:" for byte in rest) or {b"", b".", b".."} & set(rest.split(b"/")) or not is_utf8(rest):
+    if any(byte < 0x20 or byte in b"\x7f\\:" for byte in rest) or {b"", b".", b".."} & set(rest.split(b"/")):
+        return None
+    if not is_utf8(rest):
         return None
     return folder + rest + b".map"
 
@@ -110,7 +113,7 @@ class Pattern(NamedTuple):
 
 
 # The texts of a tree byte by byte; -1 where one ends.
-Tree = Dict[int, "Tree"]  # type: ignore[misc]
+Tree = Dict[int, "Tree"]
 
 
 def tree_of(texts: Iterable[bytes]) -> Tree:
@@ -127,7 +130,9 @@ def tree_of(texts: Iterable[bytes]) -> Tree:
 class Maps:
     """Named URLs, lists, folders and patterns; and `look_up_in`, which has the map of a path."""
 
-    def __init__(self, look_up_in: Callable[[bytes], Optional[LookUp]], words: Iterable[bytes], listed: Iterable[bytes] = ()) -> None:
+    def __init__(
+        self, look_up_in: Callable[[bytes], Optional[LookUp]], words: Iterable[bytes], listed: Iterable[bytes] = (),
+    ) -> None:
         """Words are those of the command line, `URL=PATH`; those of a list are written alike."""
         self.look_up_in = look_up_in
         self.arguments: Dict[bytes, bytes] = {}
@@ -245,8 +250,8 @@ class Pair(NamedTuple):
 
 
 class VirtualLine(NamedTuple):
-    """From which byte to which it stands; and how many backslashes mean one in it: 0 where neither an escape nor a quotation mark
-    begins it."""
+    """From which byte to which it stands; and how many backslashes mean one in it: 0 where neither an escape nor a quotation
+    mark begins it."""
 
     start: int
     end: int
@@ -272,7 +277,8 @@ _PATH_BEHIND_COLON = re.compile(rb":/(?!/)")
 _QUOTES = re.compile(rb"[\"'\n\r]")
 
 _PATH = re.compile(rb"[/?]")
-_SEPARATOR = re.compile(rb"[/\\]")
+# What stands between the pieces of a path, and of no date.
+_SEPARATOR = re.compile(rb"(?<![0-9])[/\\]|[/\\](?![0-9])")
 _PAIRED = {ord(")"): 0, ord("]"): 1, ord("}"): 2, ord("("): 3, ord("["): 4, ord("{"): 5}
 
 # What a byte of a line counts as that only looks so: one within an escape or a colour.
@@ -359,7 +365,8 @@ class Line:
 
 
 def ends_line_of_string(mark: Mark, unit: int) -> bool:
-    """Whether a mark ends a line in which so many backslashes mean one: `\\\\n` is a backslash and an n where `\\n` is a line's end."""
+    """Whether a mark ends a line in which so many backslashes mean one: `\\\\n` is a backslash and an n where `\\n` is a line's
+    end."""
     return not mark.is_line_end or 2 * mark.backslashes <= max(unit, 2)
 
 
@@ -377,16 +384,17 @@ def virtual_lines(text: bytes, marks: List[Mark], ends: Callable[[Mark, int], bo
 # A path.
 # ---------------------------------------------------------------------------------------------
 
-_ROOT = re.compile(rb"[A-Za-z]:(?=/)|file:(?=/)")
+# A drive, `file:`, or a host and its port.
+_ROOT = re.compile(rb"(?:[A-Za-z]:|file:|[0-9A-Za-z-]*[A-Za-z.][0-9A-Za-z.-]*:[0-9]+)(?=/)")
 _NAME = re.compile(rb"[A-Za-z0-9\x80-\xff]|\.\.?$|~$")
 _EDGE_BEFORE_PATH = re.compile(rb"[\x00-\x20!-#&-*,;-@\[\]^`{-}\x7f]/")
 
 
 def is_path(url: bytes, strange: bytes) -> bool:
-    """Whether a URL without a scheme is a path: before its first `?` no `/` stands behind a byte at which a URL may end, nor a
-    `:` in it, but that of a drive or of `file:`; and its first piece is a name, `.`, `..` or `~`, of none of these bytes.
+    """Whether a URL without a scheme is a path: before its first `?` no `/` stands behind a sign that is an edge, nor a `:` in
+    it, but that of a drive, of `file:` or of a port; and its first piece is a name, `.`, `..` or `~`, of no strange bytes.
 
-    So it does not begin with a file and a line, as grep prints them, with a sign of a list or of a difference, or a date.
+    So it does not begin with a file and a line, as grep prints them, or with a sign of a list or of a difference.
     """
     root = _ROOT.match(url)
     path = url[root.end() if root else 0:].partition(b"?")[0]
@@ -465,19 +473,21 @@ def has_paired_brackets(text: bytes) -> bool:
 
 
 def is_sentence(url: bytes) -> bool:
-    """Whether a frame's URL that begins as one does is a sentence: it has a blank, and behind that or a sign another begins."""
-    return bool(_BLANK_OR_QUOTE.search(url)) and bool(_BEGINS_AGAIN.search(url) or _EDGE_BEFORE_PATH.search(_BRACKETS.sub(b"x", url)))
+    """Whether a frame's URL that begins as one does is a sentence: it has a blank, and behind that or a sign another one."""
+    if not _BLANK_OR_QUOTE.search(url):
+        return False
+    return bool(_BEGINS_AGAIN.search(url) or _EDGE_BEFORE_PATH.search(_BRACKETS.sub(b"x", url)))
 
 
 def is_function(head: bytes) -> bool:
-    """Whether what stands before a frame's URL ends with no `@`, or is a function: with a separator it may be the beginning of a URL,
-    `https://h/npm/a@1/app.js`, and the `@` stands in it."""
+    """Whether what stands before a frame's URL ends with no `@`, or is a function: with a separator it may be the beginning
+    of a URL, `https://h/npm/a@1/app.js`, and the `@` stands in it."""
     return not head.endswith(b"@") or not _SEPARATOR.search(head)
 
 
 def is_for_pattern(line: Line, virtual: VirtualLine, start: int, pair: Pair) -> bool:
-    """Whether a pattern may have the URL of a frame, since it is one and no more: its brackets stand in pairs, it holds no pair, no
-    escape begins it, and it begins as a URL and is no sentence, or is a relative path."""
+    """Whether a pattern may have the URL of a frame, since it is one and no more: its brackets stand in pairs, it holds no
+    pair, no escape begins it, and it begins as a URL and is no sentence, or is a relative path."""
     url = line.text[start:pair.start]
     counts = bytes(line.counts[start:pair.start])
     if not has_paired_brackets(url) or pair.piece > start or counts[0] == NOTHING:
@@ -561,9 +571,9 @@ def bytes_of_no_character(text: bytes, start: int, end: int) -> List[int]:
 
 
 class Behind:
-    """What stands behind a name and before a pair, from each of the last 2,048 bytes of a piece on: whether it `fits` there, so
-    that it has no barred byte, no backslash before a `?` or `#`, and brackets in pairs; and whether what stands before its
-    first `?` or `#` is a `plain` path."""
+    """What stands behind a name and before a pair, from each of the last 2,048 bytes of a piece on: whether it `fits` there,
+    so that it has no barred byte, no backslash before a `?` or `#`, and brackets in pairs; and whether what stands before
+    its first `?` or `#` is a `plain` path."""
 
     def __init__(self, line: Line, pair: Pair) -> None:
         self.low = max(pair.piece, pair.start - MOST_RUN)
@@ -607,7 +617,7 @@ class Behind:
 
 
 def begin_as_named(line: Line, pair: Pair, behind: Behind, maps: Maps) -> int:
-    """Where the longest URL begins that is named, or that a list has without its query, or a folder; its end where none does."""
+    """Where the longest URL begins that is named, or that a list or a folder has without its query; its end where none does."""
     text, best = line.text, pair.start
     for at in beginnings(maps.back_by_name, text, pair.piece, pair.start):
         best = at if line.edges[at] else best
@@ -669,8 +679,8 @@ def scheme_start(line: Line, start: int, end: int) -> int:
 
 
 class Before:
-    """What stands before the URL of a pattern that begins without a scheme, in its piece and its virtual line: whether it may be
-    the end of a longer one."""
+    """What stands before the URL of a pattern that begins without a scheme, in its piece and its virtual line: whether it may
+    be the end of a longer one."""
 
     def __init__(self, line: Line, virtual: VirtualLine, pair: Pair, start: int) -> None:
         self.line = line
@@ -678,7 +688,7 @@ class Before:
         self.low = max(virtual.start, pair.piece, pair.end - MOST_LINE)
         self.counts = bytes(line.counts[self.low:start])
         # Back to a blank, a control byte or a quotation mark, through colours and other escapes.
-        end = max((at for at in range(len(self.counts)) if CONTROL[self.counts[at]] or self.counts[at] in b"\"'"), default=-1)
+        end = max((at for at, byte in enumerate(self.counts) if CONTROL[byte] or byte in b"\"'"), default=-1)
         self.stretch = self.counts[end + 1:].replace(bytes([NOTHING]), b"")
         # The byte before it, but for colours.
         self.last = self.counts.replace(bytes([NOTHING]), b"")[-1:]
@@ -724,8 +734,8 @@ def may_go_on(before: Before, url: bytes) -> bool:
 
 
 def path_start(line: Line, start: int, end: int) -> int:
-    """Where a URL without a scheme begins in a word: behind the last `:` before a single `/`, or else behind the last edge before the
-    first `/`, in both before the first `?`."""
+    """Where a URL without a scheme begins in a word: behind the last `:` before a single `/`, or else behind the last edge
+    before the first `/`, in both before the first `?`."""
     query = line.text.find(b"?", start, end)
     end = query if query >= 0 else end
     path = line.text.find(b"/", start, end)

@@ -62,8 +62,11 @@ def decoded(text: str) -> LookUp:
     lines: List[List[Tuple[int, Original]]] = []
     source = line = column = 0
     for part in whole["mappings"].split(";"):
-        at, found = 0, []
-        for segment in filter(None, part.split(",")):
+        at = 0
+        found: List[Tuple[int, Original]] = []
+        for segment in part.split(","):
+            if not segment:
+                continue
             moves = numbers_of(segment)
             at, source, line, column = at + moves[0], source + moves[1], line + moves[2], column + moves[3]
             found.append((at, (whole["sources"][source].encode(), line + 1, column + 1)))
