@@ -272,7 +272,7 @@ class Mark(NamedTuple):
 
 
 _PAIR = re.compile(rb":([1-9][0-9]{0,9}):([1-9][0-9]{0,9})(?![0-9]|[:-][0-9])")
-_IN_BRACKETS = re.compile(rb"://\[[0-9A-Za-z:.%_~-]*\]")
+_IN_BRACKETS = re.compile(rb"://\[[0-9A-Za-z:.%_~-]{0,64}\]")
 _PATH_BEHIND_COLON = re.compile(rb":/(?!/)")
 _QUOTES = re.compile(rb"[\"'\n\r]")
 

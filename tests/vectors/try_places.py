@@ -3,9 +3,9 @@
 
 - each case of places_cases.py comes out as is written there, and each text in a longer one, before and behind others;
 - each clause of the rule that tells two texts apart has a case that goes wrong without it;
-- over random texts of the pieces of these lines, 200,000 with each kind of map, 5,000 with --short: nothing but places moves; JSON
-  stays JSON; the lines that `rewrite` rewrites are rewritten alike; and a place is, whole, one that was put in;
-- long texts of few pieces, again and again, take twice the time where they are twice as long.
+- over random texts of the pieces of these lines, 200,000 with each kind of map, 5,000 with --short: nothing but places moves;
+  JSON stays JSON; the lines that `rewrite` rewrites are rewritten alike; and a place is, whole, one that was put in;
+- long texts of few pieces, again and again, take about twice the time where they are twice as long.
 
 With --rows it writes places/stdin and places/stdout beside it: rows of crates/smap_rows of the cases, by the model.
 """
@@ -22,7 +22,7 @@ from typing import Callable, Dict, Iterator, List, Optional, Tuple
 
 import places
 from places_cases import CASES, Case
-from places import Before, Line, LookUp, Maps, Original, places_of, rewrite_anywhere, rewrite_frames
+from places import Before, Line, LookUp, Maps, Original, Place, places_of, rewrite_anywhere, rewrite_frames
 
 HERE = Path(__file__).resolve().parent
 
@@ -233,10 +233,10 @@ def is_urls(url: bytes, text: bytes) -> bool:
     return text in (url, url.replace(b"\\", b"\\\\")) or text.replace(b"\\\\", b"\\") == url or (text.startswith(url) and text[len(url):][:1] in (b"?", b"#"))
 
 
-def broken_law(line: bytes, maps: Maps) -> Optional[str]:
-    """Which law is broken for a line."""
+def broken_law(line: bytes, found: List[Place], maps: Maps) -> Optional[str]:
+    """Which law is broken for a line, in which these places are found."""
     became = places.rewrite_line(line, maps)
-    found, at, rest, moved = places_of(line, maps), 0, [], []
+    at, rest, moved = 0, [], []
     for place in found:
         if not at <= place.start < place.end <= len(line):
             return "a place stands in another"
@@ -286,10 +286,11 @@ def try_laws(count: int) -> Optional[str]:
         text = random_text(chance)
         for line in text.split(b"\n"):
             for number, maps in enumerate(kinds):
-                broken = broken_law(line, maps)
+                found = places_of(line, maps)
+                taken[number] += len(found)
+                broken = broken_law(line, found, maps)
                 if broken:
                     return f"{broken}: {line!r} {KINDS[number]}"
-                taken[number] += len(places_of(line, maps))
     print(f"{count} random texts with each of {len(KINDS)} kinds of maps, places: {taken}")
     return None
 
@@ -344,9 +345,9 @@ def text_with_places(chance: random.Random) -> Tuple[bytes, Dict[Tuple[int, int]
     return text.encode(), {place: url.encode() for place, url in put.items()}
 
 
-def glued(line: bytes, put: Dict[Tuple[int, int], bytes], maps: Maps) -> Optional[str]:
-    """Whether a place is not, whole, one that was put in, and `rewrite` does not say so either."""
-    for place in places_of(line, maps):
+def glued(line: bytes, found: List[Place], put: Dict[Tuple[int, int], bytes], maps: Maps) -> Optional[str]:
+    """Which of the places is not, whole, one that was put in, though `rewrite` does not say so either."""
+    for place in found:
         wanted = b"%s:%d:%d" % (put.get((place.line, place.column), b""), place.line, place.column)
         if line[place.start:place.end] != wanted and rewrite_frames(line, maps) != places.rewrite_line(line, maps):
             return f"{line[place.start:place.end]!r} is not {wanted!r}"
@@ -362,10 +363,11 @@ def try_glue(count: int) -> Optional[str]:
         all_put += len(put)
         for line in text.split(b"\n"):
             for number, maps in enumerate(kinds):
-                wrong = glued(line, put, maps)
+                found = places_of(line, maps)
+                taken[number] += len(found)
+                wrong = glued(line, found, put, maps)
                 if wrong:
                     return f"{wrong}: {line!r} {PUT[number]}"
-                taken[number] += len(places_of(line, maps))
     print(f"{count} texts with {all_put} places that were put in, taken with each of {len(PUT)} kinds of maps: {taken}")
     return None
 
@@ -390,16 +392,19 @@ def seconds_of(shape: str, size: int, maps: Maps) -> float:
 
 
 def try_time(size: int) -> Optional[str]:
-    """Which shape takes more than twice the time, and half of that again, where it is twice as long."""
+    """Which shape takes more than thrice the time where it is twice as long, also when it is tried again."""
     maps = maps_of("*app.js=w.map  https://h/=n/  list https://h/a=w.map  app.js=w.map", Files())
     slow, times = [], {}
     for name, shape in SHAPES.items():
-        once, twice = (min(seconds_of(shape, many * size, maps) for _ in range(3)) for many in (1, 2))
-        times[name] = twice
-        if twice > 3 * once and twice > 0.2:
+        for _ in range(3):
+            once, twice = seconds_of(shape, size, maps), seconds_of(shape, 2 * size, maps)
+            times[name] = twice
+            if twice <= 3 * once or twice <= 0.2:
+                break
+        else:
             slow.append(f"{name}: {once:.2f} s, and {twice:.2f} s where it is twice as long")
     worst = max(times, key=lambda name: times[name])
-    print(f"{len(SHAPES)} shapes of {2 * size} bytes, at most {times[worst]:.2f} s: {worst}")
+    print(f"{len(SHAPES)} shapes of {2 * size} bytes, at most {times[worst]:.2f} s: {worst}; pairs {times['pairs']:.2f} s")
     return "\n".join(slow) or None
 
 
