@@ -1,16 +1,13 @@
 """The places of a text, wherever they stand, as a model that computes: `rewrite_anywhere(text, maps)`.
 
 It says what `rewrite --anywhere` is to write. Nothing here is made from smap's own code. A place is read backwards from its
-numbers:
+numbers; places_line.py has what stands in a line. The URL of a pair is found in the first of four **ways** that has a map:
 
-- A **pair** is the `:`, the line, the `:` and the column of a place. Its **piece** is what stands on its line between the pair
-  before and this one: each byte is in one piece.
-- An **escape** is what stands for another byte in JSON, in a string of a program, of nginx or of syslog. It counts as what
-  it means. A **colour** is a control sequence of a terminal.
-- A **virtual line** is a string in a line, or a line in that string.
-- An **edge** is a place at which a URL may begin.
+0. the frame that a line or a virtual line is;
+1. as named: the longest URL that begins at an edge and is named, or has its map by a folder or the cut URL of a list;
+2. by a pattern, in the word before the pair;
+3. a URL that an argument names, with a query or a fragment behind it.
 
-The URL of a pair is found in the first of four **ways** that has a map: 0 the frame, 1 as named, 2 by a pattern, 3 with a query.
 What can't be told apart stays.
 
 Each loop goes through bytes once: through those of a line, or of a piece, at most 2,048 and the longest name.
@@ -19,366 +16,28 @@ Each loop goes through bytes once: through those of a line, or of a piece, at mo
 from __future__ import annotations
 
 import re
-from typing import Callable, Dict, Iterable, Iterator, List, NamedTuple, Optional, Tuple
+from typing import Callable, Iterator, List, NamedTuple, Optional, Tuple
 
-# What a map answers to a URL, a line and a column: a name, a line and a column, all but the URL from 1.
-Original = Tuple[bytes, int, int]
-LookUp = Callable[[bytes, int, int], Optional[Original]]
+from places_line import CONTROL, DIGITS, EDGE, LETTERS, MOST_NUMBER, NOTHING, PAIR, Line, Pair, VirtualLine, table
+from places_maps import Maps, Tree, without_query
 
-MOST_NUMBER = 2147483648
 # Bytes of a line that may be a frame, and bytes before a pair that may decide its URL.
 MOST_LINE = 65536
 # Bytes of a URL outside of frames, or of what stands behind a name.
 MOST_RUN = 2048
 
-
-def table(test: Callable[[int], bool]) -> bytes:
-    """For each byte 1 where a test says so, and 0."""
-    return bytes(test(byte) for byte in range(256))
-
-
-LETTERS = b"ABCDEFGHIJKLMNOPQRSTUVWXYZabcdefghijklmnopqrstuvwxyz"
-DIGITS = b"0123456789"
-WORD = table(lambda byte: byte >= 0x80 or byte in LETTERS + DIGITS)
-# A byte behind which a URL may begin.
-EDGE = table(lambda byte: not WORD[byte] and byte not in rb"_-./\%~+$:")
-CONTROL = table(lambda byte: byte <= 0x20 or byte == 0x7F)
 # A byte that ends the word before a pair.
 ENDS_WORD = table(lambda byte: bool(CONTROL[byte]) or byte in b"\"'`,;|<>()[]{}\\")
 # A byte that does not stand behind a name.
 BARRED = table(lambda byte: bool(CONTROL[byte]) or byte in b"\"'`<>")
-
-# ---------------------------------------------------------------------------------------------
-# Which map a URL has.
-# ---------------------------------------------------------------------------------------------
-
-_QUERY = re.compile(rb"[?#]")
-
-
-def without_query(url: bytes) -> bytes:
-    """What stands before the first `?` or `#`."""
-    return _QUERY.split(url, maxsplit=1)[0]
-
-
-def is_utf8(text: bytes) -> bool:
-    """Whether a text is UTF-8."""
-    try:
-        text.decode()
-    except UnicodeDecodeError:
-        return False
-    return True
-
-
-def path_in(folder: bytes, rest: bytes) -> Optional[bytes]:
-    """The path of the map of a URL that has this behind the folder's prefix."""
-    if any(byte < 0x20 or byte in b"\x7f\\:" for byte in rest) or {b"", b".", b".."} & set(rest.split(b"/")):
-        return None
-    if not is_utf8(rest):
-        return None
-    return folder + rest + b".map"
-
-
-class Pattern(NamedTuple):
-    """What stands behind a `*`, and a file or a folder."""
-
-    text: bytes
-    path: bytes
-
-    def is_folder(self) -> bool:
-        """Whether it is for the URLs in which its text stands."""
-        return self.path.endswith(b"/")
-
-    def path_for(self, url: bytes) -> Optional[bytes]:
-        """The path that it has for a URL; None where it is not for it, and empty where its folder has none."""
-        short = without_query(url)
-        if not self.is_folder():
-            return self.path if self._ends(url) or self._ends(short) else None
-        at = self._first_in(short)
-        if at < 0:
-            return None
-        rest = short[at + len(self.text):]
-        return path_in(self.path, rest.replace(b"\\", b"/") if self.text.endswith(b"\\") else rest) or b""
-
-    def _begins_piece(self, url: bytes, at: int) -> bool:
-        return at == 0 or url[at - 1] in b"/\\" or self.text[:1] in (b"/", b"\\")
-
-    def _ends(self, url: bytes) -> bool:
-        return url.endswith(self.text) and self._begins_piece(url, len(url) - len(self.text))
-
-    def _first_in(self, url: bytes) -> int:
-        at = url.find(self.text)
-        while at >= 0 and not self._begins_piece(url, at):
-            at = url.find(self.text, at + 1)
-        return at
-
-
-# The texts of a tree byte by byte; -1 where one ends.
-Tree = Dict[int, "Tree"]
-
-
-def tree_of(texts: Iterable[bytes]) -> Tree:
-    """The tree of texts."""
-    tree: Tree = {}
-    for text in texts:
-        node = tree
-        for byte in text:
-            node = node.setdefault(byte, {})
-        node[-1] = {}
-    return tree
-
-
-class Maps:
-    """Named URLs, lists, folders and patterns; and `look_up_in`, which has the map of a path."""
-
-    def __init__(
-        self, look_up_in: Callable[[bytes], Optional[LookUp]], words: Iterable[bytes], listed: Iterable[bytes] = (),
-    ) -> None:
-        """Words are those of the command line, `URL=PATH`; those of a list are written alike."""
-        self.look_up_in = look_up_in
-        self.arguments: Dict[bytes, bytes] = {}
-        self.listed: Dict[bytes, bytes] = {}
-        self.folders: Dict[bytes, bytes] = {}
-        self.patterns: List[Pattern] = []
-        for named, word in [*((self.arguments, word) for word in words), *((self.listed, word) for word in listed)]:
-            url, _, path = word.rpartition(b"=")
-            if url.startswith(b"*"):
-                self.patterns.append(Pattern(url[1:], path))
-            else:
-                (self.folders if path.endswith(b"/") else named)[url] = path
-        # No text with a quotation mark is found outside of frames: so JSON stays JSON.
-        names = [name for name in (*self.arguments, *self.listed) if b'"' not in name]
-        self.back_by_name = tree_of(name[::-1] for name in names)
-        self.back_by_argument = tree_of(name[::-1] for name in names if name in self.arguments)
-        self.back_by_listed = tree_of(name[::-1] for name in names if name in self.listed and name == without_query(name))
-        prefixes = [prefix for prefix in self.folders if b'"' not in prefix and prefix == without_query(prefix)]
-        self.by_prefix = tree_of(prefixes)
-        self.longest_prefix = max(map(len, prefixes), default=0)
-
-    def path_of_name(self, url: bytes) -> Optional[bytes]:
-        """The file that an argument or a list names for a URL."""
-        return self.arguments.get(url) or self.listed.get(url)
-
-    def path_as_named(self, url: bytes) -> Optional[bytes]:
-        """The file that is named for a URL, but for patterns."""
-        short = without_query(url)
-        path = self.path_of_name(url) or self.listed.get(short)
-        if path:
-            return path
-        prefix = max((prefix for prefix in self.folders if short.startswith(prefix)), key=len, default=None)
-        return None if prefix is None else path_in(self.folders[prefix], short[len(prefix):])
-
-    def path_by_pattern(self, url: bytes) -> Optional[bytes]:
-        """The file that the pattern that decides has for a URL."""
-        having = [one for one in self.patterns if one.text and one.path_for(url) is not None]
-        return max(having, key=lambda one: (len(one.text), not one.is_folder())).path_for(url) or None if having else None
-
-    def path_for(self, url: bytes) -> Optional[bytes]:
-        """The file that is named for a URL."""
-        return self.path_as_named(url) or self.path_by_pattern(url)
-
-
-# ---------------------------------------------------------------------------------------------
-# Escapes and colours.
-# ---------------------------------------------------------------------------------------------
-
-
-class Escape(NamedTuple):
-    """From which byte to which it stands, and the character that it means."""
-
-    start: int
-    end: int
-    means: int
-
-
-_ESCAPES = re.compile(rb"\\+|#0[0-3][0-7]")
-_ENDING = re.compile(rb"[nrtbf\"']|u[0-9A-Fa-f]{4}|x[0-9A-Fa-f]{2}")
-_BACKSLASHES = re.compile(rb"\\*")
-_MEANT = dict(zip(b"nrtbf\"'", b"\n\r\t\b\f\"'"))
-_PARAMETERS = re.compile(rb"\[[0-9;]{0,32}m")
-
-
-def is_written_backslash(means: int) -> bool:
-    """Whether a run of backslashes goes on behind an escape of this character: `\\x5Cn` is `\\n` that was escaped."""
-    return means == 0x5C
-
-
-def escape_at(text: bytes, start: int, end: int) -> Optional[Escape]:
-    """The escape whose first run of backslashes is this."""
-    found = None
-    while ending := _ENDING.match(text, end):
-        what = ending[0]
-        found = Escape(start, ending.end(), _MEANT[what[0]] if len(what) == 1 else int(what[1:], 16))
-        if not is_written_backslash(found.means):
-            break
-        end = _BACKSLASHES.match(text, found.end).end()  # type: ignore[union-attr]
-    return found
-
-
-def escapes_in(text: bytes) -> Iterator[Escape]:
-    """The escapes of a line."""
-    at = 0
-    while run := _ESCAPES.search(text, at):
-        start, at = run.span()
-        found = Escape(start, at, int(run[0][1:], 8)) if run[0].startswith(b"#") else escape_at(text, start, at)
-        if found:
-            yield found
-            at = found.end
-
-
-def colours_in(text: bytes, escapes: List[Escape]) -> Iterator[Tuple[int, int]]:
-    """The colours of a line, each from its ESC on, which may be an escape."""
-    signs = [(at, at + 1) for at in range(len(text)) if text[at] == 0x1B] if b"\x1b" in text else []
-    for start, end in signs + [(one.start, one.end) for one in escapes if one.means == 0x1B]:
-        parameters = _PARAMETERS.match(text, end)
-        if parameters:
-            yield start, parameters.end()
-
-
-# ---------------------------------------------------------------------------------------------
-# A line.
-# ---------------------------------------------------------------------------------------------
-
-
-class Pair(NamedTuple):
-    """From which byte to which it stands, and where its piece begins."""
-
-    start: int
-    end: int
-    line: int
-    column: int
-    piece: int
-
-
-class VirtualLine(NamedTuple):
-    """From which byte to which it stands; and how many backslashes mean one in it: 0 where neither an escape nor a quotation
-    mark begins it."""
-
-    start: int
-    end: int
-    unit: int
-
-
-class Mark(NamedTuple):
-    """A quotation mark or a line's end: from which byte to which it stands, and how many backslashes it has."""
-
-    start: int
-    end: int
-    backslashes: int
-    is_line_end: bool
-
-    def unit(self) -> int:
-        """How many backslashes mean one behind it: in `".."` it is two, in `\\".."` four."""
-        return max(2, 2 * self.backslashes) if self.is_line_end else 2 * self.backslashes + 2
-
-
-_PAIR = re.compile(rb":([1-9][0-9]{0,9}):([1-9][0-9]{0,9})(?![0-9]|[:-][0-9])")
-_IN_BRACKETS = re.compile(rb"://\[[0-9A-Za-z:.%_~-]{0,64}\]")
-_PATH_BEHIND_COLON = re.compile(rb":/(?!/)")
-_QUOTES = re.compile(rb"[\"'\n\r]")
+SCHEME = table(lambda byte: byte in LETTERS + DIGITS + b"+.-")
+NOT_ASCII = bytes(range(0x80, 0x100))
+EDGES = bytes(byte for byte in range(0x80) if EDGE[byte])
 
 _PATH = re.compile(rb"[/?]")
 # What stands between the pieces of a path, and of no date.
 _SEPARATOR = re.compile(rb"(?<![0-9])[/\\]|[/\\](?![0-9])")
 _PAIRED = {ord(")"): 0, ord("]"): 1, ord("}"): 2, ord("("): 3, ord("["): 4, ord("{"): 5}
-
-# What a byte of a line counts as that only looks so: one within an escape or a colour.
-NOTHING = 0xFF
-NOT_ASCII = bytes(range(0x80, 0x100))
-EDGES = bytes(byte for byte in range(0x80) if EDGE[byte])
-
-
-def is_edge_behind(means: int) -> bool:
-    """Whether a URL may begin behind an escape of this character."""
-    return means < 0x80 and bool(EDGE[means])
-
-
-def is_apostrophe(text: bytes, start: int, end: int) -> bool:
-    """Whether a `'` here stands within a word, which a letter alone is not: `b'..'`."""
-    if start < 2 or end >= len(text) or not WORD[text[start - 1]] or not WORD[text[end]]:
-        return False
-    return not EDGE[text[start - 2]]
-
-
-class Line:
-    """A line, with what counts in it. `counts` has for each byte what it counts as."""
-
-    def __init__(self, text: bytes) -> None:
-        self.text = text
-        self.escapes = list(escapes_in(text))
-        self.colours = list(colours_in(text, self.escapes))
-        self.counts = bytearray(text)
-        self.edges = bytearray(b"\1" + text.translate(EDGE))
-        # Where escapes and colours end, and where those begin that end there.
-        self.starts: Dict[int, int] = {}
-        for start, end, means in self.escapes:
-            self._put(start, end, is_edge_behind(means))
-            self.counts[end - 1] = min(means, 0x80)
-        for start, end in self.colours:
-            self._put(start, end, True)
-        self._find_paths()
-        self.marks = list(self._marks())
-        self.virtual_lines = list(virtual_lines(text, self.marks, lambda mark, unit: True))
-        self.lines_of_strings = list(virtual_lines(text, self.marks, ends_line_of_string))
-        self.pairs = list(self._pairs())
-
-    def _put(self, start: int, end: int, is_edge: bool) -> None:
-        self.counts[start:end] = bytes([NOTHING]) * (end - start)
-        self.edges[start + 1:end] = bytes(end - start - 1)
-        self.edges[end] = is_edge
-        self.starts[end] = start
-
-    # Each `:` before a single `/` is an edge, but behind `file` or one letter alone.
-    def _find_paths(self) -> None:
-        for colon in _PATH_BEHIND_COLON.finditer(self.text):
-            at = colon.start()
-            self.edges[at + 1] = not (self._stands_alone(at, 1, LETTERS) or self._stands_alone(at, 4, b"file"))
-
-    def _stands_alone(self, end: int, length: int, letters: bytes) -> bool:
-        start = end - length
-        if start < 0 or (not self.edges[start] and WORD[self.text[start - 1]]):
-            return False
-        return self.text[start:end] == letters if length > 1 else self.text[start] in letters
-
-    # Quotation marks, but for apostrophes, and escapes of those and of line ends.
-    def _marks(self) -> Iterator[Mark]:
-        for found in _QUOTES.finditer(bytes(self.counts)):
-            end = found.end()
-            start = self.starts.get(end, found.start())
-            if found[0] in b"\n\r" and start == found.start():
-                continue
-            if found[0] == b"'" and is_apostrophe(self.text, start, end):
-                self.counts[end - 1], self.edges[end] = 0x80, 0
-                continue
-            yield Mark(start, end, len(_BACKSLASHES.match(self.text, start)[0]), found[0] in b"\n\r")  # type: ignore[index]
-
-    def _pairs(self) -> Iterator[Pair]:
-        inside = [found.span() for found in _IN_BRACKETS.finditer(self.text)]
-        piece, past = 0, 0
-        for found in _PAIR.finditer(self.text):
-            while past < len(inside) and inside[past][1] <= found.start():
-                past += 1
-            is_inside = past < len(inside) and inside[past][0] < found.start()
-            line, column = int(found[1]), int(found[2])
-            if not is_inside and line <= MOST_NUMBER and column <= MOST_NUMBER:
-                yield Pair(found.start(), found.end(), line, column, piece)
-                piece = found.end()
-
-
-def ends_line_of_string(mark: Mark, unit: int) -> bool:
-    """Whether a mark ends a line in which so many backslashes mean one: `\\\\n` is a backslash and an n where `\\n` is a line's
-    end."""
-    return not mark.is_line_end or 2 * mark.backslashes <= max(unit, 2)
-
-
-def virtual_lines(text: bytes, marks: List[Mark], ends: Callable[[Mark, int], bool]) -> Iterator[VirtualLine]:
-    """The parts of a line between marks, but for those that do not end one."""
-    begin, unit = 0, 0
-    for mark in marks:
-        if ends(mark, unit):
-            yield VirtualLine(begin, mark.start, unit)
-            begin, unit = mark.end, mark.unit()
-    yield VirtualLine(begin, len(text), unit)
-
 
 # ---------------------------------------------------------------------------------------------
 # A path.
@@ -405,11 +64,9 @@ def is_path(url: bytes, strange: bytes) -> bool:
         first == b"" or bool(_NAME.search(first)) and not set(first) & set(strange)
     )
 
-
 # ---------------------------------------------------------------------------------------------
 # 0. The frame.
 # ---------------------------------------------------------------------------------------------
-
 
 class Place(NamedTuple):
     """From which byte of its line to which it stands, its URL, the file that is named for that, its line and column."""
@@ -429,7 +86,7 @@ def place_span(text: bytes, start: int, end: int) -> Optional[Tuple[int, int]]:
     """Where the URL of a place stands that is the whole of a text from one byte to another."""
     column = text.rfind(b":", start, end)
     line = text.rfind(b":", start, max(column, start))
-    found = _PAIR.match(text[line:end]) if line > start else None
+    found = PAIR.match(text[line:end]) if line > start else None
     if not found or found.end() != end - line or max(int(found[1]), int(found[2])) > MOST_NUMBER:
         return None
     return start, line
@@ -519,11 +176,9 @@ def place_of_frame(line: Line, virtual: VirtualLine, pair: Pair, maps: Maps) -> 
             return Place(start, pair.end, url, path, pair.line, pair.column)
     return None
 
-
 # ---------------------------------------------------------------------------------------------
 # 1. As named. 3. With a query.
 # ---------------------------------------------------------------------------------------------
-
 
 def beginnings(tree: Tree, text: bytes, low: int, end: int) -> Iterator[int]:
     """Where names begin that end before a byte, from the shortest on."""
@@ -643,12 +298,10 @@ def begin_with_query(line: Line, pair: Pair, behind: Behind, maps: Maps) -> Tupl
                 best = (at, query) if line.edges[at] and at < best[0] else best
     return best
 
-
 # ---------------------------------------------------------------------------------------------
 # 2. By a pattern.
 # ---------------------------------------------------------------------------------------------
 
-SCHEME = table(lambda byte: byte in LETTERS + DIGITS + b"+.-")
 _LETTER = re.compile(rb"[A-Za-z]")
 _ABSOLUTE = re.compile(rb"/|[A-Za-z][A-Za-z0-9+.-]*:/")
 _BEHIND_AT = re.compile(rb"(?<![0-9A-Za-z\x80-\xff])at[ \t]+\Z")
@@ -763,11 +416,9 @@ def begin_by_pattern(line: Line, virtual: VirtualLine, pair: Pair) -> int:
         return pair.start
     return pair.start if may_go_on(before, url) or not _ABSOLUTE.match(url) and before.is_in_call() else begin
 
-
 # ---------------------------------------------------------------------------------------------
 # The places.
 # ---------------------------------------------------------------------------------------------
-
 
 def place_before(line: Line, virtual: VirtualLine, pair: Pair, maps: Maps) -> Optional[Place]:
     """The place of a pair that is in no frame."""
@@ -791,7 +442,7 @@ def _place(line: Line, start: int, end: int, pair: Pair, path_of: Callable[[byte
 
 def places_of(text: bytes, maps: Maps) -> List[Place]:
     """The places of a line."""
-    if not _PAIR.search(text):
+    if not PAIR.search(text):
         return []
     line = Line(text)
     if not line.pairs:
@@ -865,7 +516,7 @@ def rewrite_frames(text: bytes, maps: Maps) -> bytes:
     lines = []
     for line in text.split(b"\n"):
         span = frame_span(line)
-        pair = _PAIR.match(line, span[1]) if span else None
+        pair = PAIR.match(line, span[1]) if span else None
         path = maps.path_for(line[span[0]:span[1]]) if span else None
         if span and pair and path:
             place = Place(span[0], pair.end(), line[span[0]:span[1]], path, int(pair[1]), int(pair[2]))

@@ -303,3 +303,18 @@ case("a name of any length", f"x {'a b' * 1000}:1:2", "x «1:2»", "a b" * 1000 
 case("a line of any length", f"{'(' * 70000}/srv/app.js:1:2{' ' * 70000}https://h/app.js:1:3", f"{'(' * 70000}«1:2»{' ' * 70000}«1:3»", APP)
 case("many backslashes", "\\" * 70001 + "nhttps://h/app.js:1:2", "\\" * 70001 + "n«1:2»", *ALL_H)
 case("a colour of 32 signs, and of more", f"\x1b[{'0' * 32}mhttps://h/app.js:1:2 \x1b[{'0' * 33}mhttps://h/app.js:1:3", f"\x1b[{'0' * 32}m«1:2» \x1b[{'0' * 33}mhttps://h/app.js:1:3", H, H_APP)
+
+section("hostile shapes")
+LAST = " https://h/app.js:1:2"
+case("numbers again and again", ":1:2" * 1000 + LAST, ":1:2" * 1000 + " «1:2»", *ALL_H)
+case("places again and again", "app.js:1:2 " * 400, "«1:2» " * 400, APP, "app.js=w.map")
+case("brackets", "()" * 2000 + "/srv/app.js:1:2", "()" * 2000 + "«1:2»", *ALL_SRV)
+case("escaped backslashes", r"\x5C" * 1000 + "nhttps://h/app.js:1:2", r"\x5C" * 1000 + "n«1:2»", *ALL_H)
+case("beginnings of addresses", "://[" * 1000 + LAST, "://[" * 1000 + " «1:2»", *ALL_H)
+case("strings", '":1:2"' * 700 + LAST, '":1:2"' * 700 + " «1:2»", *ALL_H)
+case("beginnings of frames", "at f (@" * 600 + LAST, "at f (@" * 600 + " «1:2»", *ALL_H)
+case("prefixes", "https://h/" * 400 + "app.js:1:2", "https://h/" * 399 + "«1:2»", APP)
+case("paths behind colons", ":/" * 900 + "srv/app.js:1:2", ":/" * 899 + ":«1:2»", *ALL_SRV)
+case("colours", "\x1b[36m" * 700 + LAST[1:], "\x1b[36m" * 700 + "«1:2»", *ALL_H)
+case("beginnings of colours", r"\u001b[" * 600 + LAST, r"\u001b[" * 600 + " «1:2»", *ALL_H)
+case("apostrophes", "'a" * 2000 + LAST, "'a" * 2000 + " «1:2»", *ALL_H)

@@ -21,8 +21,11 @@ from pathlib import Path
 from typing import Callable, Dict, Iterator, List, Optional, Tuple
 
 import places
+import places_line
+from places import Before, Place, places_of, rewrite_anywhere, rewrite_frames
 from places_cases import CASES, Case
-from places import Before, Line, LookUp, Maps, Original, Place, places_of, rewrite_anywhere, rewrite_frames
+from places_line import Line, VirtualLine
+from places_maps import LookUp, Maps, Original
 
 HERE = Path(__file__).resolve().parent
 
@@ -147,13 +150,13 @@ def try_cases() -> Optional[str]:
 # ---------------------------------------------------------------------------------------------
 
 CLAUSES: List[Tuple[str, object, str, object]] = [
-    ("of a chain of numbers the last two count", places, "_PAIR", re.compile(rb":([1-9][0-9]{0,9}):([1-9][0-9]{0,9})(?![0-9]|-[0-9])")),
-    ("a range is no column", places, "_PAIR", re.compile(rb":([1-9][0-9]{0,9}):([1-9][0-9]{0,9})(?![0-9]|:[0-9])")),
-    ("no pair stands in the brackets of an address", places, "_IN_BRACKETS", re.compile(rb"(?!)")),
-    ("a backslash may be written as an escape", places, "is_written_backslash", lambda means: False),
-    ("an escape of a letter is no edge", places, "is_edge_behind", lambda means: True),
-    ("an apostrophe is no quotation mark", places, "is_apostrophe", lambda text, start, end: False),
-    ("`:` before a single `/` is an edge", places, "_PATH_BEHIND_COLON", re.compile(rb"(?!)")),
+    ("of a chain of numbers the last two count", places_line, "PAIR", re.compile(rb":([1-9][0-9]{0,9}):([1-9][0-9]{0,9})(?![0-9]|-[0-9])")),
+    ("a range is no column", places_line, "PAIR", re.compile(rb":([1-9][0-9]{0,9}):([1-9][0-9]{0,9})(?![0-9]|:[0-9])")),
+    ("no pair stands in the brackets of an address", places_line, "_IN_BRACKETS", re.compile(rb"(?!)")),
+    ("a backslash may be written as an escape", places_line, "is_written_backslash", lambda means: False),
+    ("an escape of a letter is no edge", places_line, "is_edge_behind", lambda means: True),
+    ("an apostrophe is no quotation mark", places_line, "is_apostrophe", lambda text, start, end: False),
+    ("`:` before a single `/` is an edge", places_line, "_PATH_BEHIND_COLON", re.compile(rb"(?!)")),
     ("but behind a letter alone or file", Line, "_stands_alone", lambda self, end, length, letters: False),
     ("a frame comes first", places, "frame_span", lambda text: None),
     ("a frame's URL in a string has a backslash for each two", places, "urls_of_frame", lambda url, is_quoted: [url]),
@@ -180,14 +183,17 @@ def try_clauses(is_shown: bool) -> Optional[str]:
     unneeded = []
     for clause, owner, name, other in CLAUSES:
         own = getattr(owner, name)
-        setattr(owner, name, other)
+        owners = [one for one in (owner, places) if getattr(one, name, None) is own]
+        for one in owners:
+            setattr(one, name, other)
         wrong = [found for found in outcomes() if found[2] != found[0].becomes]
-        setattr(owner, name, own)
+        for one in owners:
+            setattr(one, name, own)
         if not wrong:
             unneeded.append(clause)
         elif is_shown:
-            one, given, became = min(wrong, key=lambda found: len(found[0].text))
-            print(f"{clause}: {len(wrong)} go wrong without it\n  {given}\n  of      {short(one.text)}\n  becomes {short(became)}")
+            case, given, became = min(wrong, key=lambda found: len(found[0].text))
+            print(f"{clause}: {len(wrong)} go wrong without it\n  {given}\n  of      {short(case.text)}\n  becomes {short(became)}")
     print(f"{len(CLAUSES)} clauses, {len(unneeded)} unneeded")
     return "\n".join(unneeded) or None
 
@@ -271,7 +277,7 @@ def broken_frame(line: bytes, maps: Maps, became: bytes) -> Optional[str]:
     url = line[span[0]:span[1]]
     path = maps.path_for(url) or b""
     original = (maps.look_up_in(path) or (lambda *_: None))(url, whole.pairs[-1].line, whole.pairs[-1].column)
-    is_taken = maps.path_as_named(url) or places.is_for_pattern(whole, places.VirtualLine(0, len(line), False), span[0], whole.pairs[-1])
+    is_taken = maps.path_as_named(url) or places.is_for_pattern(whole, VirtualLine(0, len(line), False), span[0], whole.pairs[-1])
     if not original or not places.is_printed_anywhere(original[0]) or not is_taken:
         return None
     return None if became == plain else f"a frame becomes {plain!r}"
