@@ -35,7 +35,9 @@ HERE = Path(__file__).resolve().parent
 
 # Line by line, from each of the first eight columns to the same one.
 MAPPINGS = ";".join(["AAAA" + ",CAAC" * 7] + ["AACP" + ",CAAC" * 7] * 7)
-SOURCES = {"w": "webpack:///a.ts", "f": "file:///f.ts", "t": "turbopack:///t.ts", "quote": 'a"b.ts', "backslash": "a\\b.ts", "control": "a\tb.ts"}
+SOURCES = {
+    "w": "webpack:///a.ts", "f": "file:///f.ts", "t": "turbopack:///t.ts", "quote": 'a"b.ts', "backslash": "a\\b.ts", "control": "a\tb.ts",
+}
 BASE64 = "ABCDEFGHIJKLMNOPQRSTUVWXYZabcdefghijklmnopqrstuvwxyz0123456789+/"
 
 
@@ -135,7 +137,8 @@ def try_cases() -> Optional[str]:
     wrong = []
     for one, given, became in outcomes():
         if became != one.becomes:
-            wrong.append(f"{one.why}: {given}\n  of      {short(one.text)}\n  wanted  {short(one.becomes)}\n  became  {short(became)}")
+            said = f"{one.why}: {given}\n  of      {short(one.text)}\n  wanted  {short(one.becomes)}"
+            wrong.append(f"{said}\n  became  {short(became)}")
     for given in sorted({given for one in CASES for given in one.given}):
         those = [one for one in CASES if given in one.given]
         text, wanted = ("\n".join(getattr(one, part) for one in those).encode() for part in ("text", "becomes"))
@@ -193,7 +196,8 @@ def try_clauses(is_shown: bool) -> Optional[str]:
             unneeded.append(clause)
         elif is_shown:
             case, given, became = min(wrong, key=lambda found: len(found[0].text))
-            print(f"{clause}: {len(wrong)} go wrong without it\n  {given}\n  of      {short(case.text)}\n  becomes {short(became)}")
+            print(f"{clause}: {len(wrong)} go wrong without it\n  {given}\n  of      {short(case.text)}")
+            print(f"  becomes {short(became)}")
     print(f"{len(CLAUSES)} clauses, {len(unneeded)} unneeded")
     return "\n".join(unneeded) or None
 
@@ -210,11 +214,16 @@ KINDS = [
     "*app.js=quote.map  https://h/=n/  list /srv/app.js=backslash.map  x.js=f.map  *\\dist\\=n/  *(shop)/=f/",
 ]
 PIECES = [
-    "app.js", "x.js", "https://h/", "/srv/", "dist/", "C:\\", "C:\\\\", "C:/", "http://[::1]:80/", "webpack-internal:///", "(shop)/", "[id]", "My App/",
-    "it's/", "a,b/", "a'b.js", "a\"b.js", "@", "?v=1", "#a", "&", "\\u0026", "=", "caller=", "ERROR:", "file:", "://", "/", "\\", "\\\\", ":", ".", "..",
-    ":1:1", ":1:2", ":3:4", ":1:2", ":1:2", ":9:1", ":0:1", "1", "-2", ":5", "\\n", "\\r\\n", "\\\\n", "\\t", "\\\"", "\\\\\\\"", "\\'", "\\u000a", "\\u00e9",
-    "\\x22", "\\x0A", "\\x5Cn", "\\x5C", "#012", "#033[1m", "\x1b[36m", "\x1b[", "\\u001b[1m", "\"", "\"", "'", "`", "(", ")", "[", "]", "{", "}", "<", ">", ",", ";",
-    "|", " ", " ", "  ", "\t", "\r", "\n", "at ", "    at f (", "    at ", "async ", "f@", "é", "“", "n", "u00", "**", "failed", "2024/01/01 ",
+    "app.js", "x.js", "https://h/", "/srv/", "dist/", "C:\\", "C:\\\\", "C:/", "http://[::1]:80/", "webpack-internal:///",
+    "(shop)/", "[id]", "My App/",
+    "it's/", "a,b/", "a'b.js", "a\"b.js", "@", "?v=1", "#a", "&", "\\u0026", "=", "caller=", "ERROR:", "file:", "://",
+    "/", "\\", "\\\\", ":", ".", "..",
+    ":1:1", ":1:2", ":3:4", ":1:2", ":1:2", ":9:1", ":0:1", "1", "-2", ":5", "\\n", "\\r\\n", "\\\\n", "\\t", "\\\"",
+    "\\\\\\\"", "\\'", "\\u000a", "\\u00e9",
+    "\\x22", "\\x0A", "\\x5Cn", "\\x5C", "#012", "#033[1m", "\x1b[36m", "\x1b[", "\\u001b[1m", "\"", "\"", "'", "`", "(",
+    ")", "[", "]", "{", "}", "<", ">", ",", ";",
+    "|", " ", " ", "  ", "\t", "\r", "\n", "at ", "    at f (", "    at ", "async ", "f@", "é", "“", "n", "u00", "**",
+    "failed", "2024/01/01 ",
 ]
 FRONTS = ["", "https://h/", "/srv/", "C:\\dist\\", "C:\\\\dist\\\\", "http://[::1]:80/", "/srv/My App/", "https://h/(shop)/", "https://h/it's/", "a,b/", "webpack-internal:///"]
 NAMES = ["app.js", "app.js", "x.js", "app.js?v=1", "a'b.js", "a\"b.js"]
@@ -236,7 +245,8 @@ def random_text(chance: random.Random) -> bytes:
 
 def is_urls(url: bytes, text: bytes) -> bool:
     """Whether a text is that of a URL: as it stands, with two backslashes for each, or with a query."""
-    return text in (url, url.replace(b"\\", b"\\\\")) or text.replace(b"\\\\", b"\\") == url or (text.startswith(url) and text[len(url):][:1] in (b"?", b"#"))
+    is_queried = text.startswith(url) and text[len(url):][:1] in (b"?", b"#")
+    return text in (url, url.replace(b"\\", b"\\\\")) or text.replace(b"\\\\", b"\\") == url or is_queried
 
 
 def broken_law(line: bytes, found: List[Place], maps: Maps) -> Optional[str]:
@@ -247,7 +257,8 @@ def broken_law(line: bytes, found: List[Place], maps: Maps) -> Optional[str]:
         if not at <= place.start < place.end <= len(line):
             return "a place stands in another"
         text, numbers = line[place.start:place.end], b":%d:%d" % (place.line, place.column)
-        if not text.endswith(numbers) or not is_urls(place.url, text[:-len(numbers)]) or maps.path_for(place.url) != place.path:
+        url = text[:-len(numbers)]
+        if not text.endswith(numbers) or not is_urls(place.url, url) or maps.path_for(place.url) != place.path:
             return "a place is not its URL and its numbers"
         original = (maps.look_up_in(place.path) or (lambda *_: None))(place.url, place.line, place.column)
         if original and original[0] and not re.search(rb'["\\\x00-\x1f\x7f]', original[0]):
@@ -277,7 +288,8 @@ def broken_frame(line: bytes, maps: Maps, became: bytes) -> Optional[str]:
     url = line[span[0]:span[1]]
     path = maps.path_for(url) or b""
     original = (maps.look_up_in(path) or (lambda *_: None))(url, whole.pairs[-1].line, whole.pairs[-1].column)
-    is_taken = maps.path_as_named(url) or places.is_for_pattern(whole, VirtualLine(0, len(line), False), span[0], whole.pairs[-1])
+    virtual = VirtualLine(0, len(line), 0)
+    is_taken = maps.path_as_named(url) or places.is_for_pattern(whole, virtual, span[0], whole.pairs[-1])
     if not original or not places.is_printed_anywhere(original[0]) or not is_taken:
         return None
     return None if became == plain else f"a frame becomes {plain!r}"
@@ -306,18 +318,26 @@ def try_laws(count: int) -> Optional[str]:
 # ---------------------------------------------------------------------------------------------
 
 URLS = [
-    "https://h/app.js", "/srv/app.js", "dist/app.js", "app.js", "/srv/My App/app.js", "/Applications/My App.app/app.js", "/srv/(shop)/app.js", "/srv/[id]/app.js",
-    "/a,b/app.js", "https://h/a,b/app.js", "https://h/npm/a@1/app.js", "C:\\Program Files\\app.js", "src\\routes\\app.js", "C:\\new\\app.js", "/srv/it's/app.js",
-    "/srv/é/app.js", "é/app.js", "https://h/app.js?v=a,b", "https://h/app.js?a=1:2", "http://[::1]:80/app.js", "http://[fd00:1:2:3::5]:80/app.js",
-    "/srv/\x1b[4mpkg\x1b[24m/app.js", "webpack-internal:///(rsc)/./app.js", "file:///srv/app.js", "./app.js", "../x/app.js", "/srv/My App (1)/app.js",
-    "C:/dist/app.js", "https://h/(shop)/app.js", "/srv/@me/app.js", "dist/a b/app.js", "https://u@h/app.js?x=/y", "node_modules/a,b/app.js", "\\\\server\\share\\app.js",
+    "https://h/app.js", "/srv/app.js", "dist/app.js", "app.js", "/srv/My App/app.js", "/Applications/My App.app/app.js",
+    "/srv/(shop)/app.js", "/srv/[id]/app.js",
+    "/a,b/app.js", "https://h/a,b/app.js", "https://h/npm/a@1/app.js", "C:\\Program Files\\app.js", "src\\routes\\app.js",
+    "C:\\new\\app.js", "/srv/it's/app.js",
+    "/srv/é/app.js", "é/app.js", "https://h/app.js?v=a,b", "https://h/app.js?a=1:2", "http://[::1]:80/app.js",
+    "http://[fd00:1:2:3::5]:80/app.js",
+    "/srv/\x1b[4mpkg\x1b[24m/app.js", "webpack-internal:///(rsc)/./app.js", "file:///srv/app.js", "./app.js",
+    "../x/app.js", "/srv/My App (1)/app.js",
+    "C:/dist/app.js", "https://h/(shop)/app.js", "/srv/@me/app.js", "dist/a b/app.js", "https://u@h/app.js?x=/y",
+    "node_modules/a,b/app.js", "\\\\server\\share\\app.js",
 ]
 BEFORE = [
-    "Error: bad", "at f", "xx", "/login failed", "GET /x 200", "[INFO]", "web-1 |", "12:30:45", "can't load", "bob@ex.com", "ERROR", "f()", "**", "key", "a.b",
-    "https://h/login failed", "C:\\logs\\x.log", "100%", "~", "#1", "(in", "(", "{", "\"", "<b>", "at", "async", "app.log:12", "worker1", "é", "“", "-", "+", "a,bb", "x;yy",
+    "Error: bad", "at f", "xx", "/login failed", "GET /x 200", "[INFO]", "web-1 |", "12:30:45", "can't load",
+    "bob@ex.com", "ERROR", "f()", "**", "key", "a.b",
+    "https://h/login failed", "C:\\logs\\x.log", "100%", "~", "#1", "(in", "(", "{", "\"", "<b>", "at", "async",
+    "app.log:12", "worker1", "é", "“", "-", "+", "a,bb", "x;yy",
 ]
 BETWEEN = [
-    " ", "  ", "\t", "(", "[", "{", "<", "\"", "'", "`", "=", ",", ";", "|", ": ", " at ", "\n    at ", "\n    at f (", "@", "\x1b[36m", "**", ") ", "] ", "):", ":", "]", ")",
+    " ", "  ", "\t", "(", "[", "{", "<", "\"", "'", "`", "=", ",", ";", "|", ": ", " at ", "\n    at ", "\n    at f (",
+    "@", "\x1b[36m", "**", ") ", "] ", "):", ":", "]", ")",
     "> ", "&", "!", "*",
 ]
 BEHIND = ["", ")", "]", "}", ">", "\"", "'", "`", ",", " x", ";", "\x1b[39m", " {", "|", "**", ": bad", "."]
@@ -383,9 +403,12 @@ def try_glue(count: int) -> Optional[str]:
 # ---------------------------------------------------------------------------------------------
 
 SHAPES = {
-    "pairs": ":1:2", "places": "app.js:1:2 ", "brackets": "(", "closed brackets": "()", "backslashes": "\\", "written backslashes": "\\x5C", "addresses": "://[",
-    "strings": '":1:2"', "quotation marks": "'a", "frames": "at f (@", "queries": "?", "slashes": "/", "prefixes": "https://h/", "paths behind colons": ":/",
-    "colours": "\x1b[36m", "half colours": "\\u001b[", "words": "a", "lists": "a,b/", "lines": "at :1:2\\n", "schemes": "a://", "blanks": "/ ",
+    "pairs": ":1:2", "places": "app.js:1:2 ", "brackets": "(", "closed brackets": "()", "backslashes": "\\",
+    "written backslashes": "\\x5C", "addresses": "://[",
+    "strings": '":1:2"', "quotation marks": "'a", "frames": "at f (@", "queries": "?", "slashes": "/",
+    "prefixes": "https://h/", "paths behind colons": ":/",
+    "colours": "\x1b[36m", "half colours": "\\u001b[", "words": "a", "lists": "a,b/", "lines": "at :1:2\\n",
+    "schemes": "a://", "blanks": "/ ",
 }
 
 
@@ -498,7 +521,8 @@ def main(arguments: List[str]) -> int:
         lambda: try_rows("--rows" in arguments),
     ]
     if not {"--rows", "--clauses"} & set(arguments):
-        tries += [lambda: try_laws(5000 if is_short else 200000), lambda: try_glue(5000 if is_short else 50000), lambda: try_time(50000 if is_short else 500000)]
+        many, few, size = (5000, 5000, 50000) if is_short else (200000, 50000, 500000)
+        tries += [lambda: try_laws(many), lambda: try_glue(few), lambda: try_time(size)]
     wrong = [said for said in (one() for one in tries) if said]
     print(*wrong, "all as it should be" if not wrong else "something is wrong", sep="\n")
     return bool(wrong)
