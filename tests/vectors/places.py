@@ -31,7 +31,8 @@ ENDS_WORD = table(lambda byte: bool(CONTROL[byte]) or byte in b"\"'`,;|<>()[]{}\
 # A byte that does not stand behind a name.
 BARRED = table(lambda byte: bool(CONTROL[byte]) or byte in b"\"'`<>")
 SCHEME = table(lambda byte: byte in LETTERS + DIGITS + b"+.-")
-NOT_ASCII = bytes(range(0x80, 0x100))
+# Bytes with which characters begin that are signs, such as quotation marks, or belong to scripts without blanks; and apostrophes.
+STRANGE = bytes([0xC0, 0xC1, 0xC2, *range(0xE0, 0x100)])
 EDGES = bytes(byte for byte in range(0x80) if EDGE[byte])
 
 _PATH = re.compile(rb"[/?]")
@@ -271,18 +272,23 @@ class Behind:
         return self.fits_at(at) and bool(self.plain[at - self.low])
 
 
+def may_begin_name(line: Line, at: int) -> bool:
+    """Whether a URL may begin that is named: at an edge, or behind any `'`."""
+    return bool(line.edges[at]) or line.text[at - 1:at] == b"'"
+
+
 def begin_as_named(line: Line, pair: Pair, behind: Behind, maps: Maps) -> int:
     """Where the longest URL begins that is named, or that a list or a folder has without its query; its end where none does."""
     text, best = line.text, pair.start
     for at in beginnings(maps.back_by_name, text, pair.piece, pair.start):
-        best = at if line.edges[at] else best
+        best = at if may_begin_name(line, at) else best
     for query in behind.queries:
         if behind.fits_at(query):
             for at in beginnings(maps.back_by_listed, text, pair.piece, query):
-                best = at if line.edges[at] and at < best else best
+                best = at if may_begin_name(line, at) and at < best else best
     if maps.by_prefix:
         for at in range(max(pair.piece, behind.low - maps.longest_prefix), best):
-            if line.edges[at] and text[at] in maps.by_prefix:
+            if may_begin_name(line, at) and text[at] in maps.by_prefix:
                 end = longest_end(maps.by_prefix, text, at, pair.start)
                 if end > at and behind.is_in_folder(end):
                     return at
@@ -295,7 +301,7 @@ def begin_with_query(line: Line, pair: Pair, behind: Behind, maps: Maps) -> Tupl
     for query in behind.queries:
         if behind.fits_at(query):
             for at in beginnings(maps.back_by_argument, line.text, pair.piece, query):
-                best = (at, query) if line.edges[at] and at < best[0] else best
+                best = (at, query) if may_begin_name(line, at) and at < best[0] else best
     return best
 
 # ---------------------------------------------------------------------------------------------
@@ -303,7 +309,7 @@ def begin_with_query(line: Line, pair: Pair, behind: Behind, maps: Maps) -> Tupl
 # ---------------------------------------------------------------------------------------------
 
 _LETTER = re.compile(rb"[A-Za-z]")
-_ABSOLUTE = re.compile(rb"/|[A-Za-z][A-Za-z0-9+.-]*:/")
+_ABSOLUTE = re.compile(rb"/|\.\.?/|~/|[A-Za-z][A-Za-z0-9+.-]*:/")
 _BEHIND_AT = re.compile(rb"(?<![0-9A-Za-z\x80-\xff])at[ \t]+\Z")
 _OPENING = {ord("("): 1, ord(")"): -1}
 
@@ -412,7 +418,7 @@ def begin_by_pattern(line: Line, virtual: VirtualLine, pair: Pair) -> int:
     begin = path_start(line, start, pair.start)
     url = bytes(line.counts[begin:pair.start]).replace(bytes([NOTHING]), b"")
     before = Before(line, virtual, pair, begin)
-    if goes_on or not is_free(line, begin) or b"://" in word or before.has_scheme() or not is_path(url, NOT_ASCII):
+    if goes_on or not is_free(line, begin) or b"://" in word or before.has_scheme() or not is_path(url, STRANGE):
         return pair.start
     return pair.start if may_go_on(before, url) or not _ABSOLUTE.match(url) and before.is_in_call() else begin
 

@@ -130,6 +130,9 @@ _QUOTES = re.compile(rb"[\"'\n\r]")
 
 # What a byte of a line counts as that only looks so: one within an escape or a colour.
 NOTHING = 0xFF
+# What an escape of a letter above 0x7F counts as, and one of another character, and an apostrophe.
+LETTER = 0xC3
+SIGN = 0xE2
 
 
 def is_edge_behind(means: int) -> bool:
@@ -157,7 +160,7 @@ class Line:
         self.starts: Dict[int, int] = {}
         for start, end, means in self.escapes:
             self._put(start, end, is_edge_behind(means))
-            self.counts[end - 1] = min(means, 0x80)
+            self.counts[end - 1] = means if means < 0x80 else LETTER if 0xC0 <= means < 0x800 else SIGN
         for start, end in self.colours:
             self._put(start, end, True)
         self._find_paths()
@@ -192,7 +195,7 @@ class Line:
             if found[0] in b"\n\r" and start == found.start():
                 continue
             if found[0] == b"'" and is_apostrophe(self.text, start, end):
-                self.counts[end - 1], self.edges[end] = 0x80, 0
+                self.counts[end - 1], self.edges[end] = SIGN, 0
                 continue
             yield Mark(start, end, len(_BACKSLASHES.match(self.text, start)[0]), found[0] in b"\n\r")  # type: ignore[index]
 
