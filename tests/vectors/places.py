@@ -216,10 +216,11 @@ _NO_UTF8 = re.compile("[\udc80-\udcff]")
 
 def bytes_of_no_character(text: bytes, start: int, end: int) -> List[int]:
     """Where the bytes stand that are not UTF-8."""
-    if text.isascii():
+    part = text[start:end]
+    if part.isascii():
         return []
     places, at = [], start
-    for character in text[start:end].decode(errors="surrogateescape"):
+    for character in part.decode(errors="surrogateescape"):
         if _NO_UTF8.match(character):
             places.append(at)
         at += len(character.encode(errors="surrogateescape"))

@@ -18,7 +18,7 @@ import re
 import sys
 import time
 from pathlib import Path
-from typing import Callable, Dict, Iterator, List, Optional, Tuple
+from typing import Callable, Dict, Iterator, List, Optional, Set, Tuple
 
 import places
 import places_line
@@ -330,7 +330,7 @@ URLS = [
     "node_modules/a,b/app.js", "\\\\server\\share\\app.js",
 ]
 BEFORE = [
-    "Error: bad", "at f", "xx", "/login failed", "GET /x 200", "[INFO]", "web-1 |", "12:30:45", "can't load",
+    "Error: bad", "at ff", "xx", "/login failed", "GET /x 200", "[INFO]", "web-1 |", "12:30:45", "can't load",
     "bob@ex.com", "ERROR", "f()", "**", "key", "a.b",
     "https://h/login failed", "C:\\logs\\x.log", "100%", "~", "#1", "(in", "(", "{", "\"", "<b>", "at", "async",
     "app.log:12", "worker1", "é", "“", "-", "+", "a,bb", "x;yy",
@@ -340,7 +340,7 @@ BETWEEN = [
     "@", "\x1b[36m", "**", ") ", "] ", "):", ":", "]", ")",
     "> ", "&", "!", "*",
 ]
-BEHIND = ["", ")", "]", "}", ">", "\"", "'", "`", ",", " x", ";", "\x1b[39m", " {", "|", "**", ": bad", "."]
+BEHIND = ["", ")", "]", "}", ">", "\"", "'", "`", ",", " xx", ";", "\x1b[39m", " {", "|", "**", ": bad", "."]
 PUT = [
     "*app.js=w.map",
     "https://h/=n/  /srv/=n/  dist/=n/",
@@ -372,12 +372,20 @@ def text_with_places(chance: random.Random) -> Tuple[bytes, Dict[Tuple[int, int]
 
 
 def glued(line: bytes, found: List[Place], put: Dict[Tuple[int, int], bytes], maps: Maps) -> Optional[str]:
-    """Which of the places is not, whole, one that was put in, though `rewrite` does not say so either."""
+    """Which of the places is not, whole, one that was put in, and not that of a frame, whose URL may be a sentence."""
     for place in found:
         wanted = b"%s:%d:%d" % (put.get((place.line, place.column), b""), place.line, place.column)
-        if line[place.start:place.end] != wanted and rewrite_frames(line, maps) != places.rewrite_line(line, maps):
+        if line[place.start:place.end] != wanted and place.start not in starts_in_frames(line):
             return f"{line[place.start:place.end]!r} is not {wanted!r}"
     return None
+
+
+def starts_in_frames(line: bytes) -> Set[int]:
+    """Where the URLs of the frames begin that a line is, or a line of a string in it, or a virtual line."""
+    whole = Line(line)
+    levels = [VirtualLine(0, len(line), 0), *whole.lines_of_strings, *whole.virtual_lines]
+    spans = [(virtual.start, places.frame_span(line[virtual.start:virtual.end])) for virtual in levels]
+    return {start + span[0] for start, span in spans if span}
 
 
 def try_glue(count: int) -> Optional[str]:
