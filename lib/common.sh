@@ -16,12 +16,40 @@ guarded_code='-O2 -fstack-protector-strong -fstack-clash-protection -U_FORTIFY_S
 # shellcheck disable=SC2034
 guarded_link='-Wl,-z,relro,-z,now'
 
+# How a shared object is linked that serves each C library, the GNU one and musl: it names none, and calls that of the process that
+# loads it.
+# shellcheck disable=SC2034
+library_of_process='-nodefaultlibs -lgcc'
+
+# The linker of the kit, which links for each processor. It gives the same bytes on each machine.
+kit_linker() { printf '%s/toolchain/bin/ld.lld' "$(dirname -- "$(rt doc)")"; }
+
+# link_program OBJECT SYSTEM FILE: links the object of the program, as the kit compiles it, with what it stands on, as
+# pack/system/build makes it. The program that this gives is static, and may lie at any address.
+link_program() {
+    "$(kit_linker)" -static -pie --no-dynamic-linker -z text -z relro -z now --gc-sections --strip-all --wrap=main -o "$3" "$1" "$2"
+}
+
+# Where the C library musl is for a processor, as Debian has it; and its sum.
+musl_of() { printf '/usr/lib/%s-linux-musl' "$1"; }
+sum_of_musl() { sha256sum "$(musl_of "$1")/libc.a" 2>/dev/null | sed 's/ .*//'; }
+
 # fail STATUS LINE..: ends with this status, and says why.
 fail() {
     status=$1
     shift
     printf 'smap: %s\n' "$@" >&2
     exit "$status"
+}
+
+# quietly FILE COMMAND..: runs it, and says what it said, which the file takes, only where it fails.
+quietly() {
+    said=$1
+    shift
+    "$@" >"$said" 2>&1 </dev/null || {
+        cat -- "$said" >&2
+        exit 1
+    }
 }
 
 # Ends with status 127 where there is no rt.

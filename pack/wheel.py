@@ -1,5 +1,6 @@
 #!/usr/bin/env python3
-"""Makes a wheel of a package that is ready in a folder, with its extension: pack/wheel.py FOLDER PYPROJECT README TO TAG.
+"""Makes a wheel of a package that is ready in a folder, with its extension: pack/wheel.py FOLDER PYPROJECT README TO TAGS. TAGS are
+the three of a wheel, of which the last may be several, with a dot between them.
 
 All times are SOURCE_DATE_EPOCH, and files stand in the order of their names, so the same files give the same bytes.
 """
@@ -32,7 +33,7 @@ def record(path: str, data: bytes) -> str:
     return f"{path},sha256={digest},{len(data)}\n"
 
 
-def main(folder: Path, pyproject: Path, readme: Path, to: Path, tag: str) -> None:
+def main(folder: Path, pyproject: Path, readme: Path, to: Path, tags: str) -> None:
     reported = project(pyproject)
     name = f"{reported['name']}-{reported['version']}"
     metadata = (
@@ -41,20 +42,22 @@ def main(folder: Path, pyproject: Path, readme: Path, to: Path, tag: str) -> Non
         + "".join(f"Classifier: {each}\n" for each in listed(pyproject, "classifiers")) +
         f"Requires-Python: {reported['requires-python']}\nDescription-Content-Type: text/markdown\n\n{readme.read_text()}"
     )
-    wheel = f"Wheel-Version: 1.0\nGenerator: smap\nRoot-Is-Purelib: false\nTag: {tag}\n"
+    interpreter, abi, platforms = tags.split("-")
+    wheel = "Wheel-Version: 1.0\nGenerator: smap\nRoot-Is-Purelib: false\n" + "".join(
+        f"Tag: {interpreter}-{abi}-{platform}\n" for platform in platforms.split("."))
     files = {str(path.relative_to(folder)): path.read_bytes() for path in sorted(folder.rglob("*")) if path.is_file()}
     files[f"{name}.dist-info/METADATA"] = metadata.encode()
     files[f"{name}.dist-info/WHEEL"] = wheel.encode()
     own = f"{name}.dist-info/RECORD"
     files[own] = ("".join(record(path, data) for path, data in files.items()) + f"{own},,\n").encode()
     date = time.gmtime(int(os.environ["SOURCE_DATE_EPOCH"]))[:6]
-    with zipfile.ZipFile(to / f"{name}-{tag}.whl", "w") as archive:
+    with zipfile.ZipFile(to / f"{name}-{tags}.whl", "w") as archive:
         for path, data in files.items():
             entry = zipfile.ZipInfo(path, date)
             entry.compress_type = zipfile.ZIP_DEFLATED
             entry.create_system = 3
-            entry.external_attr = 0o100644 << 16
-            archive.writestr(entry, data)
+            entry.external_attr = (0o100755 if ".data/scripts/" in path else 0o100644) << 16
+            archive.writestr(entry, data, compresslevel=9)
 
 
 if __name__ == "__main__":

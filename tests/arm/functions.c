@@ -1,4 +1,4 @@
-/* What the C functions under the proved code answer, a line a call: linked with those of pack/aarch64 and with the kit's own for x86-64
+/* What the C functions under the proved code answer, a line a call: linked with those of pack/system and with the kit's own for x86-64
  * it must print the same, with the same arguments.
  */
 #include <stdbool.h>

@@ -245,3 +245,5 @@ function compare(names) {
 
 if (require.main === module && process.argv[2] === '--make') made(process.argv[3]);
 else if (require.main === module) compare(process.argv.length > 2 ? process.argv.slice(2) : Object.keys(tools));
+
+module.exports = { asDebiansNode };

@@ -1,12 +1,11 @@
 /* What the objects of the addon hold of the library. */
 #include "addon.h"
 #include <stdlib.h>
-#ifdef __GLIBC__
-#include <malloc.h>
-#endif
 
-/* glibc keeps what is freed between what is not. After so many bytes it gives back the pages of it. */
+/* The GNU C library keeps what is freed between what is not. After so many bytes it gives back the pages of it. Another has not this
+ * call, which then is null. */
 #define TRIM (32 << 20)
+int malloc_trim(size_t kept) __attribute__((weak));
 
 /* So many bytes more than the fewest since the last sweep, and what was collected is freed before another map is read. */
 #define SWEEP (32 << 20)
@@ -33,12 +32,10 @@ void report_size(napi_env env, struct held *held, int64_t size) {
 
 /* So many bytes were freed. */
 static void give_back(struct addon *addon, int64_t size) {
-#ifdef __GLIBC__
-    if (addon && (addon->freed += size) >= TRIM) {
+    if (malloc_trim && addon && (addon->freed += size) >= TRIM) {
         malloc_trim(0);
         addon->freed = 0;
     }
-#endif
 }
 
 /* Frees what is held, if there is something. */

@@ -1,23 +1,20 @@
 /* A map, a table or inner maps, used by one call at a time. */
 #include "extension.h"
-#ifdef __GLIBC__
-#include <malloc.h>
-#endif
 
-/* glibc keeps what is freed between what is not. After so many bytes it gives back the pages of it. */
+/* The GNU C library keeps what is freed between what is not. After so many bytes it gives back the pages of it. Another has not this
+ * call, which then is null. */
 #define TRIM (32 << 20)
+int malloc_trim(size_t kept) __attribute__((weak));
 
 void give_back(struct held *held) {
-#ifdef __GLIBC__
     static size_t freed;
     freed += held->size;
     held->size = 0;
-    if (freed < TRIM) return;
+    if (!malloc_trim || freed < TRIM) return;
     freed = 0;
     PyThreadState *state = let_go(true);
     malloc_trim(0);
     come_back(state);
-#endif
 }
 
 void hand_over(struct held *map, struct held *taker) {

@@ -1,6 +1,7 @@
-/* What the proved program asks of the system on 64-bit ARM beside the C library's own functions. The kit has these for x86-64
- * alone. Its library `os` declares them, in c.rt, and no proof says more of them than their types and what is said here above each.
- * Of those that it declares these are the ones that the program reaches: to link it with fewer fails. */
+/* What the program of the packages asks of the system beside the C library's own functions. The kit has these as objects for
+ * x86-64 alone, and its arguments from a call that musl makes otherwise. Its library `os` declares them, in c.rt, and no
+ * proof says more of them than their types and what is said here above each. Of those that it declares these are the ones
+ * that the program reaches: to link it with fewer fails. */
 #include <errno.h>
 #include <stddef.h>
 #include <stdint.h>
@@ -29,9 +30,9 @@ int32_t rattle_errno(void) { return errno; }
 /* Sets it. */
 void rattle_set_errno(int32_t error) { errno = error; }
 
-/* Puts the bytes of the argument of this number, from 0, which is the program's name, to the front of the room, and gives how many
- * they are, without a byte 0 at the end. Gives -1 where there is no such argument; and -2 where the room is too small, which then
- * is full of the first of them. */
+/* Puts the bytes of the argument of this number, from 0, which is the program's name, to the front of the room, and gives
+ * how many they are, without a byte 0 at the end. Gives -1 where there is no such argument; and -2 where the room is too
+ * small, which then is full of the first of them. */
 ptrdiff_t rattle_arg(size_t number, unsigned char *room, size_t size) {
     if (number >= (size_t)argument_count) return -1;
     size_t length = strlen(all_arguments[number]);
