@@ -1,5 +1,5 @@
 -- What a run of the program does to its streams, and the status with which it ends.
-use Rattle.std.specs.Prelude.{◌≡◌, ℕ, List, [], MatchBool, None, map, option_map, string_bytes, true}
+use Rattle.std.specs.Prelude.{◌≡◌, ℕ, Bool, List, [], MatchBool, None, map, option_map, string_bytes, true}
 use Rattle.smap_command.specs.Limits.{usual_interval}
 use Rattle.smap_command.specs.Reading.{reading_of}
 pub use Rattle.smap_command.specs.Runnable.{IsRunnable}
