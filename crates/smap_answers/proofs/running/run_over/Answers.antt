@@ -7,8 +7,8 @@ use Rattle.smap_answers.proofs.running.run_over.Goals as goal
 
 pub returns : goal.returns
 returns g c =
-    let base = ap (λ seen. seen.base) c.reading.ensures in
-    let interval = ap (λ seen. seen.interval) c.reading.ensures in
+    let base = ap (λ seen. seen.base) c.reading-reading.ensures in
+    let interval = ap (λ seen. seen.interval) c.reading-reading.ensures in
     elim c.match-command.branch [
       | in-Raw w ↦ rw (w.in-Raw.is, w.input-is) (runs_one _ _ _ _ _ _ (w.answer_raw-outcome.ensures _) (rw (w.output-is, w.outcome-is) at c.report.ensures))
       | in-Show w ↦ rw (w.in-Show.is, w.input-is)
@@ -46,26 +46,26 @@ returns g c =
 
 pub returns-in-Check : goal.returns-in-Check
 returns-in-Check g c =
-    let base = ap (λ seen. seen.base) c.reading.ensures in
-    let interval = ap (λ seen. seen.interval) c.reading.ensures in
+    let base = ap (λ seen. seen.base) c.reading-reading.ensures in
+    let interval = ap (λ seen. seen.interval) c.reading-reading.ensures in
     rw c.in-Check.is (refl, (rw (c.deref.ensures, base, interval, c.in-Check.is) at c.answer_check.ensures))
 
 pub returns-in-Fit : goal.returns-in-Fit
 returns-in-Fit g c =
-    let base = ap (λ seen. seen.base) c.reading.ensures in
-    let interval = ap (λ seen. seen.interval) c.reading.ensures in
+    let base = ap (λ seen. seen.base) c.reading-reading.ensures in
+    let interval = ap (λ seen. seen.interval) c.reading-reading.ensures in
     rw c.in-Fit.is (refl, (rw (c.deref-in-Fit.ensures.value, base, interval, c.in-Fit.is) at c.answer_fit.ensures))
 
 pub returns-in-Rewrite : goal.returns-in-Rewrite
 returns-in-Rewrite g c =
-    let base = ap (λ seen. seen.base) c.reading.ensures in
-    let interval = ap (λ seen. seen.interval) c.reading.ensures in
+    let base = ap (λ seen. seen.base) c.reading-reading.ensures in
+    let interval = ap (λ seen. seen.interval) c.reading-reading.ensures in
     rw c.in-Rewrite.is (rw (c.deref-in-Rewrite.ensures.value, base, interval, c.in-Rewrite.is) at c.answer_rewrite.ensures)
 
 pub returns-in-Locate : goal.returns-in-Locate
 returns-in-Locate g c =
-    let base = ap (λ seen. seen.base) c.reading.ensures in
-    let interval = ap (λ seen. seen.interval) c.reading.ensures in
+    let base = ap (λ seen. seen.base) c.reading-reading.ensures in
+    let interval = ap (λ seen. seen.interval) c.reading-reading.ensures in
     let made = c.new-request.result in
     let before = streams_seen (g.R.ByteSource.seen c.args.input.now) (g.W.ByteSink.seen c.args.output.now) (g.E.ByteSink.seen c.args.errors.now) c.args.first.now in
     let new = c.answer_locate.new in
