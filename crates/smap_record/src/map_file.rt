@@ -36,6 +36,8 @@ use std::alloc::{AllocError, Global};
 use std::marker::Model;
 use url::Url;
 
+mod regular;
+
 /// A map that was read: what it states of its sources and names, and the index of its mappings.
 #[derive(Drop)]
 pub struct MapFile {
