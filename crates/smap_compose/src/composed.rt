@@ -39,7 +39,7 @@ pub struct Composed {
 
 impl Model for Composed {
     ghost use Rattle.smap_compose.specs.AsMap.{as_map};
-ghost use Rattle.smap_compose.specs.Composition.{Composition};
+    ghost use Rattle.smap_compose.specs.Composition.{Composition};
     ghost use Rattle.smap_compose.specs.Composed.{composed_seen, IsComposed};
 
     ghost Value = { Composition };

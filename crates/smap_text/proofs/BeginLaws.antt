@@ -37,8 +37,12 @@ pub some_line : (cs : List ℕ) → 0 < length (lines_of cs)
 unfolding lines_of
 some_line [] = omega arith
 some_line (c ∷ cs) =
-    omega (arith, some_line cs, ap length (from_is c (has_line_feed_first cs) (lines_of cs)),
-    length_from_by (c == 0x0D && has_line_feed_first cs) (is_line_end c) c (lines_of cs))
+    omega (
+      arith,
+      some_line cs,
+      ap length (from_is c (has_line_feed_first cs) (lines_of cs)),
+      length_from_by (c == 0x0D && has_line_feed_first cs) (is_line_end c) c (lines_of cs),
+    )
 
 -- ---- two texts, side by side
 
@@ -117,11 +121,14 @@ lines_split (c ∷ []) next is =
     ∙ omega arith in
     omega arith
 lines_split (c ∷ d ∷ cs) next is =
-    omega (arith, lines_split (d ∷ cs) next is,
-    ap length (from_is c (d == 0x0A) (lines_of (d ∷ (cs ++ next)))),
-    length_from_by (c == 0x0D && d == 0x0A) (is_line_end c) c (lines_of (d ∷ (cs ++ next))),
-    ap length (from_is c (d == 0x0A) (lines_of (d ∷ cs))),
-    length_from_by (c == 0x0D && d == 0x0A) (is_line_end c) c (lines_of (d ∷ cs)))
+    omega (
+      arith,
+      lines_split (d ∷ cs) next is,
+      ap length (from_is c (d == 0x0A) (lines_of (d ∷ (cs ++ next)))),
+      length_from_by (c == 0x0D && d == 0x0A) (is_line_end c) c (lines_of (d ∷ (cs ++ next))),
+      ap length (from_is c (d == 0x0A) (lines_of (d ∷ cs))),
+      length_from_by (c == 0x0D && d == 0x0A) (is_line_end c) c (lines_of (d ∷ cs)),
+    )
 
 -- ---- one line more, by characters
 
@@ -134,17 +141,29 @@ module _ (front rest : List ℕ) (number : ℕ) (before : lines_of front ≡ tak
     (behind : lines_of rest ≡ drop number (lines_of (front ++ rest))) where
   apart : splits front rest ≡ false
   apart = ⊎_elim
-      (λ (is : splits front rest ≡ true). absurd (omega (arith, lines_split front rest is, some_line rest, ap length before, ap length behind,
-      length-append (take number (lines_of (front ++ rest))) ([] ∷ []), length-take number (lines_of (front ++ rest)),
-      length-drop number (lines_of (front ++ rest)))))
+      (λ (is : splits front rest ≡ true). absurd (omega (
+        arith,
+        lines_split front rest is,
+        some_line rest,
+        ap length before,
+        ap length behind,
+        length-append (take number (lines_of (front ++ rest))) ([] ∷ []),
+        length-take number (lines_of (front ++ rest)),
+        length-drop number (lines_of (front ++ rest)),
+      )))
       (λ is. is) (cases_Bool (splits front rest))
 
   pub before_next : (line next : List ℕ) → rest ≡ line ++ next → lines_of line ≡ take 1 (lines_of rest) ++ [] ∷ []
       → lines_of (front ++ line) ≡ take (number + 1) (lines_of (front ++ rest)) ++ [] ∷ []
   before_next line next is whole =
       let all = lines_of (front ++ rest) in
-      let some : 0 < length line = some_in line (omega (arith, ap length whole, length-append (take 1 (lines_of rest)) ([] ∷ []),
-      length-take 1 (lines_of rest), some_line rest)) in
+      let some : 0 < length line = some_in line (omega (
+        arith,
+        ap length whole,
+        length-append (take 1 (lines_of rest)) ([] ∷ []),
+        length-take 1 (lines_of rest),
+        some_line rest,
+      )) in
       let still : splits front line ≡ false = splits_front front line next some ∙ ap (splits front) (sym is) ∙ apart in
       lines_side front line still
       ∙ ap (λ l. side_by_side l (lines_of line)) before
