@@ -1,5 +1,5 @@
 //! A composition in steps: which source's map is wanted next, and what the maps that were put come to.
-ghost use Rattle.std.specs.Prelude.{◌≡◌, ◌≢◌, ◌<◌, ◌^◌, ◌⊎◌, ◌++◌, [], None, Some, IfErr, IfOk, IfSome, IsErr, IsSome, MatchOption, OnOk, is_some, true, length, option_map, replicate, slice_get};
+ghost use Rattle.std.specs.Prelude.{◌≡◌, ◌≢◌, ◌<◌, ◌^◌, ◌⊎◌, ◌++◌, None, Some, IfErr, IfOk, IfSome, IsErr, IsSome, MatchOption, OnOk, is_some, true, length, option_map, replicate, slice_get};
 ghost use Rattle.smap_compose.specs.declared.refusal.ComposeRefusal.TheVariants.{Memory};
 ghost use Rattle.std.specs.List.{list_any};
 ghost use Rattle.std.specs.Option.{option_flatten};

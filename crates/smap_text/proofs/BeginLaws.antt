@@ -1,7 +1,7 @@
 -- Where one line after another of a text begins.
-use Rattle.std.proofs.Common.{◌≡◌, ◌∙◌, ◌+◌, ◌<◌, ◌≤◌, ◌&&◌, ℕ, zero, suc, Bool, true, false, List, [], ◌∷◌, ◌++◌, ap, arith, cond, drop, length, refl, subst, sym, take, ⊎_elim}
+use Rattle.std.proofs.Common.{◌≡◌, ◌∙◌, ◌+◌, ◌<◌, ◌&&◌, ℕ, Bool, true, false, List, [], ◌∷◌, ◌++◌, ap, arith, cond, drop, length, refl, sym, take, ⊎_elim}
 use Rattle.std.specs.Prelude.{◌==◌}
-use Rattle.std.specs.Str.{IsCharBoundary, IsUtf8, chars}
+use Rattle.std.specs.Str.{IsUtf8, chars}
 use Rattle.std.proofs.Math.Bool.{and-false}
 use Rattle.std.proofs.Math.Seq.{take-add}
 use Rattle.std.proofs.lemmas.Bool.{and_parts, cases_Bool, eqb-true}

@@ -1,4 +1,3 @@
-use Rattle.std.proofs.Common.{length}
 use Rattle.smap_record.proofs.map_file.MapFile.regular.Goals as goal
 
 pub index_of-requires-clause-sound : goal.index_of-requires-clause-sound
