@@ -285,8 +285,8 @@ uint32_t smap_inners_take(smap_inners *inners, uint32_t source, smap_map *map);
  * source of the same name leads. The map, if there is one, is put by smap_inners_put before the next call; no source is asked
  * for twice. Where all were asked for, `outer` is composed with the maps in the places, which are freed: from then on what that
  * came to stands for `outer`, and has a place for each of its sources. The new ones stand behind the others, and are asked for
- * in turn. Where it returns 1, `refusal` is 0 where no map is wanted any more, and else as for smap_compose_all, 2 also where
- * what the maps come to is too large to be read as a map; then the places stay as they were. */
+ * in turn. Where it returns 1, `refusal` is 0 where no map is wanted any more, and else as for smap_compose_all; then the
+ * places stay as they were. */
 uint32_t smap_inners_next(smap_map *outer, smap_inners *inners, uint32_t *source, uint32_t *refusal);
 
 /* Lends the name of source `source` of those that have a place, until the next call with `outer` or `inners`. Returns 1 where

@@ -3,6 +3,7 @@ use Rattle.std.specs.Prelude.{◌≡◌, ◌<◌, ◌+◌, ◌-◌, ℕ, List, O
 use Rattle.std.specs.Prelude.{if◌then◌else◌}
 use Rattle.std.specs.Str.{chars}
 use Rattle.smap_record.specs.Record.{MapRecord}
+use Rattle.smap_text.specs.Begins.{BeginsAt}
 use Rattle.smap_text.specs.Lines.{lines_of}
 use Rattle.smap_context.specs.Shown.{IsFrontOf}
 use Rattle.smap_c.specs.Texts.{flag}
@@ -36,17 +37,16 @@ around stated source line before after = option_and_then (around_in line before 
 
 -- ---- where they stand
 
--- of a content that ends with these lines, line k of them stands there
-pub record IsLineAt (content : List ℕ) (lines : List (List ℕ)) (k : ℕ) (place : LineBytes) : Type 0 where
+-- the line of this number, from 0, of a content stands there
+pub record IsLineAt (content : List ℕ) (number : ℕ) (place : LineBytes) : Type 0 where
   pub line : List ℕ
-  pub text : slice_get lines k ≡ Some (chars line)
-  pub behind : lines_of (chars (drop place.start content)) ≡ drop k lines
+  pub text : slice_get (lines_of (chars content)) number ≡ Some (chars line)
+  pub begins : BeginsAt content number place.start
   pub stands : take (length line) (drop place.start content) ≡ line
   pub front : IsFrontOf line place.length
   pub cut : place.cut ≡ flag (nat_lt place.length (length line))
 
 -- the first places are those of these lines, and the others stay
 pub record AreLines (content : List ℕ) (range : LineRange) (old new : List LineBytes) : Type 0 where
-  pub each : (k : ℕ) → k < range.count
-      → IsSomeAnd (slice_get new k) (IsLineAt content (drop range.first (lines_of (chars content))) k)
+  pub each : (k : ℕ) → k < range.count → IsSomeAnd (slice_get new k) (IsLineAt content (range.first + k))
   pub others : drop range.count new ≡ drop range.count old

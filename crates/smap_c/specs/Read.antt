@@ -46,9 +46,6 @@ IsRefusedAtWithin most bytes base interval why =
     (record_of_within most bytes base interval ≡ Err why)
     ⊎ ((why ≡ Url) × IsOkAnd (record_of_within most bytes base interval) (λ stated. NamesASource stated.sources))
 
-abbrev pub IsRefusedAt : (bytes : List ℕ) → Option Parts → (interval : ℕ) → MapRefusal → Type 0
-IsRefusedAt = IsRefusedAtWithin None
-
 -- why nothing is read, as numbers: the base is no URL, or the parser of URLs says that it is too long, or the file is
 -- refused
 abbrev pub IsRefusedWithin : (most : Option ℕ) → (bytes base : List ℕ) → (interval : ℕ) → Refusal → Type 0

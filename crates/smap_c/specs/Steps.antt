@@ -1,16 +1,15 @@
 -- A composition in steps: which source's map is wanted next, and what the maps that were put come to.
-use Rattle.std.specs.Prelude.{◌≡◌, ◌⊎◌, ℕ, zero, suc, ◌+◌, ◌-◌, Bool, ◌&&◌, ◌||◌, not, true, false, List, [], ◌∷◌, ◌++◌, Option, None, Some, Result, Ok, Err, length, replicate, slice_get, is_some, if◌then◌else◌, option_and_then, IsOkAnd, IsSomeAnd}
+use Rattle.std.specs.Prelude.{◌≡◌, ◌⊎◌, ℕ, zero, suc, ◌+◌, ◌-◌, Bool, ◌&&◌, ◌||◌, not, true, false, List, [], ◌∷◌, ◌++◌, Option, None, Some, Result, Ok, Err, length, replicate, slice_get, is_some, if◌then◌else◌, option_and_then}
 use Rattle.std.specs.List.{list_any}
 use Rattle.std.specs.Option.{option_flatten, option_map_or}
 use Rattle.std.specs.Str.{bytes_eq}
 use Rattle.smap_record.specs.MapFile.{Map}
 use Rattle.smap_record.specs.Written.{text_of_source}
-use Rattle.smap_record.specs.declared.refusal.MapRefusal.{MapRefusal}
+use Rattle.smap_compose.specs.AsMap.{as_map}
+use Rattle.smap_compose.specs.Composition.{Composition}
 use Rattle.smap_compose.specs.declared.refusal.ComposeRefusal.{ComposeRefusal}
-use Rattle.smap_compose.specs.declared.refusal.ComposeRefusal.TheVariants.{TooLarge}
-use Rattle.smap_c.specs.Composing.{all_composed_text}
+use Rattle.smap_c.specs.Composing.{all_composed_in, all_composed_text}
 use Rattle.smap_c.specs.Inners.{Places, is_free, no_maps, stated_maps, whole_of}
-use Rattle.smap_c.specs.Read.{IsReadAs, IsRefusedAt}
 use Rattle.smap_c.specs.Written.{compose_number}
 use Rattle.smap_c.specs.declared.composing.ComposeOptions.{ComposeOptions}
 
@@ -56,13 +55,17 @@ after_asking outer places = option_map_or (λ source. record places { asked = so
 abbrev pub has_maps : Places → Bool
 has_maps places = list_any is_some places.maps
 
--- the text of what the map comes to with those in the places, or why it comes to nothing
-abbrev pub text_in : Map → Places → ComposeOptions → Result (List ℕ) ComposeRefusal
-text_in outer places options = all_composed_text (whole_of outer places).stated (stated_maps places.maps) options
+-- what the map comes to with those in the places, or why it comes to nothing
+abbrev pub composed_in : Map → Places → ComposeOptions → Result Composition ComposeRefusal
+composed_in outer places options = all_composed_in (whole_of outer places).stated (stated_maps places.maps) options
 
 -- the same, of which nothing is left out
-abbrev pub whole_text_in : Map → Places → Result (List ℕ) ComposeRefusal
-whole_text_in outer places = text_in outer places (record { prune = false; no_content = false })
+abbrev pub whole_in : Map → Places → Result Composition ComposeRefusal
+whole_in outer places = composed_in outer places (record { prune = false; no_content = false })
+
+-- the text of what it comes to
+abbrev pub text_in : Map → Places → ComposeOptions → Result (List ℕ) ComposeRefusal
+text_in outer places options = all_composed_text (whole_of outer places).stated (stated_maps places.maps) options
 
 -- of the sources of these maps, those that lead to them: the maps are of the sources from this one on
 abbrev pub leads_within : (source : ℕ) → List (Option Map) → List (Option ℕ)
@@ -70,21 +73,19 @@ leads_within source [] = []
 leads_within source (inner ∷ inners) =
     replicate (option_map_or (λ map. length map.stated.sources) inner 0) (Some source) ++ leads_within (source + 1) inners
 
--- what the map and those in the places come to, is read as a map. It has places without maps, and the sources before the new
+-- what the map and those in the places come to stands for the map. It has places without maps, and the sources before the new
 -- ones were asked for
 pub record IsFollowed (outer : Map) (old new : Places) : Type 0 where
-  pub text : List ℕ
-  pub composed : whole_text_in outer old ≡ Ok text
-  pub read : IsSomeAnd new.whole (IsReadAs text [] 64)
+  pub composed : Composition
+  pub comes_to : whole_in outer old ≡ Ok composed
+  pub whole : new.whole ≡ Some (as_map composed 64)
   pub leads : new.leads ≡ old.leads ++ leads_within 0 old.maps
   pub asked : new.asked ≡ length old.maps
-  pub maps : new.maps ≡ (no_maps (length (whole_of outer new).stated.sources)).maps
+  pub maps : new.maps ≡ (no_maps (length composed.sources)).maps
 
--- why they come to none: they are not composed, or no map is read of what they come to
+-- why they come to nothing
 abbrev pub IsNotFollowed : Map → Places → ComposeRefusal → Type 0
-IsNotFollowed outer places why =
-    (whole_text_in outer places ≡ Err why)
-    ⊎ ((why ≡ TooLarge) × IsOkAnd (whole_text_in outer places) (λ text. (refusal : MapRefusal) × IsRefusedAt text None 64 refusal))
+IsNotFollowed outer places why = whole_in outer places ≡ Err why
 
 -- ---- a step
 

@@ -2,7 +2,7 @@
 ghost use Rattle.std.specs.Prelude.{◌≡◌, ◌≢◌, ◌<◌, ◌⊎◌, None, Some, Err, IfSome, IsErrAnd, IsOkAnd, IsSome, IsTrue, false, length, slice_set};
 ghost use Rattle.smap_mappings.specs.Exact.{GivesOr};
 ghost use Rattle.smap_compose.specs.declared.refusal.ComposeRefusal.TheVariants.{Memory, SourceIndex};
-ghost use Rattle.smap_c.specs.Composing.{all_composed_text};
+ghost use Rattle.smap_c.specs.Composing.{all_composed_in, all_composed_text};
 ghost use Rattle.smap_c.specs.Inners.{is_free, map_at, no_maps, stated_maps, whole_of};
 ghost use Rattle.smap_c.specs.Steps.{text_in};
 ghost use Rattle.smap_c.specs.Written.{compose_number};
@@ -11,7 +11,7 @@ use crate::handles::{BytesHandle, InnersHandle, MapHandle};
 use crate::inners::Inners;
 use crate::status::{DONE, NO_MEMORY, REFUSED};
 use crate::written::{hand_out, not_composed};
-use smap_compose::{ComposeRefusal, LeftOut, compose_all};
+use smap_compose::{ComposeRefusal, Composed, LeftOut, compose_all};
 use smap_record::MapFile;
 use std::alloc::Global;
 
@@ -146,8 +146,8 @@ pub extern "C" fn smap_compose_all(
     }
 }
 
-/// The text of the map that a map and the maps of its sources come to.
-pub(crate) fn all_composed_text(
+// The text of the map that a map and the maps of its sources come to.
+fn all_composed_text(
     alloc: Global,
     outer: &MapFile,
     inners: &Inners,
@@ -155,6 +155,22 @@ pub(crate) fn all_composed_text(
 ) -> Result<Vec<u8>, ComposeRefusal>
     ensures text { GivesOr Memory (λ text. text.items) result
         (all_composed_text outer.now.stated (stated_maps inners.now.maps) options.now) }
+    ensures counted { length outer.now.stated.sources < length inners.now.maps →
+        result ≡ Err SourceIndex }
+{
+    let composed = all_composed(alloc, outer, inners, options)?;
+    Ok(composed.write_owned(alloc)?)
+}
+
+/// The map that a map and the maps of its sources come to.
+pub(crate) fn all_composed(
+    alloc: Global,
+    outer: &MapFile,
+    inners: &Inners,
+    options: &ComposeOptions,
+) -> Result<Composed, ComposeRefusal>
+    ensures composed { GivesOr Memory (λ composed. composed) result
+        (all_composed_in outer.now.stated (stated_maps inners.now.maps) options.now) }
     ensures counted { length outer.now.stated.sources < length inners.now.maps →
         result ≡ Err SourceIndex }
 {
@@ -166,8 +182,7 @@ pub(crate) fn all_composed_text(
         unused: options.prune,
         contents: options.no_content,
     };
-    let composed = compose_all(alloc, outer, &maps, left_out)?;
-    Ok(composed.write_owned(alloc)?)
+    compose_all(alloc, outer, &maps, left_out)
 }
 
 /// Frees inner maps with their places, and leaves their handle empty.

@@ -2,6 +2,7 @@
 ghost use Rattle.std.specs.Prelude.{◌≡◌, ◌<◌, ◌≤◌, ◌+◌, ◌-◌, ℕ, IfSome, IsSome, IsSomeAnd, MatchOption, drop, length, min, nat_lt, option_map, slice_get};
 ghost use Rattle.std.specs.Str.{chars};
 ghost use Rattle.smap_text.specs.Lines.{lines_of};
+ghost use Rattle.smap_context.specs.Rest.{IsEndFrom};
 ghost use Rattle.smap_context.specs.Shown.{IsFrontOf};
 ghost use Rattle.smap_c.specs.Lines.{AreLines, IsLineAt, around, content_of};
 ghost use Rattle.smap_c.specs.Texts.{flag};
@@ -103,8 +104,8 @@ fn put_lines(content: &str, rest: &str, most: usize, lines: &mut [LineBytes]) ->
     requires end { drop (length content.now - length rest.now) content.now ≡ rest.now }
     requires places { most ≤ length lines.old }
     ensures count { result ≡ min most (length (lines_of (chars rest.now))) }
-    ensures each { (k : ℕ) → k < result →
-        IsSomeAnd (slice_get lines.new k) (IsLineAt content.now (lines_of (chars rest.now)) k) }
+    ensures each { (first k : ℕ) → IsEndFrom content.now first rest.now → k < result →
+        IsSomeAnd (slice_get lines.new k) (IsLineAt content.now (first + k)) }
     ensures others { drop result lines.new ≡ drop result lines.old }
 {
     let mut rest = rest;

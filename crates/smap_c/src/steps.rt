@@ -1,22 +1,20 @@
 //! A composition in steps: which source's map is wanted next, and what the maps that were put come to.
-ghost use Rattle.std.specs.Prelude.{◌≡◌, ◌≢◌, ◌<◌, ◌^◌, ◌⊎◌, ◌++◌, [], None, Some, IfErr, IfOk, IfSome, IsErr, IsSome, MatchOption, OnOk, is_some, true, length, option_map, replicate, slice_get};
-ghost use Rattle.smap_compose.specs.declared.refusal.ComposeRefusal.TheVariants.{Memory, TooLarge};
-ghost use Rattle.smap_record.specs.declared.refusal.MapRefusal.{MapRefusal};
+ghost use Rattle.std.specs.Prelude.{◌≡◌, ◌≢◌, ◌<◌, ◌^◌, ◌⊎◌, ◌++◌, None, Some, IfErr, IfOk, IfSome, IsErr, IsSome, MatchOption, OnOk, is_some, true, length, option_map, replicate, slice_get};
+ghost use Rattle.smap_compose.specs.declared.refusal.ComposeRefusal.TheVariants.{Memory};
 ghost use Rattle.std.specs.List.{list_any};
 ghost use Rattle.std.specs.Option.{option_flatten};
 ghost use Rattle.smap_c.specs.Inners.{maps_held, whole_of};
-ghost use Rattle.smap_c.specs.Read.{IsReadAs, IsRefusedAt};
 ghost use Rattle.smap_c.specs.Steps.{IsFollowed, IsNext, IsNotFollowed, IsStepRefused, after_asking, has_maps, is_turn_over};
 ghost use Rattle.smap_c.specs.Steps.{is_called, is_led_by, is_wanted, leads_within, name_of_source, next_wanted};
 
-use crate::composing::{ComposeOptions, all_composed_text};
+use crate::composing::{ComposeOptions, all_composed};
 use crate::handles::{InnersHandle, MapHandle};
 use crate::inners::Inners;
 use crate::status::{DONE, REFUSED};
 use crate::texts::Text;
 use crate::written::not_composed;
 use smap_compose::ComposeRefusal;
-use smap_record::{MapFile, MapRefusal, source_name};
+use smap_record::{MapFile, source_name};
 use std::alloc::{AllocError, Global};
 
 // How many segments stand between the checkpoints of a map that others came to.
@@ -25,8 +23,7 @@ const INTERVAL: u32 = 64;
 /// Asks for the map of the next source, from 0, of which one is wanted: that has a name, which none of the sources that
 /// lead to it has, and no map in its place. Where there is none, and maps are in the places, these are composed with the
 /// map, as `smap_compose_all` does; they are freed, and their sources stand behind the others from then on and are asked
-/// for. Where no map is wanted any more, it returns 1, and `refusal` is 0. Else it is 1 or 2: that of C1 or, where what they
-/// come to is too large to be composed or to be read as a map, C2.
+/// for. Where no map is wanted any more, it returns 1, and `refusal` is 0. Else it is 1 or 2: that of C1 or of C2.
 #[unsafe(no_mangle)]
 pub extern "C" fn smap_inners_next(
     alloc: Global,
@@ -161,9 +158,8 @@ impl Inners {
             prune: false,
             no_content: false,
         };
-        let text = all_composed_text(alloc, self.whole_of(outer), self, &options)?;
-        let whole = read_back(alloc, &text)?;
-        drop(text);
+        let composed = all_composed(alloc, self.whole_of(outer), self, &options)?;
+        let whole = composed.into_map(alloc, INTERVAL)?;
         let Ok(sources) = u32::try_from(whole.sources()) else {
             return Err(ComposeRefusal::Memory);
         };
@@ -252,19 +248,6 @@ fn push_times(lead: Option<u32>, times: u64, leads: &mut Vec<Option<u32>>) -> Re
         leads.push(lead)?;
     }
     Ok(())
-}
-
-// The map that is read of a text that maps came to.
-fn read_back(alloc: Global, text: &[u8]) -> Result<MapFile, ComposeRefusal>
-    ensures read { IfOk result (IsReadAs text.now [] 64) }
-    ensures refused { IfErr result (λ why. (why ≡ Memory)
-        ⊎ ((why ≡ TooLarge) × (refusal : MapRefusal) × IsRefusedAt text.now None 64 refusal)) }
-{
-    match MapFile::read(alloc, text, None, INTERVAL) {
-        Ok(map) => Ok(map),
-        Err(MapRefusal::Memory) => Err(ComposeRefusal::Memory),
-        Err(_refused) => Err(ComposeRefusal::TooLarge),
-    }
 }
 
 // The text of the name of a source, where the map has both.

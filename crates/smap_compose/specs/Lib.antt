@@ -5,5 +5,6 @@ pub mod Composition
 pub mod Pruned
 pub mod LeftOut
 pub mod Composed
+pub mod AsMap
 pub mod Codes
 pub mod Private

@@ -1,14 +1,17 @@
 //! A map that maps compose to.
-ghost use Rattle.std.specs.Prelude.{◌≡◌, ◌≤◌, ℕ, option_copied, None, false, length, string_bytes, IfOk};
+ghost use Rattle.std.specs.Prelude.{◌≡◌, ◌≤◌, ℕ, option_copied, None, true, false, length, string_bytes, IfOk};
 ghost use Rattle.std.specs.List.{All};
 ghost use Rattle.smap_mappings.specs.Canonical.{canonical_text};
 ghost use Rattle.smap_mappings.specs.Encode.{is_text_too_long, list_fault};
 ghost use Rattle.smap_mappings.specs.Exact.{GivesOr};
 ghost use Rattle.smap_mappings.specs.Mappings.{mappings_of};
 ghost use Rattle.smap_mappings.specs.Within.{IsWithin};
+ghost use Rattle.smap_index.specs.Faults.{is_interval};
+ghost use Rattle.smap_index.specs.Parts.{joined};
 ghost use Rattle.smap_record.specs.Limits.{most_listed, most_file_bytes};
 ghost use Rattle.smap_record.specs.ReadBack.{IsRegularMap, ReadsBackAs};
 ghost use Rattle.smap_record.specs.Written.{written};
+ghost use Rattle.smap_compose.specs.AsMap.{as_map};
 ghost use Rattle.smap_compose.specs.Composition.{unless_too_long};
 ghost use Rattle.smap_compose.specs.LeftOut.{contents_where};
 ghost use Rattle.smap_compose.specs.Private.Parts.{AreFit, parts_seen};
@@ -18,9 +21,10 @@ use crate::length::is_text_too_long;
 use crate::listing::{owned_names, owned_sources};
 use crate::parts::Parts;
 use crate::refusal::ComposeRefusal;
+use smap_index::laws::one_text_is_its_mappings;
 use smap_mappings::laws::lists_in_order_have_no_fault;
 use smap_mappings::{MOST_BYTES, TextWriter};
-use smap_record::{Mapping, SourceEntry, copied_text, write_owned, write_record};
+use smap_record::{MapFile, Mapping, SourceEntry, copied_text, write_owned, write_record};
 use std::alloc::{AllocError, Global};
 use std::marker::Model;
 
@@ -34,6 +38,7 @@ pub struct Composed {
 }
 
 impl Model for Composed {
+    ghost use Rattle.smap_compose.specs.AsMap.{as_map};
     ghost use Rattle.smap_compose.specs.Composition.{Composition};
     ghost use Rattle.smap_compose.specs.Composed.{composed_seen, IsComposed};
 
@@ -126,6 +131,25 @@ impl Composed {
         let text = text_of(alloc, &mappings)?;
         drop(mappings);
         write_owned(alloc, sources, names, file, text)
+    }
+
+    /// The same map with an index, as `MapFile::read` builds one: it is looked up and composed on, and no text of it is
+    /// written. The sources keep their names.
+    pub fn into_map(self, alloc: Global, k: u32) -> Result<MapFile, AllocError>
+        requires { is_interval k ≡ true }
+        ensures map { IfOk result (λ made. made ≡ as_map self k) }
+        ensures mappings { IfOk result (λ made. joined made.stated.parts ≡ self.mappings) }
+    {
+        let Composed {
+            mappings,
+            sources,
+            names,
+            file,
+        } = self;
+        let text = text_of(alloc, &mappings)?;
+        drop(mappings);
+        one_text_is_its_mappings();
+        MapFile::regular(alloc, sources, names, file, text, k)
     }
 
     // The name of the generated file, where there is one.

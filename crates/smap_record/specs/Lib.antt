@@ -14,5 +14,6 @@ pub mod Record
 pub mod Written
 pub mod ReadBack
 pub mod MapFile
+pub mod Regular
 pub mod Codes
 pub mod Private

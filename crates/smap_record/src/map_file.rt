@@ -19,6 +19,8 @@ ghost use Rattle.smap_record.specs.Sources.{source_of, with_name_at};
 ghost use Rattle.smap_record.specs.Written.{written};
 ghost use Rattle.smap_record.specs.declared.refusal.MapRefusal.TheVariants as refusals;
 
+mod regular;
+
 use crate::entry::SourceEntry;
 use crate::file_text::file_members;
 use crate::index::build_index;

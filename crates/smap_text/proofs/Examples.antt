@@ -1,6 +1,7 @@
 -- Worked examples of the definitions: each holds by computing both sides.
-use Rattle.std.proofs.Common.{◌≡◌, ℕ, List, [], ◌∷◌, ◌++◌, Some, None, refl, codes, map}
+use Rattle.std.proofs.Common.{◌≡◌, ℕ, List, [], ◌∷◌, ◌++◌, Some, None, ap, arith, length, refl, codes, map}
 use Rattle.std.specs.Str.{chars, encode_utf8_all}
+use Rattle.smap_text.specs.Begins.{BeginsAt}
 use Rattle.smap_text.specs.Excerpt.{characters_before, excerpt_of}
 use Rattle.smap_text.specs.Lines.{lines_of}
 use Rattle.smap_text.specs.Units.{units_before, units_in}
@@ -35,6 +36,23 @@ separators_end_lines = refl
 other_spaces_do_not : lines_of (0x0B ∷ 0x0C ∷ 0x85 ∷ 0x2027 ∷ 0x202A ∷ []) ≡ (0x0B ∷ 0x0C ∷ 0x85 ∷ 0x2027 ∷ 0x202A ∷ []) ∷ []
 unfolding lines_of
 other_spaces_do_not = refl
+
+-- ---- where lines begin
+
+an_empty_line_begins_at_the_end : BeginsAt (codes "a" ++ 0x0A ∷ []) 1 2
+unfolding lines_of chars
+an_empty_line_begins_at_the_end = record { boundary = (omega arith, λ below. absurd (omega arith)); before = refl; behind = refl }
+
+and_not_behind_it : BeginsAt (codes "a" ++ 0x0A ∷ []) 1 1000 → ⊥
+and_not_behind_it begins = let within = begins.boundary.0 in omega arith
+
+no_line_begins_between_cr_and_lf : BeginsAt (0x0D ∷ 0x0A ∷ codes "b") 0 1 → ⊥
+unfolding lines_of chars
+no_line_begins_between_cr_and_lf begins = let before = ap length begins.before in absurd (omega arith)
+
+nor_behind_another_end : BeginsAt (codes "a" ++ 0x0A ∷ 0x0D ∷ 0x0A ∷ codes "b") 2 3 → ⊥
+unfolding lines_of chars
+nor_behind_another_end begins = let behind = ap length begins.behind in absurd (omega arith)
 
 -- ---- units
 

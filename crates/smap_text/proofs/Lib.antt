@@ -1,6 +1,7 @@
 mod CharacterLaws
 mod EndLaws
 mod LineLaws
+pub mod BeginLaws
 mod UnitLaws
 mod PlaceLaws
 mod ExcerptLaws

@@ -7,6 +7,7 @@ use Rattle.std.proofs.lemmas.List.{append_assoc, length-append, take_at, drop_at
 use Rattle.std.proofs.lemmas.Str.{char_from_byte, length-encode, len_utf8_bounds, chars-encodes, encodes-append, IsCharBoundary-at_seam, IsCharBoundary-end}
 use lib.Utf8.{encode, encodes, scalar, scalars}
 use Rattle.smap_text.specs.Private.Ends.{end_bytes, line_bytes}
+use Rattle.smap_text.specs.Begins.{BeginsAt}
 use Rattle.smap_text.specs.Lines.{IsRestFrom, is_line_end, lines_from, lines_of, with_front}
 use Rattle.smap_text.proofs.EndLaws.{byte_ends, cr_ends, character_passes, ends_are, others_are, read_from}
 
@@ -17,7 +18,7 @@ pub data FirstLine : List ℕ → Type 0 where
   last : {cs : List ℕ} → lines_of cs ≡ cs ∷ [] → line_bytes (encodes cs) ≡ length (encodes cs) → FirstLine cs
   ended : {cs : List ℕ} (first ending rest : List ℕ) → cs ≡ first ++ (ending ++ rest) → lines_of cs ≡ first ∷ lines_of rest
       → line_bytes (encodes cs) ≡ length (encodes first) → end_bytes (encodes (ending ++ rest)) ≡ length (encodes ending)
-      → 0 < length (encodes ending) → FirstLine cs
+      → 0 < length (encodes ending) → lines_of (first ++ ending) ≡ first ∷ [] ∷ [] → FirstLine cs
 
 lines_go_on : (c : ℕ) (cs : List ℕ) → is_line_end c ≡ false → lines_of (c ∷ cs) ≡ with_front c (lines_of cs)
 unfolding lines_of
@@ -27,30 +28,30 @@ goes_on : (c : ℕ) (cs : List ℕ) → scalar c ≡ true → is_line_end c ≡ 
 goes_on c cs is no_end (last lines bytes) =
     let more : line_bytes (encode c ++ encodes cs) ≡ length (encode c) + line_bytes (encodes cs) = character_passes c is no_end (encodes cs) in
     last (lines_go_on c cs no_end ∙ ap (with_front c) lines) (omega (arith, length-append (encode c) (encodes cs)))
-goes_on c cs is no_end (ended first ending rest whole lines bytes end some) =
+goes_on c cs is no_end (ended first ending rest whole lines bytes end some one) =
     let more : line_bytes (encode c ++ encodes cs) ≡ length (encode c) + line_bytes (encodes cs) = character_passes c is no_end (encodes cs) in
     ended (c ∷ first) ending rest (ap (λ l. c ∷ l) whole) (lines_go_on c cs no_end ∙ ap (with_front c) lines)
-    (omega (arith, length-append (encode c) (encodes first))) end some
+    (omega (arith, length-append (encode c) (encodes first))) end some (lines_go_on c (first ++ ending) no_end ∙ ap (with_front c) one)
 
 ends_in_lf : (cs : List ℕ) → FirstLine (0x0A ∷ cs)
 unfolding lines_of encode line_bytes
-ends_in_lf cs = ended [] (0x0A ∷ []) cs refl refl refl refl (omega arith)
+ends_in_lf cs = ended [] (0x0A ∷ []) cs refl refl refl refl (omega arith) refl
 
 ends_in_line_separator : (cs : List ℕ) → FirstLine (0x2028 ∷ cs)
 unfolding lines_of encode line_bytes
-ends_in_line_separator cs = ended [] (0x2028 ∷ []) cs refl refl refl refl (omega arith)
+ends_in_line_separator cs = ended [] (0x2028 ∷ []) cs refl refl refl refl (omega arith) refl
 
 ends_in_paragraph_separator : (cs : List ℕ) → FirstLine (0x2029 ∷ cs)
 unfolding lines_of encode line_bytes
-ends_in_paragraph_separator cs = ended [] (0x2029 ∷ []) cs refl refl refl refl (omega arith)
+ends_in_paragraph_separator cs = ended [] (0x2029 ∷ []) cs refl refl refl refl (omega arith) refl
 
 ends_in_cr_lf : (cs : List ℕ) → FirstLine (0x0D ∷ 0x0A ∷ cs)
 unfolding lines_of encode line_bytes
-ends_in_cr_lf cs = ended [] (0x0D ∷ 0x0A ∷ []) cs refl refl refl refl (omega arith)
+ends_in_cr_lf cs = ended [] (0x0D ∷ 0x0A ∷ []) cs refl refl refl refl (omega arith) refl
 
 ends_in_last_cr : FirstLine (0x0D ∷ [])
 unfolding lines_of encode line_bytes
-ends_in_last_cr = ended [] (0x0D ∷ []) [] refl refl refl refl (omega arith)
+ends_in_last_cr = ended [] (0x0D ∷ []) [] refl refl refl refl (omega arith) refl
 
 -- the byte after a CR is an LF only where the character is
 no_line_feed : (d : ℕ) (ds : List ℕ) → eqb d 0x0A ≡ false → eqb (get_or (encode d ++ encodes ds) 0 0) 0x0A ≡ false
@@ -67,7 +68,7 @@ unfolding lines_of encode
 ends_in_cr d ds other =
     let end : end_bytes (0x0D ∷ (encode d ++ encodes ds)) ≡ 1 = cr_ends (encode d ++ encodes ds) (no_line_feed d ds other) in
     ended [] (0x0D ∷ []) (d ∷ ds) refl (lines_after_cr (eqb d 0x0A) (lines_of (d ∷ ds)) other)
-    (byte_ends 0x0D (encode d ++ encodes ds) (omega arith)) end (omega arith)
+    (byte_ends 0x0D (encode d ++ encodes ds) (omega arith)) end (omega arith) refl
 
 ends_in_any_cr : (cs : List ℕ) → FirstLine (0x0D ∷ cs)
 ends_in_any_cr [] = ends_in_last_cr
@@ -107,6 +108,7 @@ pub record FirstBytes (text : List ℕ) (line end : ℕ) : Type 0 where
   pub first : slice_get (lines_of (chars text)) 0 ≡ Some (chars (take line text))
   pub last : end ≡ 0 → drop 1 (lines_of (chars text)) ≡ []
   pub after : 0 < end → IsCharBoundary text (line + end) × (drop 1 (lines_of (chars text)) ≡ lines_of (chars (drop (line + end) text)))
+      × (lines_of (chars (take (line + end) text)) ≡ chars (take line text) ∷ [] ∷ [])
 
 last_bytes : (cs : List ℕ) → scalars cs ≡ true → lines_of cs ≡ cs ∷ [] → FirstBytes (encodes cs) (length (encodes cs)) 0
 last_bytes cs is lines =
@@ -120,8 +122,9 @@ last_bytes cs is lines =
     }
 
 ended_bytes : (first ending rest : List ℕ) → scalars (first ++ (ending ++ rest)) ≡ true → lines_of (first ++ (ending ++ rest)) ≡ first ∷ lines_of rest
-    → 0 < length (encodes ending) → FirstBytes (encodes (first ++ (ending ++ rest))) (length (encodes first)) (length (encodes ending))
-ended_bytes first ending rest is lines some =
+    → 0 < length (encodes ending) → lines_of (first ++ ending) ≡ first ∷ [] ∷ []
+    → FirstBytes (encodes (first ++ (ending ++ rest))) (length (encodes first)) (length (encodes ending))
+ended_bytes first ending rest is lines some one =
     let is_first = scalars_parts first (ending ++ rest) is in
     let is_rest = scalars_parts ending rest is_first.1 in
     let text : List ℕ = encodes (first ++ (ending ++ rest)) in
@@ -135,6 +138,11 @@ ended_bytes first ending rest is lines some =
     let dropped : drop (length (encodes first) + length (encodes ending)) text ≡ encodes rest =
     ap (drop (length (encodes first) + length (encodes ending))) later
     ∙ drop_at (encodes first ++ encodes ending) (encodes rest) (length (encodes first) + length (encodes ending)) both in
+    let front : take (length (encodes first) + length (encodes ending)) text ≡ encodes (first ++ ending) =
+    ap (take (length (encodes first) + length (encodes ending))) later
+    ∙ take_at (encodes first ++ encodes ending) (encodes rest) (length (encodes first) + length (encodes ending)) both
+    ∙ sym (encodes-append first ending) in
+    let is_front = scalars_parts (first ++ ending) rest (ap scalars (append_assoc first ending rest) ∙ is) in
     record {
       boundary = IsCharBoundary-at_seam text (encodes first) (encodes (ending ++ rest)) seam (ending ++ rest, (is_first.1, refl));
       first = ap (λ l. slice_get (lines_of l) 0) back ∙ ap (λ l. slice_get l 0) lines ∙ ap Some (sym (ap chars taken ∙ chars-encodes first is_first.0));
@@ -142,6 +150,8 @@ ended_bytes first ending rest is lines some =
       after = λ _. (
         subst (λ n. IsCharBoundary text n) both (IsCharBoundary-at_seam text (encodes first ++ encodes ending) (encodes rest) later (rest, (is_rest.1, refl))),
         ap (λ l. drop 1 (lines_of l)) back ∙ ap (drop 1) lines ∙ ap lines_of (sym (ap chars dropped ∙ chars-encodes rest is_rest.1)),
+        ap lines_of (ap chars front ∙ chars-encodes (first ++ ending) is_front.0) ∙ one
+            ∙ ap (λ l. l ∷ [] ∷ []) (sym (ap chars taken ∙ chars-encodes first is_first.0)),
       );
     }
 
@@ -157,13 +167,13 @@ found text line end at_line at_end bytes =
 found_of : (cs : List ℕ) → scalars cs ≡ true → FirstLine cs → IsFound (encodes cs)
 found_of cs is (last lines bytes) =
     found (encodes cs) (length (encodes cs)) 0 bytes (ap end_bytes (drop_all (length (encodes cs)) (encodes cs) (omega arith))) (last_bytes cs is lines)
-found_of cs is (ended first ending rest whole lines bytes end some) =
+found_of cs is (ended first ending rest whole lines bytes end some one) =
     let seam : encodes cs ≡ encodes first ++ encodes (ending ++ rest) = ap encodes whole ∙ encodes-append first (ending ++ rest) in
     let after : drop (length (encodes first)) (encodes cs) ≡ encodes (ending ++ rest) =
     ap (drop (length (encodes first))) seam ∙ drop_at (encodes first) (encodes (ending ++ rest)) (length (encodes first)) refl in
     found (encodes cs) (length (encodes first)) (length (encodes ending)) bytes (ap end_bytes after ∙ end)
     (subst (λ l. FirstBytes (encodes l) (length (encodes first)) (length (encodes ending))) (sym whole)
-    (ended_bytes first ending rest (ap scalars (sym whole) ∙ is) (ap lines_of (sym whole) ∙ lines) some))
+    (ended_bytes first ending rest (ap scalars (sym whole) ∙ is) (ap lines_of (sym whole) ∙ lines) some one))
 
 pub first_bytes : (text : List ℕ) → IsUtf8 text → FirstBytes text (line_bytes text) (end_bytes (drop (line_bytes text) text))
 unfolding IsFound
@@ -180,6 +190,18 @@ pub end_read : (text bytes : List ℕ) (line end : ℕ) → IsUtf8 text → byte
 end_read text bytes line end is_text same at read =
     subst (λ n. FirstBytes text line n) (sym (read_from end line bytes read ∙ ap (λ l. end_bytes (drop line l)) same))
     (first_read text bytes line is_text same at)
+
+take_first : (lines : List (List ℕ)) (first : List ℕ) → slice_get lines 0 ≡ Some first → take 1 lines ≡ first ∷ []
+take_first [] first is = absurd (cc)
+take_first (line ∷ lines) first is = let same : line ≡ first = cc in ap (λ l. l ∷ []) same
+
+-- behind the end begins the second line
+pub second_begins : {text : List ℕ} {line end : ℕ} → FirstBytes text line end → 0 < end → BeginsAt text 1 (line + end)
+second_begins {text} {line} {end} bytes some = record {
+  boundary = (bytes.after some).0;
+  before = (bytes.after some).2 ∙ ap (λ l. l ++ [] ∷ []) (sym (take_first (lines_of (chars text)) (chars (take line text)) bytes.first));
+  behind = sym (bytes.after some).1;
+}
 
 -- ---- line after line
 

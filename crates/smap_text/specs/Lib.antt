@@ -1,4 +1,5 @@
 pub mod Lines
+pub mod Begins
 pub mod Units
 pub mod Place
 pub mod Shown

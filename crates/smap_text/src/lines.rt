@@ -2,6 +2,7 @@
 ghost use Rattle.std.specs.Prelude.{◌≡◌, ◌≤◌, ◌-◌, [], ◌∷◌, length, drop, take, Some, option_copied, option_map, slice_get, IfSome, MatchOption};
 ghost use Rattle.std.specs.Str.{chars};
 ghost use Rattle.smap_text.specs.Private.Ends.{end_bytes, line_bytes};
+ghost use Rattle.smap_text.specs.Begins.{BeginsAt};
 ghost use Rattle.smap_text.specs.Lines.{IsSliceAt, lines_behind, lines_of};
 
 /// The line of this number, from 0, without its line end; `None` where there are fewer. Lines end in LF, CR LF, CR,
@@ -25,6 +26,8 @@ pub fn split_line(text: &str) -> (&str, Option<&str>)
     ensures front { take (length result.0.now) text.now ≡ result.0.now }
     ensures rest { IfSome result.1 (λ rest.
         drop (length text.now - length rest.now) text.now ≡ rest.now) }
+    ensures begins { IfSome result.1 (λ rest.
+        BeginsAt text.now 1 (length text.now - length rest.now)) }
 {
     let bytes = text.as_bytes();
     let end = line_bytes(bytes);

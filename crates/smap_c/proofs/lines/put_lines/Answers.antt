@@ -22,8 +22,9 @@ loop-number-preserved c =
     let within : c.loop-number.number < length c.loop-number.lines = omega (arith, so_far.places) in (
       search rules,
       put_next c.args.content.now c.args.rest.now c.loop-number.number c.loop-number.rest.now c.args.lines.now c.loop-number.lines so_far
-          c.split_line.result.0.now behind c.line_bytes.result put c.in-Some.next.now (ap (λ o. lines_behind (option_copied o)) c.in-Some.is)
-          (rw c.in-Some.is at c.split_line.ensures.rest) within,
+          c.split_line.result.0.now behind c.line_bytes.result put c.in-Some.next.now c.utf8.content
+          (ap (λ o. lines_behind (option_copied o)) c.in-Some.is) (rw c.in-Some.is at c.split_line.ensures.rest)
+          (rw c.in-Some.is at c.split_line.ensures.begins) within,
     )
 
 pub returns-in-None-clause-count : goal.returns-in-None-clause-count
@@ -43,7 +44,7 @@ returns-in-None-clause-count c =
     omega (arith, all)
 
 pub returns-in-None-clause-each : goal.returns-in-None-clause-each
-returns-in-None-clause-each c =
+returns-in-None-clause-each c first k is below =
     let so_far = c.loop-number.invariant.1 in
     let behind = lines_behind (option_copied c.split_line.result.1) in
     let put : IsPut c.args.content.now c.loop-number.rest.now c.split_line.result.0.now behind c.line_bytes.result = record {
@@ -55,10 +56,13 @@ returns-in-None-clause-each c =
     } in
     let within : c.loop-number.number < length c.loop-number.lines = omega (arith, so_far.places) in
     put_each c.args.content.now c.args.rest.now c.loop-number.number c.loop-number.rest.now c.args.lines.now c.loop-number.lines so_far
-    c.split_line.result.0.now behind c.line_bytes.result put within
+    c.split_line.result.0.now behind c.line_bytes.result put within first is k below
 
 pub returns-clause-count : goal.returns-clause-count
 returns-clause-count c =
     let more = more_left c.args.content.now c.args.rest.now c.loop-number.number c.loop-number.rest.now c.args.lines.now c.loop-number.lines
     c.loop-number.invariant.1 in
     omega (arith, more)
+
+pub returns-clause-each : goal.returns-clause-each
+returns-clause-each c first k is below = c.loop-number.invariant.1.each first is k (omega arith)

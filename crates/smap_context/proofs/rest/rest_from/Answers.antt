@@ -6,7 +6,7 @@ use Rattle.smap_context.proofs.EndLaws.{ends_next, ends_there, ends_whole}
 use Rattle.smap_context.proofs.rest.rest_from.Goals as goal
 
 pub loop-passed-init : goal.loop-passed-init
-loop-passed-init c = (search rules, ends_whole c.args.text.now)
+loop-passed-init c = (search rules, ends_whole c.args.text.now c.utf8.text)
 
 pub returns-in_err-rest : goal.returns-in_err-rest
 returns-in_err-rest c =
@@ -19,6 +19,7 @@ pub loop-passed-preserved : goal.loop-passed-preserved
 loop-passed-preserved c = (
   search rules,
   ends_next c.args.text.now c.loop-passed._passed c.loop-passed.rest.now c.in_ok-rest.rest.now (chars c.split_line.result.0.now)
-      (lines_behind (option_copied c.split_line.result.1)) c.loop-passed.invariant.1 c.split_line.ensures.lines
-      (ap (λ o. lines_behind (option_copied o)) c.in_ok-rest.was) (rw c.in_ok-rest.was at c.split_line.ensures.rest),
+      (lines_behind (option_copied c.split_line.result.1)) c.utf8.text c.loop-passed.invariant.1 c.split_line.ensures.lines
+      (ap (λ o. lines_behind (option_copied o)) c.in_ok-rest.was) (rw c.in_ok-rest.was at c.split_line.ensures.rest)
+      (rw c.in_ok-rest.was at c.split_line.ensures.begins),
 )
