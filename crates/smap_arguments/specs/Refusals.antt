@@ -1,5 +1,5 @@
 -- Why the arguments of the command line give no command.
-use Rattle.std.specs.Prelude.{◌≡◌, ◌≢◌, ◌++◌, ◌%◌, ◌&&◌, ◌⊎◌, ◌∷◌, ℕ, Bool, true, false, codes, length, List, [], Err, None, Ok, Option, Result, Some, String, find, is_some, not, ⊤}
+use Rattle.std.specs.Prelude.{◌≡◌, ◌≢◌, ◌≤◌, ◌++◌, ◌%◌, ◌&&◌, ◌⊎◌, ◌∷◌, ℕ, Bool, true, false, codes, length, List, [], Err, None, Ok, Option, Result, Some, String, find, is_some, not, ⊤}
 use Rattle.std.specs.declared.alloc.Global.{Global}
 use Rattle.std.specs.Option.{IsSome}
 use Rattle.std.specs.String.{string_bytes}
@@ -75,9 +75,10 @@ ReportsBadBase rows text = (text ≡ bad_base_line)
     × ((base : Text) × (error : ParseError) × GivesText rows (codes "URL") base × (parse_url None base ≡ Err error)
     × (¬ (IsOutOfRoom error)))
 
--- it is reported that the base is too long: any that is given may be, since no definition of url's says when one is
+-- it is reported that the base is too long: any of 1 MiB or more may be, since no definition of url's says when one is
 abbrev pub ReportsLongBase : List Row → Text → Type 0
-ReportsLongBase rows text = (text ≡ long_base_line) × ((base : Text) × GivesText rows (codes "URL") base)
+ReportsLongBase rows text =
+    (text ≡ long_base_line) × ((base : Text) × GivesText rows (codes "URL") base × (1048576 ≤ length base))
 
 -- it is reported why the base that is given is none
 abbrev pub ReportsOfBase : List Row → Text → Type 0
