@@ -1,7 +1,7 @@
 -- What the arguments ask for, where clap finds no fault in them.
-use Rattle.std.proofs.Common.{◌≡◌, ◌∙◌, ◌||◌, ◌&&◌, ◌⊎◌, ⊎_elim, ℕ, Bool, true, false, refl, sym, subst, ap, inl, inr, List, [], ◌∷◌, not, fold, find}
+use Rattle.std.proofs.Common.{◌≡◌, ◌∙◌, ◌||◌, ◌&&◌, ◌⊎◌, ⊎_elim, ℕ, Bool, true, false, refl, sym, subst, inl, inr, List, [], ◌∷◌, not, fold, find}
 use Rattle.std.proofs.Common.{Option, Some, None, true≢false, codes, cond, is_some}
-use Rattle.std.specs.Prelude.{⊤, option_map, unwrap_or}
+use Rattle.std.specs.Prelude.{⊤, Err, IfErr, IfOk, Ok, Result, option_map, string_bytes, unwrap_or}
 use Rattle.std.specs.List.{list_any}
 use Rattle.std.proofs.lemmas.Slice.Eq.{bytes_eq-Decides}
 use Rattle.std.specs.Option.{option_map_or}
@@ -10,7 +10,7 @@ use Rattle.clap.specs.Walk.{Row, Rule, Text, answers_to, finished, nothing_held,
 use Rattle.clap.specs.declared.parser.matches.ArgMatches.{ArgMatches}
 use Rattle.clap.specs.Simple.{App, HasMatchesOf, subcommand_rows_of, Shape, argument_words, built, built_leaf, entered, filled, help_rule, is_simple}
 use Rattle.clap.specs.Simple.{label_of, names_of, new_rule, rows_at, subcommand_of, with_index}
-use Rattle.clap.specs.Kinds.{HasKind, check_kinds}
+use Rattle.clap.specs.Kinds.{HasKind, IsAmong, check_kinds}
 use Rattle.clap.specs.Faults.{check_fault, is_simple_and_free, entered_fault, fault_of, defaults_fault, level_fault, settle_fault, walk_fault}
 use Rattle.clap.specs.Takes.{is_given}
 use Rattle.clap.specs.ValueTests.{accepts}
@@ -20,15 +20,17 @@ use Rattle.clap.specs.declared.builder.action.ArgAction.TheVariants.{Append, Set
 use Rattle.clap.specs.declared.builder.value_parser.ValueParser.{ValueParser}
 use Rattle.clap.specs.declared.builder.value_parser.ValueParser.TheVariants as parser
 use Rattle.clap.specs.declared.error.Error.{Error}
-use Rattle.clap.specs.declared.error.kind.ErrorKind.TheVariants.{DisplayHelp, DisplayVersion, OutOfMemory}
+use Rattle.clap.specs.declared.error.kind.ErrorKind.{ErrorKind}
+use Rattle.clap.specs.declared.error.kind.ErrorKind.TheVariants.{OutOfMemory}
 use Rattle.smap_arguments.specs.CommandLine.{base_rule, bytes_number, bytes_rule, check, compose, content_rule, context_number, context_rule, flag_rule, interval_number, interval_rule}
-use Rattle.smap_arguments.specs.CommandLine.{explain, fit, generated, list_rule, locate, lookup, mappings, named, number, order_rule, positions, raw, repeated_rule, rewrite, show, smap, smap_generated, source_number, sources}
+use Rattle.smap_arguments.specs.CommandLine.{explain, fit, generated, list_rule, locate, lookup, mappings, named, number, order_rule, positions, raw, repeated_rule, rewrite, show, smap, smap_with, source_number, sources}
 use Rattle.smap_arguments.specs.CommandLine.{whole_name}
-use Rattle.smap_arguments.specs.Line.{asks_generated, line_for, line_of}
+use Rattle.smap_arguments.specs.Line.{asks_generated, is_lookup, line_for, line_of}
 use Rattle.smap_arguments.specs.declared.usage.Usage.{Usage}
 use Rattle.smap_arguments.specs.declared.usage.Usage.TheVariants.{Help, Words, Memory}
-use Rattle.smap_arguments.specs.Arguments.{HasArguments, HasCommand, HasValue, HasValues}
-use Rattle.smap_arguments.specs.Refusals.{IsNamedRefusal, IsUsageOf, IsRefusalOf, SubcommandReports}
+use Rattle.smap_arguments.specs.Arguments.{HasArguments, HasCommand, HasValue, HasValues, IsInRange, SubcommandAsksFor}
+use Rattle.smap_arguments.specs.Refusals.{IsNamedRefusal, IsRead, IsUsageOf, IsRefusalOf, SubcommandReports}
+use Rattle.smap_command.specs.declared.command.Command.{Command}
 use Rattle.smap_arguments.proofs.Rows.{AreReadRows, Keeps, first_none, flag_at, flag_default_keeps, flag_keeps, given_value, help_keeps}
 use Rattle.smap_arguments.proofs.Rows.{long_option_keeps, more_option_keeps, more_values_keeps, named_option_keeps, no_default_keeps, second_none}
 use Rattle.smap_arguments.proofs.Rows.{settle_keeps, text_value, value_keeps, walk_keeps}
@@ -424,7 +426,13 @@ each_gives word no_help = (
   ),
 )
 
-generated_gives : (word : Text) → bytes_eq word (codes "help") ≡ false → EachGives true smap_generated word
+lookup_gives : (word : Text) → bytes_eq word (codes "help") ≡ false → EachGives false (smap_with lookup) word
+lookup_gives word no_help = (
+  λ answers. level_gives at_argument (built_leaf lookup.top) lookup_plain,
+  (λ answers. absurd (no_help_named word no_help (bytes_eq (codes "help") word) refl answers), tt),
+)
+
+generated_gives : (word : Text) → bytes_eq word (codes "help") ≡ false → EachGives true (smap_with generated) word
 generated_gives word no_help = (
   λ answers. level_gives at_generated (built_leaf generated.top) generated_plain,
   (λ answers. absurd (no_help_named word no_help (bytes_eq (codes "help") word) refl answers), tt),
@@ -463,70 +471,65 @@ module _ (is_generated : Bool) (app : App) (gives : (word : Text) → bytes_eq w
       stopped_command stop (walk_names top names helps rest (walk_from nothing_held) walked_none tt)
       (wants (finished top.rules end) (is_some (entered (built app) stop)) last) entered_none
 
-wants_subcommand : (rows : List Row) (has : Bool) → check_fault (built smap).top rows has ≡ [] → has ≡ true
-wants_subcommand rows true none = refl
-wants_subcommand rows false none = cc
-
-wants_lookup : (rows : List Row) (has : Bool) → check_fault (built smap_generated).top rows has ≡ [] → has ≡ true
-wants_lookup rows true none = refl
-wants_lookup rows false none = cc
+wants_subcommand : (is_generated is_lookup : Bool) (rows : List Row) (has : Bool) → check_fault (built (line_for is_generated is_lookup)).top rows has ≡ []
+    → has ≡ true
+wants_subcommand is_generated is_lookup rows true none = refl
+wants_subcommand true is_lookup rows false none = cc
+wants_subcommand false true rows false none = cc
+wants_subcommand false false rows false none = cc
 
 -- where clap finds no fault in the arguments, they name a subcommand and give it its arguments
-line_asked : (is_generated : Bool) (arguments : List Text) → fault_of (line_for is_generated) arguments ≡ []
-    → HasCommand is_generated (subcommand_of (line_for is_generated) arguments)
-line_asked true = command_asked true smap_generated generated_gives refl wants_lookup
-line_asked false = command_asked false smap each_gives refl wants_subcommand
+line_asked : (is_generated is_lookup : Bool) (arguments : List Text) → fault_of (line_for is_generated is_lookup) arguments ≡ []
+    → HasCommand is_generated (subcommand_of (line_for is_generated is_lookup) arguments)
+line_asked true is_lookup = command_asked true (smap_with generated) generated_gives refl (wants_subcommand true is_lookup)
+line_asked false true = command_asked false (smap_with lookup) lookup_gives refl (wants_subcommand false true)
+line_asked false false = command_asked false smap each_gives refl (wants_subcommand false false)
 
 -- ---- what `parse` cites
 
-pub line_is_simple : (is_generated : Bool) → (is_simple_and_free (line_for is_generated) ≡ true) × (is_simple (line_for is_generated) ≡ true)
+line_is_simple : (is_generated is_lookup : Bool) → (is_simple_and_free (line_for is_generated is_lookup) ≡ true)
+    × (is_simple (line_for is_generated is_lookup) ≡ true)
 unfolding clap_on_literals
-line_is_simple true = (refl, refl)
-line_is_simple false = (refl, refl)
+line_is_simple true is_lookup = (refl, refl)
+line_is_simple false true = (refl, refl)
+line_is_simple false false = (refl, refl)
 
 -- a parse by the command that reads these arguments
-module _ (arguments : List Text) (is_generated : Bool) (asks : is_generated ≡ asks_generated arguments) (a : App) (is : a ≡ line_for is_generated) where
-  line_is : a ≡ line_of arguments
-  line_is = is ∙ ap line_for asks
+module _ (arguments : List Text) (a : App) (is : a ≡ line_of arguments) where
+  simple : (is_simple_and_free a ≡ true) × (is_simple a ≡ true)
+  simple = subst (λ b. (is_simple_and_free b ≡ true) × (is_simple b ≡ true)) (sym is) (line_is_simple (asks_generated arguments) (is_lookup arguments))
 
   -- what it gives
   pub parsed_line : (m : ArgMatches) → (is_simple_and_free a ≡ true → fault_of a arguments ≡ []) → HasMatchesOf a arguments m
       → (fault_of (line_of arguments) arguments ≡ []) × (subcommand_of (line_of arguments) arguments ≡ subcommand_rows_of m)
-  parsed_line m none matches =
-      let found = subst (λ b. HasMatchesOf b arguments m) line_is matches in
-      let simple = line_is_simple (asks_generated arguments) in
-      (subst (λ b. is_simple_and_free b ≡ true → fault_of b arguments ≡ []) line_is none simple.0, sym (found simple.1).1)
+  parsed_line m none matches = subst (λ b. (fault_of b arguments ≡ []) × (subcommand_of b arguments ≡ subcommand_rows_of m)) is
+      (none simple.0, sym (matches simple.1).1)
 
   pub line_command : (m : ArgMatches) → (is_simple_and_free a ≡ true → fault_of a arguments ≡ []) → HasMatchesOf a arguments m
-      → HasCommand is_generated (subcommand_rows_of m)
+      → HasCommand (asks_generated arguments) (subcommand_rows_of m)
   line_command m none matches =
       let parsed = parsed_line m none matches in
-      subst (λ b. HasCommand b (subcommand_rows_of m)) (sym asks)
-      (subst (HasCommand (asks_generated arguments)) parsed.1 (line_asked (asks_generated arguments) arguments parsed.0))
+      subst (HasCommand (asks_generated arguments)) parsed.1 (line_asked (asks_generated arguments) (is_lookup arguments) arguments parsed.0)
 
-  pub failed_line : (e : Error) (usage : Usage) → (is_simple_and_free a ≡ true → HasKind (fault_of a arguments) e) → IsUsageOf (kind_of e) usage
-      → IsRefusalOf arguments usage
-  failed_line e usage fails is = refusal_of usage
-      (subst (λ b. is_simple_and_free b ≡ true → HasKind (fault_of b arguments) e) line_is fails (line_is_simple (asks_generated arguments)).0) is
-    where
-      refusal_of : (usage : Usage) → HasKind (fault_of (line_of arguments) arguments) e → IsUsageOf (kind_of e) usage → IsRefusalOf arguments usage
-      refusal_of (Help text) kind is = elim kind [
-        | inl memory ↦ elim is [
-          | inl help ↦ let bad : OutOfMemory ≡ DisplayHelp = sym memory ∙ help in cc
-          | inr version ↦ let bad : OutOfMemory ≡ DisplayVersion = sym memory ∙ version in cc
-        ]
-        | inr among ↦ (kind_of e, among, is)
-      ]
-      refusal_of (Words text) kind is = elim kind [
-        | inl memory ↦ absurd (is.1 memory)
-        | inr among ↦ inl (kind_of e, among, is.0)
-      ]
-      refusal_of Memory kind is = tt
+  pub failed_line : (e : Error) → (is_simple_and_free a ≡ true → HasKind (fault_of a arguments) e) → (kind_of e ≡ OutOfMemory → ⊥)
+      → IsAmong (kind_of e) (fault_of (line_of arguments) arguments)
+  failed_line e fails other = elim (subst (λ b. HasKind (fault_of b arguments) e) is (fails simple.0)) [ inl memory ↦ absurd (other memory) | inr among ↦ among ]
 
--- where clap finds no fault in the arguments, but the base or what else a command is given is refused
-pub named_refused : (arguments : List Text) (usage : Usage) → fault_of (line_of arguments) arguments ≡ []
-    → IsNamedRefusal (SubcommandReports (asks_generated arguments) (subcommand_of (line_of arguments) arguments)) usage
+-- what is told of a fault
+pub failed_usage : (arguments : List Text) (kind : ErrorKind) (usage : Usage) → IsAmong kind (fault_of (line_of arguments) arguments) → IsUsageOf kind usage
     → IsRefusalOf arguments usage
-named_refused arguments (Help text) none refused = absurd refused
-named_refused arguments (Words text) none refused = inr (none, refused)
-named_refused arguments Memory none refused = tt
+failed_usage arguments kind (Help text) among is = (kind, among, is)
+failed_usage arguments kind (Words text) among is = inl (kind, among, is)
+failed_usage arguments kind Memory among is = tt
+
+-- what is read where clap finds no fault in the arguments
+pub read_line : (arguments : List Text) (subcommand : Option (Text × List Row)) → fault_of (line_of arguments) arguments ≡ []
+    → subcommand_of (line_of arguments) arguments ≡ subcommand → (read : Result Command Usage)
+    → IfOk read (SubcommandAsksFor (asks_generated arguments) subcommand) → IfOk read IsInRange
+    → IfErr read (IsNamedRefusal (SubcommandReports (asks_generated arguments) subcommand)) → IsRead arguments (Ok read)
+read_line arguments subcommand none is (Ok command) asked in_range refused =
+    ((none, subst (λ s. SubcommandAsksFor (asks_generated arguments) s command) (sym is) asked), in_range)
+read_line arguments subcommand none is (Err (Help text)) asked in_range refused = refused
+read_line arguments subcommand none is (Err (Words text)) asked in_range refused =
+    (none, subst (λ s. SubcommandReports (asks_generated arguments) s (string_bytes text)) (sym is) refused)
+read_line arguments subcommand none is (Err Memory) asked in_range refused = tt

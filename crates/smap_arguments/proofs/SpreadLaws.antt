@@ -1,43 +1,61 @@
 -- A position that is one word.
 use Rattle.std.proofs.Common.{◌≡◌, ◌∙◌, ◌<◌, ◌+◌, ℕ, Bool, true, false, List, [], ◌∷◌, ◌++◌, length, drop, Option, Some, None, refl, sym, ap, subst}
-use Rattle.std.proofs.Common.{◌≤◌, ◌&&◌, ap₂, cond, not, add-one, append-nil, append_assoc, drop-cons, get_or, inl, inr}
+use Rattle.std.proofs.Common.{◌≤◌, ◌&&◌, ap₂, cond, not, add-one, append-nil, append_assoc, drop-cons, get_or, inr}
 use Rattle.std.proofs.lemmas.List.{drop_all, get_or-map, length-map, map-append}
-use Rattle.std.specs.Prelude.{String, string_bytes}
-use Rattle.clap.specs.Faults.{fault_of, is_simple_and_free}
-use Rattle.clap.specs.Kinds.{HasKind, IsAmong, Kinds}
-use Rattle.clap.specs.Simple.{App}
-use Rattle.clap.specs.Values.{kind_of}
-use Rattle.clap.specs.Words.{Text}
+use Rattle.std.specs.Prelude.{Err, IfErr, IfOk, Ok, Result, String, string_bytes}
+use Rattle.clap.specs.Faults.{fault_of}
+use Rattle.clap.specs.Kinds.{IsAmong, Kinds}
+use Rattle.clap.specs.Words.{Text, kind_of}
 use Rattle.clap.specs.declared.error.Error.{Error}
 use Rattle.clap.specs.declared.error.kind.ErrorKind.{ErrorKind}
-use Rattle.clap.specs.declared.error.kind.ErrorKind.TheVariants.{OutOfMemory}
-use Rattle.smap_arguments.specs.Arguments.{texts}
-use Rattle.smap_arguments.specs.Line.{asks_generated, is_lookup, line_for, line_of}
+use Rattle.smap_command.specs.declared.command.Command.{Command}
+use Rattle.smap_arguments.specs.Arguments.{ArgumentsAskFor, IsInRange, texts}
+use Rattle.smap_arguments.specs.Line.{is_lookup, line_of}
+use Rattle.smap_arguments.specs.Refusals.{IsRead, IsRefusalOf, ReportsRead}
 use Rattle.smap_arguments.specs.Spread.{IsPushed, is_faultless, position_of, read_arguments, spread, spread_at, spread_behind, spread_words}
-use Rattle.smap_arguments.proofs.Asked.{line_is_simple}
+use Rattle.smap_arguments.specs.declared.usage.Usage.{Usage}
+use Rattle.smap_arguments.specs.declared.usage.Usage.TheVariants.{Help, Words, Memory}
 
 -- ---- whether clap finds a fault
 
-faulty : (kinds : Kinds) (kind : ErrorKind) → IsAmong kind kinds → is_faultless kinds ≡ false
-faulty [] kind among = absurd among
-faulty (other ∷ kinds) kind among = refl
-
-pub fault_found : (arguments : List Text) (is_generated : Bool) → is_generated ≡ asks_generated arguments → (a : App) → a ≡ line_for is_generated
-    → (e : Error) → (is_simple_and_free a ≡ true → HasKind (fault_of a arguments) e) → (kind_of e ≡ OutOfMemory → ⊥)
-    → is_faultless (fault_of (line_of arguments) arguments) ≡ false
-fault_found arguments is_generated asks a is e fails other = of_kind (subst
-    (λ b. is_simple_and_free b ≡ true → HasKind (fault_of b arguments) e) (is ∙ ap line_for asks) fails (line_is_simple (asks_generated arguments)).0)
-  where
-    of_kind : HasKind (fault_of (line_of arguments) arguments) e → is_faultless (fault_of (line_of arguments) arguments) ≡ false
-    of_kind (inl memory) = absurd (other memory)
-    of_kind (inr among) = faulty (fault_of (line_of arguments) arguments) (kind_of e) among
+has_fault : (kinds : Kinds) (kind : ErrorKind) → IsAmong kind kinds → is_faultless kinds ≡ false
+has_fault [] kind among = absurd among
+has_fault (other ∷ kinds) kind among = refl
 
 -- ---- the arguments that are read
 
--- where clap finds a fault in those of `lookup`
-pub read_spread : (arguments : List Text) → is_lookup arguments ≡ true → is_faultless (fault_of (line_of arguments) arguments) ≡ false
-    → spread arguments ≡ read_arguments arguments
-read_spread arguments lookup faulty = sym (ap₂ (λ a b. cond (a && not b) (spread arguments) arguments) lookup faulty)
+module _ (arguments : List Text) where
+  -- those of no `lookup` are read as they are
+  pub read_other : is_lookup arguments ≡ false → arguments ≡ read_arguments arguments
+  read_other other = sym (ap (λ b. cond (b && not (is_faultless (fault_of (line_of arguments) arguments))) (spread arguments) arguments) other)
+
+  -- so are those in which clap finds no fault
+  read_faultless : fault_of (line_of arguments) arguments ≡ [] → arguments ≡ read_arguments arguments
+  read_faultless none =
+      go (is_lookup arguments) ∙ sym (ap (λ kinds. cond (is_lookup arguments && not (is_faultless kinds)) (spread arguments) arguments) none)
+    where
+      go : (b : Bool) → arguments ≡ cond (b && false) (spread arguments) arguments
+      go true = refl
+      go false = refl
+
+  pub read_at_once : (read : Result Command Usage) → IsRead arguments (Ok read) → IsRead (read_arguments arguments) (Ok read)
+  read_at_once (Ok command) is = (subst (λ w. ArgumentsAskFor w command) (read_faultless is.0.0) is.0, is.1)
+  read_at_once (Err (Help text)) is = is
+  read_at_once (Err (Words text)) is = subst (λ w. ReportsRead w (string_bytes text)) (read_faultless is.0) is
+  read_at_once (Err Memory) is = is
+
+  -- where clap finds a fault in those of `lookup`, a position in them is two words
+  pub read_spread : (error : Error) → IsRead arguments (Err error) → is_lookup arguments ≡ true → spread arguments ≡ read_arguments arguments
+  read_spread error is lookup =
+      sym (ap₂ (λ a b. cond (a && not b) (spread arguments) arguments) lookup (has_fault (fault_of (line_of arguments) arguments) (kind_of error) is))
+
+-- what `parse` gives where clap finds no fault in the words
+pub parsed : (words : List Text) (read : Result Command Usage) → IsRead words (Ok read)
+    → IfOk read (ArgumentsAskFor words) × IfOk read IsInRange × IfErr read (IsRefusalOf words)
+parsed words (Ok command) is = (is.0, is.1, tt)
+parsed words (Err (Help text)) is = absurd is
+parsed words (Err (Words text)) is = (tt, tt, inr is)
+parsed words (Err Memory) is = (tt, tt, tt)
 
 -- ---- a word that is pushed
 

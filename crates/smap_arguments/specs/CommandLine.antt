@@ -181,9 +181,9 @@ last_commands = compose ∷ fit ∷ explain ∷ raw ∷ []
 abbrev pub smap : App
 smap = with_commands (with_commands (with_commands smap_alone first_commands) next_commands) last_commands
 
--- `smap` as it reads the words of `lookup` with `--generated`
-abbrev pub smap_generated : App
-smap_generated = with_commands smap_alone (generated ∷ [])
+-- `smap` with this command alone
+abbrev pub smap_with : App → App
+smap_with command = with_commands smap_alone (command ∷ [])
 
 -- clap's command is the one described, and no argument of it holds in subcommands too
 abbrev pub IsLocalCommand : App → ClapCommand → Type 0

@@ -1,8 +1,8 @@
--- Which command line reads the arguments: `lookup` with `--generated` has other words than `lookup`.
+-- Which command line reads the arguments: `lookup` has one of its own, and with `--generated`, where its words are others, another.
 use Rattle.std.specs.Prelude.{◌&&◌, Bool, false, true, List, [], ◌∷◌, codes, if◌then◌else◌}
 use Rattle.std.specs.Str.{bytes_eq}
 use Rattle.clap.specs.Words.{App, Text}
-use Rattle.smap_arguments.specs.CommandLine.{smap, smap_generated}
+use Rattle.smap_arguments.specs.CommandLine.{generated, lookup, smap, smap_with}
 
 -- the arguments are those of `lookup`
 abbrev pub is_lookup : List Text → Bool
@@ -26,9 +26,9 @@ asks_generated [] = false
 asks_generated (program ∷ []) = false
 asks_generated (program ∷ name ∷ words) = bytes_eq name (codes "lookup") && has_generated words
 
--- the command line that reads their words, and that which reads all others
-abbrev pub line_for : (is_generated : Bool) → App
-line_for is_generated = if is_generated then smap_generated else smap
+-- the command line that reads them
+abbrev pub line_for : (is_generated is_lookup : Bool) → App
+line_for is_generated is_lookup = if is_generated then smap_with generated else (if is_lookup then smap_with lookup else smap)
 
 abbrev pub line_of : (arguments : List Text) → App
-line_of arguments = line_for (asks_generated arguments)
+line_of arguments = line_for (asks_generated arguments) (is_lookup arguments)

@@ -1,5 +1,5 @@
 -- Why the arguments of the command line give no command.
-use Rattle.std.specs.Prelude.{◌≡◌, ◌≢◌, ◌++◌, ◌%◌, ◌&&◌, ◌⊎◌, ◌∷◌, ℕ, Bool, true, false, codes, length, List, [], Err, None, Option, Some, String, find, is_some, not, ⊤}
+use Rattle.std.specs.Prelude.{◌≡◌, ◌≢◌, ◌≤◌, ◌++◌, ◌%◌, ◌&&◌, ◌⊎◌, ◌∷◌, ℕ, Bool, true, false, codes, length, List, [], Err, None, Ok, Option, Result, Some, String, find, is_some, not, ⊤}
 use Rattle.std.specs.declared.alloc.Global.{Global}
 use Rattle.std.specs.Option.{IsSome}
 use Rattle.std.specs.String.{string_bytes}
@@ -9,14 +9,16 @@ use Rattle.url.specs.Parts.{Parts}
 use Rattle.url.specs.declared.error.ParseError.{ParseError}
 use Rattle.clap.specs.Faults.{fault_of}
 use Rattle.clap.specs.Kinds.{IsAmong}
-use Rattle.clap.specs.Words.{Row, Text, first_of, one_of, subcommand_of}
+use Rattle.clap.specs.Words.{Row, Text, first_of, kind_of, one_of, subcommand_of}
+use Rattle.clap.specs.declared.error.Error.{Error}
 use Rattle.clap.specs.declared.error.kind.ErrorKind.{ErrorKind}
-use Rattle.clap.specs.declared.error.kind.ErrorKind.TheVariants.{DisplayHelp, DisplayVersion, OutOfMemory}
+use Rattle.clap.specs.declared.error.kind.ErrorKind.TheVariants.{DisplayHelp, DisplayVersion}
 use Rattle.smap_arguments.specs.CommandLine.{whole_name}
-use Rattle.smap_arguments.specs.Arguments.{GivesBase, GivesFlag, GivesFurther, GivesNumberIfGiven, GivesOrder, GivesPairs, GivesText, GivesTexts, HasMaps, HasNoInners, has_equals_sign, has_inner}
-use Rattle.smap_arguments.specs.Arguments.{has_listing, words_of}
+use Rattle.smap_arguments.specs.Arguments.{ArgumentsAskFor, GivesBase, GivesFlag, GivesFurther, GivesNumberIfGiven, GivesOrder, GivesPairs, GivesText, GivesTexts, HasMaps, HasNoInners, has_equals_sign, has_inner}
+use Rattle.smap_arguments.specs.Arguments.{IsInRange, has_listing, words_of}
 use Rattle.smap_arguments.specs.Excludes.{base_and_paths_line, excluded_line}
 use Rattle.smap_arguments.specs.Line.{asks_generated, line_of}
+use Rattle.smap_command.specs.declared.command.Command.{Command}
 use Rattle.smap_command.specs.declared.options.FurtherOptions.{FurtherOptions}
 use Rattle.smap_arguments.specs.declared.usage.Usage.{Usage}
 use Rattle.smap_arguments.specs.declared.usage.Usage.TheVariants.{Help, Words, Memory}
@@ -25,10 +27,10 @@ use Rattle.smap_arguments.specs.declared.usage.Usage.TheVariants.{Help, Words, M
 abbrev pub IsRequest : ErrorKind → Type 0
 IsRequest kind = (kind ≡ DisplayHelp) ⊎ (kind ≡ DisplayVersion)
 
--- what an error of this kind comes to
+-- what a fault of this kind comes to
 abbrev pub IsUsageOf : ErrorKind → Usage → Type 0
 IsUsageOf kind (Help text) = IsRequest kind
-IsUsageOf kind (Words text) = (¬ (IsRequest kind)) × (kind ≢ OutOfMemory)
+IsUsageOf kind (Words text) = ¬ (IsRequest kind)
 IsUsageOf kind Memory = ⊤
 
 -- the base is no URL
@@ -73,9 +75,10 @@ ReportsBadBase rows text = (text ≡ bad_base_line)
     × ((base : Text) × (error : ParseError) × GivesText rows (codes "URL") base × (parse_url None base ≡ Err error)
     × (¬ (IsOutOfRoom error)))
 
--- it is reported that the base is too long: any that is given may be, since no definition of url's says when one is
+-- it is reported that the base is too long: any of 1 MiB or more may be, since no definition of url's says when one is
 abbrev pub ReportsLongBase : List Row → Text → Type 0
-ReportsLongBase rows text = (text ≡ long_base_line) × ((base : Text) × GivesText rows (codes "URL") base)
+ReportsLongBase rows text =
+    (text ≡ long_base_line) × ((base : Text) × GivesText rows (codes "URL") base × (1048576 ≤ length base))
 
 -- it is reported why the base that is given is none
 abbrev pub ReportsOfBase : List Row → Text → Type 0
@@ -237,6 +240,11 @@ abbrev pub SubcommandReports : (is_generated : Bool) → Option (Text × List Ro
 SubcommandReports is_generated subcommand text = (word : Text) × (rows : List Row) × (subcommand ≡ Some (word, rows))
     × ReportsRefusal (whole_name is_generated word) rows text
 
+-- clap finds no fault in the arguments, and this is reported of what it reads in them
+abbrev pub ReportsRead : List Text → Text → Type 0
+ReportsRead arguments text = (fault_of (line_of arguments) arguments ≡ [])
+    × SubcommandReports (asks_generated arguments) (subcommand_of (line_of arguments) arguments) text
+
 -- clap finds a request for help or for the version, or another fault in the arguments; or it finds none, and what is reported is
 -- that the base is no URL or too long, an argument no pair, that there are no maps, that a map has no generated file, or
 -- that two arguments exclude each other;
@@ -245,6 +253,13 @@ abbrev pub IsRefusalOf : List Text → Usage → Type 0
 IsRefusalOf arguments (Help text) = (kind : ErrorKind) × IsAmong kind (fault_of (line_of arguments) arguments) × IsRequest kind
 IsRefusalOf arguments (Words text) =
     ((kind : ErrorKind) × IsAmong kind (fault_of (line_of arguments) arguments) × (¬ (IsRequest kind)))
-    ⊎ ((fault_of (line_of arguments) arguments ≡ [])
-    × SubcommandReports (asks_generated arguments) (subcommand_of (line_of arguments) arguments) (string_bytes text))
+    ⊎ ReportsRead arguments (string_bytes text)
 IsRefusalOf arguments Memory = ⊤
+
+-- ---- what a private function does
+
+-- the arguments ask for this as they are, or it is refused; or clap finds a fault in them
+abbrev pub IsRead : List Text → Result (Result Command Usage) Error → Type 0
+IsRead arguments (Ok (Ok command)) = ArgumentsAskFor arguments command × IsInRange command
+IsRead arguments (Ok (Err usage)) = IsNamedRefusal (ReportsRead arguments) usage
+IsRead arguments (Err error) = IsAmong (kind_of error) (fault_of (line_of arguments) arguments)

@@ -1,11 +1,12 @@
-//! Which command line reads the arguments: `lookup` with `--generated` has other words than `lookup`.
+//! Which command line reads the arguments: `lookup` has one of its own, and with `--generated`, where its words are others,
+//! another.
 ghost use Rattle.std.specs.Prelude.{◌≡◌, IfOk, codes};
 ghost use Rattle.std.specs.Str.{bytes_eq};
 ghost use Rattle.clap.specs.Words.{app_of};
 ghost use Rattle.smap_arguments.specs.Arguments.{texts};
-ghost use Rattle.smap_arguments.specs.Line.{asks_generated, has_generated, line_for};
+ghost use Rattle.smap_arguments.specs.Line.{asks_generated, has_generated, is_lookup, line_of};
 
-use crate::line::{command_line, generated_line};
+use crate::line::{command_line, generated_command, lookup_command, smap_alone, with_command};
 use clap::Command;
 use std::alloc::{AllocError, Global};
 
@@ -19,12 +20,24 @@ pub fn asks_generated(arguments: &[String]) -> bool
     }
 }
 
-/// The command line that reads their words, or that which reads all others.
-pub fn line_for<'a>(alloc: Global, is_generated: bool) -> Result<Command<'a>, AllocError>
-    ensures { IfOk result (λ command. app_of command ≡ line_for is_generated) }
+/// Whether they are those of `lookup`.
+pub fn is_lookup(arguments: &[String]) -> bool
+    ensures { result ≡ is_lookup (texts arguments.now) }
 {
-    if is_generated {
-        generated_line(alloc)
+    match arguments {
+        [_, name, ..] => name.as_str() == "lookup",
+        _ => false,
+    }
+}
+
+/// The command line that reads them.
+pub fn line_of<'a>(alloc: Global, arguments: &[String]) -> Result<Command<'a>, AllocError>
+    ensures { IfOk result (λ command. app_of command ≡ line_of (texts arguments.now)) }
+{
+    if asks_generated(arguments) {
+        with_command(smap_alone(alloc)?, generated_command(alloc))
+    } else if is_lookup(arguments) {
+        with_command(smap_alone(alloc)?, lookup_command(alloc))
     } else {
         command_line(alloc)
     }

@@ -3,7 +3,7 @@ ghost use Rattle.std.specs.Prelude.{◌≡◌, All, IfOk, IsOkAnd, false, map};
 ghost use Rattle.clap.specs.Built.{AddsSubcommand};
 ghost use Rattle.clap.specs.Words.{app_of, rule_of};
 ghost use Rattle.smap_arguments.specs.CommandLine.{IsLocalCommand, check, compose, explain, first_commands, fit, generated, last_commands, locate, lookup};
-ghost use Rattle.smap_arguments.specs.CommandLine.{mappings, next_commands, positions, raw, rewrite, show, smap, smap_alone, smap_generated, sources};
+ghost use Rattle.smap_arguments.specs.CommandLine.{mappings, next_commands, positions, raw, rewrite, show, smap, smap_alone, sources};
 ghost use Rattle.smap_arguments.specs.CommandLine.{with_commands, with_rules};
 
 use crate::argument::{
@@ -36,15 +36,8 @@ pub fn command_line<'a>(alloc: Global) -> Result<Command<'a>, AllocError>
     with_last_commands(alloc, smap)
 }
 
-/// That which reads the words of `lookup` with `--generated`.
-pub fn generated_line<'a>(alloc: Global) -> Result<Command<'a>, AllocError>
-    ensures { IfOk result (λ command. app_of command ≡ smap_generated) }
-{
-    with_command(smap_alone(alloc)?, generated_command(alloc))
-}
-
-// `smap` without a command.
-fn smap_alone<'a>(alloc: Global) -> Result<Command<'a>, AllocError>
+/// `smap` without a command.
+pub fn smap_alone<'a>(alloc: Global) -> Result<Command<'a>, AllocError>
     ensures { IfOk result (λ command. app_of command ≡ smap_alone) }
 {
     let smap = Command::new(alloc, "smap")
@@ -87,9 +80,9 @@ fn with_last_commands<'a>(alloc: Global, smap: Command<'a>) -> Result<Command<'a
     with_command(smap, raw_command(alloc))
 }
 
-// The command line with this command, the last. It takes a command that may not have been made, so that the caller has
-// nothing to drop where it was not.
-fn with_command<'a>(
+/// The command line with this command, the last. It takes a command that may not have been made, so that the caller has
+/// nothing to drop where it was not.
+pub fn with_command<'a>(
     above: Command<'a>,
     made: Result<Command<'a>, AllocError>,
 ) -> Result<Command<'a>, AllocError>
@@ -99,7 +92,7 @@ fn with_command<'a>(
     above.subcommand(made?)
 }
 
-fn lookup_command<'a>(alloc: Global) -> Result<Command<'a>, AllocError>
+pub fn lookup_command<'a>(alloc: Global) -> Result<Command<'a>, AllocError>
     ensures { IfOk result (IsLocalCommand lookup) }
 {
     let arguments = vec![in alloc;
@@ -116,8 +109,8 @@ fn lookup_command<'a>(alloc: Global) -> Result<Command<'a>, AllocError>
     described(alloc, "lookup", LOOKUP_ABOUT, LOOKUP_NOTES, arguments)
 }
 
-// `lookup` with `--generated`.
-fn generated_command<'a>(alloc: Global) -> Result<Command<'a>, AllocError>
+/// `lookup` with `--generated`.
+pub fn generated_command<'a>(alloc: Global) -> Result<Command<'a>, AllocError>
     ensures { IfOk result (IsLocalCommand generated) }
 {
     let arguments = vec![in alloc;

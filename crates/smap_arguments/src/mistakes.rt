@@ -11,6 +11,9 @@ pub const BAD_BASE: &str = "usage: bad base URL\n";
 /// Standard error: the base is longer than a URL may be here, which is less than 4 GB.
 pub const LONG_BASE: &str = "usage: base URL too long\n";
 
+/// A base of fewer bytes is never too long: each of them would come to 4,096.
+pub const LONG_BASE_BYTES: usize = 1048576;
+
 pub const BOTH_FLAGS: &str = "usage: --hide-ignored with --anywhere\n";
 
 /// Standard error: `rewrite` has more texts that hide frames than there may be.

@@ -2,52 +2,13 @@
 ghost use Rattle.std.specs.Prelude.{◌≡◌, ◌∷◌, IfOk, option_map};
 ghost use Rattle.std.specs.Char.{is_ascii_digit};
 ghost use Rattle.std.specs.List.{list_all};
-ghost use Rattle.clap.specs.Faults.{fault_of};
 ghost use Rattle.smap_arguments.specs.Arguments.{texts};
-ghost use Rattle.smap_arguments.specs.Line.{is_lookup, line_of};
-ghost use Rattle.smap_arguments.specs.Spread.{IsPushed, are_digits, is_faultless, position_of, read_arguments, spread, spread_words};
+ghost use Rattle.smap_arguments.specs.Spread.{IsPushed, are_digits, position_of, spread, spread_words};
 
-use crate::generated::{asks_generated, line_for};
-use clap::error::ErrorKind;
 use std::alloc::{AllocError, Global};
 
-/// The arguments that are read: where clap finds a fault in those of `lookup`, with a position that is one word as two.
-pub fn read_arguments(alloc: Global, arguments: Vec<String>) -> Result<Vec<String>, AllocError>
-    ensures { IfOk result (λ words. texts words.items ≡ read_arguments (texts arguments.items)) }
-{
-    if !is_lookup(&arguments) || is_faultless(alloc, &arguments)? {
-        return Ok(arguments);
-    }
-    spread(alloc, &arguments)
-}
-
-// Whether they are those of `lookup`.
-fn is_lookup(arguments: &[String]) -> bool
-    ensures { result ≡ is_lookup (texts arguments.now) }
-{
-    match arguments {
-        [_, name, ..] => name.as_str() == "lookup",
-        _ => false,
-    }
-}
-
-// Whether clap finds no fault in them.
-fn is_faultless(alloc: Global, arguments: &[String]) -> Result<bool, AllocError>
-    ensures { IfOk result (λ none. none
-        ≡ is_faultless (fault_of (line_of (texts arguments.now)) (texts arguments.now))) }
-{
-    let line = line_for(alloc, asks_generated(arguments))?;
-    match line.try_get_matches_from(arguments) {
-        Ok(_) => Ok(true),
-        Err(error) => match error.kind() {
-            ErrorKind::OutOfMemory => Err(AllocError),
-            _ => Ok(false),
-        },
-    }
-}
-
-// The arguments with a position as two words, behind the program's name.
-fn spread(alloc: Global, arguments: &[String]) -> Result<Vec<String>, AllocError>
+/// The arguments with a position as two words, behind the program's name.
+pub fn spread(alloc: Global, arguments: &[String]) -> Result<Vec<String>, AllocError>
     ensures { IfOk result (λ words. texts words.items ≡ spread (texts arguments.now)) }
 {
     match arguments.split_first() {

@@ -10,7 +10,7 @@ ghost use Rattle.smap_arguments.specs.Arguments.{HasValueIfGiven, bytes_given, t
 ghost use Rattle.smap_arguments.specs.Refusals.{IsNamedRefusal, ReportsOfBase};
 ghost use Rattle.clap.specs.declared.builder.value_parser.ValueParser.TheVariants as parser;
 
-use crate::mistakes::{BAD_BASE, LONG_BASE};
+use crate::mistakes::{BAD_BASE, LONG_BASE, LONG_BASE_BYTES};
 use crate::usage::Usage;
 use clap::ArgMatches;
 use smap_command::{Form, USUAL_INTERVAL};
@@ -108,8 +108,10 @@ pub fn base_in(alloc: Global, matches: &ArgMatches<'_>) -> Result<Option<Url>, U
     match Url::parse(alloc, text) {
         Ok(url) => Ok(Some(url)),
         Err(error) => match error {
-            ParseError::OutOfMemory => Err(Usage::Memory),
-            ParseError::Overflow => Err(Usage::Words(String::from_str(alloc, LONG_BASE)?)),
+            ParseError::Overflow if text.len() >= LONG_BASE_BYTES => {
+                Err(Usage::Words(String::from_str(alloc, LONG_BASE)?))
+            }
+            ParseError::OutOfMemory | ParseError::Overflow => Err(Usage::Memory),
             _ => Err(Usage::Words(String::from_str(alloc, BAD_BASE)?)),
         },
     }

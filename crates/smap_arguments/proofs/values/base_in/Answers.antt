@@ -1,4 +1,4 @@
-use Rattle.std.proofs.Common.{◌≡◌, ◌∙◌, ⊎_elim, ap, codes, inl, inr, refl, subst, sym, List, ℕ, None, Some}
+use Rattle.std.proofs.Common.{◌≡◌, ◌∙◌, ⊎_elim, ap, arith, codes, inl, inr, refl, subst, sym, List, ℕ, None, Some}
 use Rattle.std.specs.Borrow.{Bor}
 use Rattle.std.specs.Prelude.{option_map}
 use Rattle.smap_arguments.specs.Arguments.{GivesUrl}
@@ -23,7 +23,7 @@ pub returns-in_ok-from_str-in-Overflow-clause-refused : goal.returns-in_ok-from_
 returns-in_ok-from_str-in-Overflow-clause-refused c =
     let some : Some c.in-Some.text.now ≡ first_of (codes "URL") (rows_of (found_of c.args.matches.now)) =
     sym (ap (option_map (λ (s : Bor (List ℕ)). s.now)) c.in-Some.is) ∙ c.get_str.ensures ∙ first_value-rows (found_of c.args.matches.now) (codes "URL") in
-    inr (c.in_ok-from_str-in-Overflow.ensures.ok, (c.in-Some.text.now, sym some))
+    inr (c.in_ok-from_str-in-Overflow.ensures.ok, (c.in-Some.text.now, sym some, omega arith))
 
 pub returns-in_ok-from_str-in_default-error : goal.returns-in_ok-from_str-in_default-error
 returns-in_ok-from_str-in_default-error c =
