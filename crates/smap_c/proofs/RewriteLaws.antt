@@ -10,7 +10,7 @@ use Rattle.smap_lines.specs.declared.fault.LineFault.{LineFault}
 use Rattle.smap_lines.specs.declared.fault.LineFault.TheVariants.{TooMuch}
 use Rattle.smap_tables.specs.UrlTable.{UrlTableSeen}
 use Rattle.smap_trace.specs.declared.outcome.Summary.{Summary}
-use Rattle.smap_c.specs.Private.Rewriting.{HasFront, IsRewritten, IsTooMuch}
+use Rattle.smap_c.specs.Private.Rewriting.{EndsRewriting, HasFront, IsRewritten, IsTooMuch}
 use Rattle.smap_c.specs.Trace.{IsLong, line_ends, rewrite_refused}
 use Rattle.smap_c.specs.declared.trace.RewriteOptions.{RewriteOptions}
 use Rattle.smap_c.specs.declared.trace.RewriteRefusal.{RewriteRefusal}
@@ -26,10 +26,9 @@ module _ (options : RewriteOptions) (table : UrlTableSeen) (read written : List 
     made = sym is.text_is ∙ sym (append-nil written);
   }
 
-  pub front_of : (result : Result Summary LineFault) → IfOk result (IsRewritten options table read written)
-      → IfErr result (λ _. HasFront options table read written) → HasFront options table read written
-  front_of (Ok summary) done failed = all_front summary done
-  front_of (Err fault) done failed = failed
+  pub front_of : (result : Result Summary LineFault) → EndsRewriting options table read written result → HasFront options table read written
+  front_of (Ok summary) ends = all_front summary ends
+  front_of (Err fault) ends = ends.1
 
   -- where more was written than the bound, a front of what is read comes to more
   pub is_long : HasFront options table read written → (most : ℕ) (refusal : RewriteRefusal) → most < length written
@@ -48,7 +47,7 @@ pub if_held : (held : Option UrlTableSeen) (table : UrlTableSeen) → Some table
 if_held held table is P holds = subst (λ h. IfSome h P) is holds
 
 -- where nothing else is too much, what is read is
-module _ (read : List ℕ) (status : ℕ) (refusal : RewriteRefusal) (is : status ≡ 1) where
+module _ (options : RewriteOptions) (table : UrlTableSeen) (read written : List ℕ) (status : ℕ) (refusal : RewriteRefusal) (is : status ≡ 1) where
   abbrev TooMuchRead : Type 0
   TooMuchRead = (most_text_bytes < length read) × (refusal ≡ rewrite_refused (number_of X3) 0)
 
@@ -63,6 +62,6 @@ module _ (read : List ℕ) (status : ℕ) (refusal : RewriteRefusal) (is : statu
 
   pub too_much_read : (outcome : Result Summary LineFault) → IfOk outcome (λ summary. (status ≡ 0) ⊎ (status ≡ 3))
       → IfErr outcome (λ fault. ((status ≡ 1) × (fault ≡ TooMuch) × (refusal ≡ rewrite_refused (number_of X3) 0)) ⊎ (status ≡ 3))
-      → IfErr outcome (IsTooMuch read) → TooMuchRead
-  too_much_read (Ok summary) done failed many = not_done done
-  too_much_read (Err fault) done failed many = for_fault fault many failed
+      → EndsRewriting options table read written outcome → TooMuchRead
+  too_much_read (Ok summary) done failed ends = not_done done
+  too_much_read (Err fault) done failed ends = for_fault fault ends.0 failed

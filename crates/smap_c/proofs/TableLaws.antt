@@ -2,7 +2,8 @@
 use Rattle.std.proofs.Common.{◌≡◌, ◌∙◌, ◌++◌, ◌∷◌, ◌<◌, ◌≤◌, ℕ, [], List, Bool, Option, Some, None, MatchOption, true, false, ap, append-nil, arith, length, length-append, refl, subst, sym}
 use Rattle.std.specs.Io.KnownBytes.{IsAtEnd}
 use Rattle.std.specs.Option.{IfSome, option_or}
-use Rattle.std.specs.Prelude.{⊤, unwrap_or}
+use Rattle.std.specs.Prelude.{⊤, Err, Ok, Result, unwrap_or}
+use Rattle.std.specs.Result.{IfErr, IfOk}
 use Rattle.std.proofs.lemmas.Bool.{cond-false, cond-true}
 use Rattle.smap_by_text.specs.ByText.{value_under}
 use Rattle.smap_io.specs.Device.{Gives, Takes}
@@ -28,12 +29,13 @@ use Rattle.smap_trace.specs.Frame.{FrameParts}
 use Rattle.smap_trace.specs.FrameOf.{frame_of}
 use Rattle.smap_trace.specs.Hiding.{HidingSeen, only_ignored}
 use Rattle.smap_trace.specs.MapsOf.{MapsByUrl, RewritesBy, counts_by, fate_by, line_by, rewritten_by}
-use Rattle.smap_trace.specs.Rewriting.{BecomesFrame, RewritesFrontOver, RewritesOver}
+use Rattle.smap_trace.specs.Rewriting.{BecomesFrame, RewritesFrontOver, RewritesOver, frames_alone}
 use Rattle.smap_trace.specs.Rewritten.{Fate, MayMeet, fate_at, line_after, original_in}
 use Rattle.smap_trace.specs.Laws.MapsOf.{rewrites_by}
+use Rattle.smap_trace.specs.UrlNotes.{NotesSeen}
 use Rattle.smap_trace.specs.declared.outcome.RewriteCounts.{RewriteCounts}
 use Rattle.smap_trace.specs.declared.outcome.Summary.{Summary}
-use Rattle.smap_c.specs.Private.Rewriting.{HasFront, IsRewritten, IsTooMuch}
+use Rattle.smap_c.specs.Private.Rewriting.{EndsRewriting, HasFront, IsRewritten, IsTooMuch}
 use Rattle.smap_c.specs.Trace.{place_counts_by, placed_by, places_of, text_of}
 use Rattle.smap_c.specs.declared.trace.RewriteOptions.{RewriteOptions}
 
@@ -55,13 +57,13 @@ module _ (table : UrlTableSeen) (cut : Bool) where
   over_next old new same is = (ap (λ m. m.table.now) same ∙ is.0, ap (λ m. m.cut) same ∙ is.1)
 
   -- so a trace becomes what those make of it
-  pub rewrites_table : (hide : Bool) (before after : DevicesSeen) (old new : UrlMaps) (counts : RewriteCounts) → IsOver old
-      → RewritesOver UrlFinds url_found (only_ignored hide) most_text_bytes before after old new counts
+  pub rewrites_table : (hide : Bool) (before after : DevicesSeen) (old new : UrlMaps) (counts : RewriteCounts) (notes : NotesSeen) → IsOver old
+      → RewritesOver UrlFinds url_found (frames_alone (only_ignored hide) most_text_bytes) before after old new counts notes
       → RewritesBy (map_under cut table) (only_ignored hide) most_text_bytes before after counts
-  rewrites_table hide before after old new counts is all =
+  rewrites_table hide before after old new counts notes is all =
       rewrites_by UrlFinds url_found (map_under cut table) (λ maps. ⊤) IsOver (λ old new url finds good. tt)
-      (λ old new url finds good is. let stays = over_next old new finds is in (over_found new url stays, stays)) (only_ignored hide) most_text_bytes
-      before after old new counts all tt is
+      (λ old new url finds good is. let stays = over_next old new finds is in (over_found new url stays, stays))
+      (frames_alone (only_ignored hide) most_text_bytes) before after old new counts notes all tt is
 
 -- ---- places
 
@@ -153,35 +155,31 @@ given_within most text bytes (Some left) gives less =
     let whole : text ≡ bytes ++ left = cc in
     omega (arith, ap length whole, length-append bytes left, less)
 
-too_much : (read : List ℕ) (left after : Option (List ℕ)) → left ≡ Some read → (most : ℕ) (bytes : List ℕ) → Gives left after bytes
-    → most < length bytes → most < length read
-too_much read left after is most bytes gives less = given_within most read bytes after (subst (λ o. Gives o after bytes) is gives) less
-
 -- where it is too much, all that was there is
-pub refused_read : (left after : Option (List ℕ)) (bytes : List ℕ) (fault : LineFault) → Gives left after bytes
-    → (fault ≡ TooMuch → most_text_bytes < length bytes) → IfSome left (λ read. IsTooMuch read fault)
-refused_read left after bytes fault gives many =
-    if_read left (λ read. IsTooMuch read fault) (λ read is too. too_much read left after is most_text_bytes bytes gives (many too))
-
-pub memory_read : (left : Option (List ℕ)) → IfSome left (λ read. IsTooMuch read Memory)
-memory_read left = if_read left (λ read. IsTooMuch read Memory) (λ read is too. absurd (cc))
+pub too_much : (read : List ℕ) (left after : Option (List ℕ)) → left ≡ Some read → (bytes : List ℕ) → Gives left after bytes
+    → (fault : LineFault) → (fault ≡ TooMuch → most_text_bytes < length bytes) → IsTooMuch read fault
+too_much read left after is bytes gives fault many too =
+    given_within most_text_bytes read bytes after (subst (λ o. Gives o after bytes) is gives) (many too)
 
 -- and it is a front
 given_front : (text bytes : List ℕ) (left : Option (List ℕ)) → Gives (Some text) left bytes → (rest : List ℕ) × (text ≡ bytes ++ rest)
 given_front text bytes None gives = absurd (cc)
 given_front text bytes (Some left) gives = (left, cc)
 
--- where nothing was written
-pub none_front : (options : RewriteOptions) (table : UrlTableSeen) (left : Option (List ℕ)) (written : List ℕ) → written ≡ []
-    → IfSome left (λ read. HasFront options table read written)
-none_front options table left written none =
-    if_read left (λ read. HasFront options table read written) (λ read is. record {
-      front = [];
-      rest = read;
-      later = text_of options table [];
-      is_front = refl;
-      made = ap (λ w. w ++ text_of options table []) (sym none);
-    })
+-- where memory ran out before anything was written
+pub memory_ends : (options : RewriteOptions) (table : UrlTableSeen) (left : Option (List ℕ)) (written : List ℕ) → written ≡ []
+    → IfSome left (λ read. EndsRewriting options table read written (Err Memory))
+memory_ends options table left written none =
+    if_read left (λ read. EndsRewriting options table read written (Err Memory)) (λ read is. (
+      λ too. absurd (cc),
+      record {
+        front = [];
+        rest = read;
+        later = text_of options table [];
+        is_front = refl;
+        made = ap (λ w. w ++ text_of options table []) (sym none);
+      },
+    ))
 
 -- and what was made of it was written
 all_taken : (written made : List ℕ) → Takes (Some []) (Some written) made → written ≡ made
@@ -211,7 +209,7 @@ module _ (options : RewriteOptions) (table : UrlTableSeen) (read written : List 
         fits = subst (λ l. length l ≤ most_text_bytes) all is.edits.fits;
       }
 
-  pub places_are : (summary : Summary) → options.anywhere ≡ true
+  places_are : (summary : Summary) → options.anywhere ≡ true
       → RewritesPlacesBy (map_under true table) (place_at (places_of table)) most_text_bytes before after summary
       → IsRewritten options table read written summary
   unfolding placed_by place_counts_by
@@ -229,40 +227,53 @@ module _ (options : RewriteOptions) (table : UrlTableSeen) (read written : List 
   front_read : (bytes : List ℕ) → Gives before.input.left after.input.left bytes → (rest : List ℕ) × (read ≡ bytes ++ rest)
   front_read bytes gives = given_front read bytes after.input.left (subst (λ o. Gives o after.input.left bytes) at_first gives)
 
-  pub frames_front : (most : ℕ) (fault : LineFault) → options.anywhere ≡ false
-      → RewritesFrontOver (λ url stated. stated ≡ map_under options.cut table url) (only_ignored options.hide_ignored) most before after fault
-      → HasFront options table read written
-  frames_front most fault by_frames is =
+  pub frames_front : (fault : LineFault) → options.anywhere ≡ false
+      → RewritesFrontOver (λ url stated. stated ≡ map_under options.cut table url) (only_ignored options.hide_ignored) most_text_bytes before after fault
+      → IsTooMuch read fault × HasFront options table read written
+  frames_front fault by_frames is =
       let maps = map_under options.cut table in
       let hide = only_ignored options.hide_ignored in
-      let front = front_read is.bytes is.read in
-      record {
-        front = is.bytes;
-        rest = front.0;
-        later = is.later;
-        is_front = front.1;
-        made = cond-false options.anywhere (placed_by table is.bytes) (rewritten_by maps hide is.bytes) by_frames
-            ∙ sym (frames_by maps hide is.bytes (is.written ++ is.later) is.front)
-            ∙ ap (λ w. w ++ is.later) (sym (all_written is.written is.taken));
-      }
+      let front = front_read is.bytes is.read in (
+        too_much read before.input.left after.input.left at_first is.bytes is.read fault is.many.0,
+        record {
+          front = is.bytes;
+          rest = front.0;
+          later = is.later;
+          is_front = front.1;
+          made = cond-false options.anywhere (placed_by table is.bytes) (rewritten_by maps hide is.bytes) by_frames
+              ∙ sym (frames_by maps hide is.bytes (is.written ++ is.later) is.front)
+              ∙ ap (λ w. w ++ is.later) (sym (all_written is.written is.taken));
+        },
+      )
 
-  pub places_front : (most : ℕ) (fault : LineFault) → options.anywhere ≡ true
+  places_front : (fault : LineFault) → options.anywhere ≡ true
       → RewritesPlacesFrontOver (λ url stated. MatchOption (value_under url table.words) (stated ≡ map_under true table url) (λ own. stated ≡ Some own))
-      (place_at (places_of table)) most before after fault
-      → HasFront options table read written
+      (place_at (places_of table)) most_text_bytes before after fault
+      → IsTooMuch read fault × HasFront options table read written
   unfolding placed_by
-  places_front most fault anywhere is =
+  places_front fault anywhere is =
       let maps = map_under true table in
       let hide = only_ignored options.hide_ignored in
-      let front = front_read is.bytes is.read in
-      record {
-        front = is.bytes;
-        rest = front.0;
-        later = is.later;
-        is_front = front.1;
-        made = cond-true options.anywhere (placed_by table is.bytes) (rewritten_by (map_under options.cut table) hide is.bytes) anywhere
-            ∙ sym (parts_by maps (λ url stated. MatchOption (value_under url table.words) (stated ≡ map_under true table url) (λ own. stated ≡ Some own))
-            (λ url stated is. beside_is (value_under url table.words) (option_or (map_of_cut true table url) (map_by_pattern table url)) stated is)
-            (parts_of (place_at (places_of table)) is.bytes) (is.written ++ is.later) is.front)
-            ∙ ap (λ w. w ++ is.later) (sym (all_written is.written is.taken));
-      }
+      let front = front_read is.bytes is.read in (
+        too_much read before.input.left after.input.left at_first is.bytes is.read fault is.many.0,
+        record {
+          front = is.bytes;
+          rest = front.0;
+          later = is.later;
+          is_front = front.1;
+          made = cond-true options.anywhere (placed_by table is.bytes) (rewritten_by (map_under options.cut table) hide is.bytes) anywhere
+              ∙ sym (parts_by maps (λ url stated. MatchOption (value_under url table.words) (stated ≡ map_under true table url) (λ own. stated ≡ Some own))
+              (λ url stated is. beside_is (value_under url table.words) (option_or (map_of_cut true table url) (map_by_pattern table url)) stated is)
+              (parts_of (place_at (places_of table)) is.bytes) (is.written ++ is.later) is.front)
+              ∙ ap (λ w. w ++ is.later) (sym (all_written is.written is.taken));
+        },
+      )
+
+  -- so it ends
+  pub places_end : (result : Result Summary LineFault) → options.anywhere ≡ true
+      → IfOk result (RewritesPlacesBy (map_under true table) (place_at (places_of table)) most_text_bytes before after)
+      → IfErr result (RewritesPlacesFrontOver (λ url stated. MatchOption (value_under url table.words) (stated ≡ map_under true table url)
+      (λ own. stated ≡ Some own)) (place_at (places_of table)) most_text_bytes before after)
+      → EndsRewriting options table read written result
+  places_end (Ok summary) anywhere whole front = places_are summary anywhere whole
+  places_end (Err fault) anywhere whole front = places_front fault anywhere front

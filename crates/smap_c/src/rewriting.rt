@@ -1,7 +1,7 @@
 //! A text in memory, rewritten by its frames or its places.
-ghost use Rattle.std.specs.Prelude.{◌≡◌, [], true, false, IfErr, IfOk, IfSome};
+ghost use Rattle.std.specs.Prelude.{◌≡◌, [], true, false, IfSome};
 ghost use Rattle.smap_c.specs.Trace.{text_read};
-ghost use Rattle.smap_c.specs.Private.Rewriting.{HasFront, IsRewritten, IsTooMuch};
+ghost use Rattle.smap_c.specs.Private.Rewriting.{EndsRewriting};
 
 use crate::devices::{Input, Output};
 use crate::trace::RewriteOptions;
@@ -10,7 +10,9 @@ use smap_lines::MOST_TEXT_BYTES;
 use smap_places::{PlaceFinder, rewrite_places_over};
 use smap_sequences::WithoutSequences;
 use smap_tables::{UrlMaps, UrlTable};
-use smap_trace::{Hiding, RewriteFault, RewriteOptions as FrameOptions, Summary, rewrite_over};
+use smap_trace::{
+    Hiding, RewriteFault, RewriteOptions as FrameOptions, Summary, UrlNotes, rewrite_over,
+};
 use std::alloc::Global;
 
 /// Rewrites a text, or what is left of it without its control sequences, into an output that has nothing yet.
@@ -22,11 +24,8 @@ pub fn rewrite_text(
     output: &mut Output,
 ) -> Result<Summary, RewriteFault>
     requires empty { (output.old.bytes.items ≡ []) × (output.old.failed ≡ false) }
-    ensures rewritten { IfOk result (IsRewritten options.now table.now
-        (text_read options.now text.now) output.new.bytes.items) }
-    ensures refused { IfErr result (IsTooMuch (text_read options.now text.now)) }
-    ensures front { IfErr result (λ _. HasFront options.now table.now
-        (text_read options.now text.now) output.new.bytes.items) }
+    ensures { EndsRewriting options.now table.now (text_read options.now text.now)
+        output.new.bytes.items result }
 {
     let mut input = Input { left: text };
     if options.strip_ansi {
@@ -47,12 +46,8 @@ fn rewrite_read<R: ByteSource>(
 ) -> Result<Summary, RewriteFault>
     requires works { (R.seen input.old).failed ≡ false }
     requires empty { (output.old.bytes.items ≡ []) × (output.old.failed ≡ false) }
-    ensures rewritten { IfOk result (λ summary. IfSome (R.seen input.old).left (λ read.
-        IsRewritten options.now table.now read output.new.bytes.items summary)) }
-    ensures refused { IfErr result (λ fault. IfSome (R.seen input.old).left (λ read.
-        IsTooMuch read fault)) }
-    ensures front { IfErr result (λ _. IfSome (R.seen input.old).left (λ read.
-        HasFront options.now table.now read output.new.bytes.items)) }
+    ensures { IfSome (R.seen input.old).left (λ read.
+        EndsRewriting options.now table.now read output.new.bytes.items result) }
 {
     if options.anywhere {
         rewrite_places(alloc, table, input, options, output)
@@ -72,12 +67,8 @@ fn rewrite_places<R: ByteSource>(
     requires anywhere { options.now.anywhere ≡ true }
     requires works { (R.seen input.old).failed ≡ false }
     requires empty { (output.old.bytes.items ≡ []) × (output.old.failed ≡ false) }
-    ensures rewritten { IfOk result (λ summary. IfSome (R.seen input.old).left (λ read.
-        IsRewritten options.now table.now read output.new.bytes.items summary)) }
-    ensures refused { IfErr result (λ fault. IfSome (R.seen input.old).left (λ read.
-        IsTooMuch read fault)) }
-    ensures front { IfErr result (λ _. IfSome (R.seen input.old).left (λ read.
-        HasFront options.now table.now read output.new.bytes.items)) }
+    ensures { IfSome (R.seen input.old).left (λ read.
+        EndsRewriting options.now table.now read output.new.bytes.items result) }
 {
     let Ok(finder) = PlaceFinder::new(alloc, table.words(), table.locations()) else {
         return Err(RewriteFault::Memory);
@@ -97,21 +88,16 @@ fn rewrite_frames<R: ByteSource>(
     requires frames { options.now.anywhere ≡ false }
     requires works { (R.seen input.old).failed ≡ false }
     requires empty { (output.old.bytes.items ≡ []) × (output.old.failed ≡ false) }
-    ensures rewritten { IfOk result (λ summary. IfSome (R.seen input.old).left (λ read.
-        IsRewritten options.now table.now read output.new.bytes.items summary)) }
-    ensures refused { IfErr result (λ fault. IfSome (R.seen input.old).left (λ read.
-        IsTooMuch read fault)) }
-    ensures front { IfErr result (λ _. IfSome (R.seen input.old).left (λ read.
-        HasFront options.now table.now read output.new.bytes.items)) }
+    ensures { IfSome (R.seen input.old).left (λ read.
+        EndsRewriting options.now table.now read output.new.bytes.items result) }
 {
     let mut maps = UrlMaps {
         table,
         cut: options.cut,
     };
-    let by_frames = FrameOptions {
-        hiding: Hiding::only_ignored(options.hide_ignored),
-        most: MOST_TEXT_BYTES,
-    };
-    let counts = rewrite_over(alloc, input, output, &mut maps, by_frames)?;
+    let hiding = Hiding::only_ignored(options.hide_ignored);
+    let by_frames = FrameOptions::of_frames(hiding, MOST_TEXT_BYTES);
+    let mut notes = UrlNotes::new(alloc);
+    let counts = rewrite_over(alloc, input, output, &mut maps, &by_frames, &mut notes)?;
     Ok(counts.summary)
 }

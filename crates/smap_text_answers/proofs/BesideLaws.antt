@@ -18,12 +18,13 @@ use Rattle.smap_store.specs.Fileless.{asks_no_file, known_beside}
 use Rattle.smap_store.specs.Stored.{Asks, FindsIn, GivesIn, LoadsMay, LoadsStep, MayCome, Recalls, StoredSeen, Untouched, found_in, map_in, or_other}
 use Rattle.smap_store.specs.StoredMaps.{IsSameStore, same_store_on, same_store_self, stored_seen}
 use Rattle.smap_store.specs.declared.stored.StoredMaps.{StoredMaps}
-use Rattle.smap_trace.specs.Hiding.{HidingSeen}
 use Rattle.smap_trace.specs.Laws.Seen.{looked_seen}
 use Rattle.smap_trace.specs.Rewriting.{BecomesFrame, Looked}
 use Rattle.smap_trace.specs.UrlNotes.{NotesSeen}
 use Rattle.smap_trace.specs.declared.outcome.Summary.{Summary}
-use Rattle.smap_text_answers.specs.RewriteFrom.{RewritesTextFront}
+use Rattle.smap_text_answers.specs.Request.{RequestSeen}
+use Rattle.smap_text_answers.specs.RewriteFrom.{RewritesTextFront, places_of}
+use Rattle.smap_text_answers.specs.declared.sources.MapSources.{MapSources}
 
 -- one of two things, by a test
 pub when_on : (test : Bool) (P Q : Type 0) → test ≡ true → P → MatchBool test P Q
@@ -34,11 +35,20 @@ pub when_off : (test : Bool) (P Q : Type 0) → test ≡ false → Q → MatchBo
 when_off true P Q is holds = absurd (cc)
 when_off false P Q is holds = holds
 
+pub when_either : (test : Bool) (P Q : Type 0) → P → Q → MatchBool test P Q
+when_either true P Q on off = on
+when_either false P Q on off = off
+
+pub when_both : (test : Bool) (P Q More Others : Type 0) → (P → More) → (Q → Others) → MatchBool test P Q → MatchBool test More Others
+when_both true P Q More Others on off is = on is
+when_both false P Q More Others on off is = off is
+
 -- nothing was read of a text, since memory ran out
-pub text_front_of_none : (anywhere : Bool) (Gives : (url : List ℕ) → Option MapRecord → Type 0) (begins : List ℕ → List ℕ → Option PlaceUrl) (hide : HidingSeen)
-    (most : ℕ) (now : DevicesSeen) → RewritesTextFront anywhere Gives begins hide most now now Memory
-text_front_of_none true Gives begins hide most now = front_of_none Gives begins most now
-text_front_of_none false Gives begins hide most now = unread.front_of_none (BecomesFrame Gives hide) most now
+pub text_front_of_none : (request : RequestSeen) (sources : MapSources) (Gives : (url : List ℕ) → Option MapRecord → Type 0) (now : DevicesSeen)
+    → RewritesTextFront request sources Gives now now Memory
+text_front_of_none request sources Gives now =
+    when_either request.anywhere _ _ (front_of_none Gives (places_of sources) request.limit_bytes now)
+    (unread.front_of_none (BecomesFrame Gives request.hide) request.limit_bytes now)
 
 -- a store, with these words in the stead of its own
 abbrev pub store : {L : Type 0} → List (List ℕ × MapRecord) → StoredMaps L → StoredSeen L

@@ -1,33 +1,31 @@
 -- What reading maps from files when they are named comes to, of which a run shows what it reported.
-use Rattle.std.specs.Prelude.{◌≡◌, ℕ, Bool, true, false, List, Option, Some, None, Result, Ok, Err, IfErr, IfOk, MatchOption, option_copied}
+use Rattle.std.specs.Prelude.{◌≡◌, ℕ, List, Option, Some, None, Result, Ok, Err, IfErr, IfOk, MatchOption, option_copied}
 use Rattle.std.proofs.Common.{◌∙◌, inl, inr, refl, subst, sym}
 use Rattle.smap_io.specs.Device.{SinkSeen}
 use Rattle.smap_lines.specs.Editing.{DevicesSeen}
 use Rattle.smap_lines.specs.declared.fault.LineFault.{LineFault}
 use Rattle.smap_lines.specs.declared.fault.LineFault.TheVariants.{Memory}
 use Rattle.smap_locations.specs.Locations.{key_for, path_for}
-use Rattle.smap_places.specs.Places.{PlaceUrl}
-use Rattle.smap_places.specs.PlacesRewritten.{places_in}
 use Rattle.smap_places.specs.Laws.PlacesSeen.{places_front_seen, places_noted_seen, places_seen}
 use Rattle.smap_record.specs.Record.{MapRecord}
 use Rattle.smap_by_text.specs.ByText.{value_under}
 use Rattle.smap_store.specs.Cache.{Kept}
-use Rattle.smap_store.specs.Fileless.{known_of}
+use Rattle.smap_store.specs.Fileless.{known_of as known_of_url}
 use Rattle.smap_store.specs.Loaded.{Came}
 use Rattle.smap_store.specs.Laws.Seen.{finds_seen, gives_seen, see_store}
 use Rattle.smap_store.specs.Stored.{Asks, Comes, FindsIn, GivesIn, LoadsMay, LoadsStep, Recalls, StoredSeen, Untouched, found_in}
-use Rattle.smap_trace.specs.Hiding.{HidingSeen}
-use Rattle.smap_trace.specs.Rewriting.{Looked}
+use Rattle.smap_trace.specs.Noted.{nothing_noted}
+use Rattle.smap_trace.specs.Rewriting.{Looked, RewritesOver}
 use Rattle.smap_trace.specs.UrlNotes.{NotesSeen}
-use Rattle.smap_trace.specs.Laws.Noted.{noted_seen}
-use Rattle.smap_trace.specs.Laws.Passed.{passing_seen}
-use Rattle.smap_trace.specs.Laws.Seen.{front_seen, looked_seen}
+use Rattle.smap_trace.specs.Laws.Seen.{front_seen, looked_seen, rewrites_seen}
 use Rattle.smap_trace.specs.declared.outcome.RewriteCounts.{RewriteCounts}
 use Rattle.smap_replies.specs.Files.{MayRead}
 use Rattle.smap_text_answers.specs.Loader.{IsSameLoader, LoaderSeen, Loads, MayLoad, loader_seen}
-use Rattle.smap_text_answers.specs.RewriteFrom.{IsStoredRewritten, RewritesText, RewritesTextFront, RewritesTextNoted, places_of}
+use Rattle.smap_text_answers.specs.Request.{RequestSeen}
+use Rattle.smap_text_answers.specs.RewriteFrom.{IsStoredRewritten, RewritesPlaces, RewritesText, RewritesTextFront, asked_of, known_of, places_of}
 use Rattle.smap_text_answers.specs.declared.loader.FileLoader.{FileLoader}
 use Rattle.smap_text_answers.specs.declared.sources.MapSources.{MapSources}
+use Rattle.smap_text_answers.proofs.BesideLaws.{when_both}
 
 module _ {F E : Type 0} where
   same_self : (loader : FileLoader F E) → IsSameLoader loader loader
@@ -72,7 +70,7 @@ module _ {F E : Type 0} (gives : F → MayRead) (seen : E → SinkSeen) where
   same_step old new url (Some known) same = same_of old.loader new.loader same.loader
 
   same_found : (old new : StoredSeen (FileLoader F E)) (url : List ℕ) → FindsIn Steps old url new → IsSameLoader old.loader new.loader
-  same_found old new url finds = same_step old new (key_for old.locations url) (known_of old.words old.locations url) finds.steps
+  same_found old new url finds = same_step old new (key_for old.locations url) (known_of_url old.words old.locations url) finds.steps
 
   -- ---- what a run shows of it
 
@@ -116,51 +114,44 @@ module _ {F E : Type 0} (gives : F → MayRead) (seen : E → SinkSeen) where
       pub may_first : (url path : List ℕ) (found : Option MapRecord) → May old.loader url path found → MaySeen (loader_seen seen old.loader) url path found
       may_first url path found may = subst (λ l. May l url path found) is may
 
-      module _ (begins : List ℕ → List ℕ → Option PlaceUrl) (most_passed : ℕ) (hide : HidingSeen) (most : ℕ) (before after : DevicesSeen) where
-        text_from : (anywhere : Bool) (counts : RewriteCounts) → RewritesText anywhere (FindsIn Steps) begins most_passed hide most before after old new counts
-            → RewritesText anywhere (FindsIn Seen) begins most_passed hide most before after (see old) (see new) counts
-        text_from true counts is = (
-          places_seen (FindsIn Steps) found_in (FindsIn Seen) found_in see (λ maps. IsSameLoader first maps.loader) finds_so (λ maps url same. refl)
-              begins most before after old new counts.summary at_first is.0,
+      module _ (request : RequestSeen) (sources : MapSources) (before after : DevicesSeen) where
+        abbrev Is : StoredSeen (FileLoader F E) → Type 0
+        Is maps = IsSameLoader first maps.loader
+
+        places_from : (counts : RewriteCounts) (notes others : NotesSeen) → RewritesPlaces request sources (FindsIn Steps) before after old new counts notes others
+            → RewritesPlaces request sources (FindsIn Seen) before after (see old) (see new) counts notes others
+        places_from counts notes others is = record {
+          over = places_seen (FindsIn Steps) found_in (FindsIn Seen) found_in see Is finds_so (λ maps url same. refl)
+              (places_of sources) request.limit_bytes before after old new counts.summary at_first is.over;
+          long = is.long;
+          passed = is.passed;
+          noted = λ on. places_noted_seen (FindsIn Steps) found_in (FindsIn Seen) found_in see Is finds_so (λ maps url same. refl)
+              (places_of sources) request.limit_bytes before after old new counts.summary (known_of sources) notes others at_first (is.noted on);
+        }
+
+        frames_from : (counts : RewriteCounts) (notes others : NotesSeen)
+            → RewritesOver (FindsIn Steps) found_in (asked_of request sources) before after old new counts notes × (others ≡ nothing_noted)
+            → RewritesOver (FindsIn Seen) found_in (asked_of request sources) before after (see old) (see new) counts notes × (others ≡ nothing_noted)
+        frames_from counts notes others is = (
+          rewrites_seen (FindsIn Steps) found_in (FindsIn Seen) found_in see Is finds_so (λ maps url. refl) (asked_of request sources)
+              before after old new counts notes at_first is.0,
           is.1,
-          is.2,
         )
-        text_from false counts is =
-            passing_seen (FindsIn Steps) found_in (FindsIn Seen) found_in see (λ maps. IsSameLoader first maps.loader) finds_so (λ maps url. refl)
-            (places_in begins) hide most_passed most before after old new counts at_first is
 
-        front_from : (anywhere : Bool) (fault : LineFault) → RewritesTextFront anywhere (GivesIn May old) begins hide most before after fault
-            → RewritesTextFront anywhere (GivesIn MaySeen (see old)) begins hide most before after fault
-        front_from true fault is =
-            places_front_seen (GivesIn May old) (GivesIn MaySeen (see old)) (gives_seen (loader_seen seen) May MaySeen old may_first)
-            begins most before after fault is
-        front_from false fault is =
-            front_seen (GivesIn May old) (GivesIn MaySeen (see old)) (gives_seen (loader_seen seen) May MaySeen old may_first) hide most before after fault is
-
-      pub noted_from : (anywhere : Bool) (begins : List ℕ → List ℕ → Option PlaceUrl) (known : List ℕ → Bool) (hide : HidingSeen) (most : ℕ)
-          (before after : DevicesSeen) (counts : RewriteCounts) (notes others : NotesSeen)
-          → RewritesTextNoted anywhere (FindsIn Steps) begins known hide most before after old new counts notes others
-          → RewritesTextNoted anywhere (FindsIn Seen) begins known hide most before after (see old) (see new) counts notes others
-      noted_from true begins known hide most before after counts notes others is =
-          places_noted_seen (FindsIn Steps) found_in (FindsIn Seen) found_in see (λ maps. IsSameLoader first maps.loader) finds_so (λ maps url same. refl)
-          begins most before after old new counts.summary known notes others at_first is
-      noted_from false begins known hide most before after counts notes others is = (
-        noted_seen (FindsIn Steps) found_in (FindsIn Seen) found_in see (λ maps. IsSameLoader first maps.loader) finds_so (λ maps url. refl)
-            hide most before after old new counts notes at_first is.0,
-        is.1,
-      )
-
-      pub rewritten_from : (sources : MapSources) (anywhere : Bool) (most_passed : ℕ) (hide : HidingSeen) (most : ℕ) (before after : DevicesSeen) (result : Result RewriteCounts LineFault)
-          → IfOk result (RewritesText anywhere (FindsIn Steps) (places_of sources) most_passed hide most before after old new)
-          → IfErr result (RewritesTextFront anywhere (GivesIn May old) (places_of sources) hide most before after) → Looked (FindsIn Steps) old new
-          → IsStoredRewritten (gives first.maps.now.files.now) first.paths (option_copied first.maps.now.base) first.maps.now.interval first.number sources anywhere most_passed hide
-          most (see old) (see new) before after result
-      rewritten_from sources anywhere most_passed hide most before after (Ok counts) rewrites front looked =
-          text_from (places_of sources) most_passed hide most before after anywhere counts rewrites
-      rewritten_from sources anywhere most_passed hide most before after (Err fault) rewrites front looked = (
-        front_from (places_of sources) most_passed hide most before after anywhere fault front,
-        (looked_from looked).0,
-      )
+        pub rewritten_from : (notes others : NotesSeen) (result : Result RewriteCounts LineFault)
+            → IfOk result (λ counts. RewritesText request sources (FindsIn Steps) before after old new counts notes others)
+            → IfErr result (RewritesTextFront request sources (GivesIn May old) before after) → Looked (FindsIn Steps) old new
+            → IsStoredRewritten Seen MaySeen request sources (see old) (see new) before after notes others result
+        rewritten_from notes others (Ok counts) rewrites front looked =
+            when_both request.anywhere _ _ _ _ (places_from counts notes others) (frames_from counts notes others) rewrites
+        rewritten_from notes others (Err fault) rewrites front looked = (
+          when_both request.anywhere _ _ _ _
+              (places_front_seen (GivesIn May old) (GivesIn MaySeen (see old)) (gives_seen (loader_seen seen) May MaySeen old may_first)
+              (places_of sources) request.limit_bytes before after fault)
+              (front_seen (GivesIn May old) (GivesIn MaySeen (see old)) (gives_seen (loader_seen seen) May MaySeen old may_first)
+              request.hide request.limit_bytes before after fault) front,
+          (looked_from looked).0,
+        )
 
 -- where memory ran out, this holds
 pub untouched_by : (result : Result RewriteCounts LineFault) (P : Type 0) → IfErr result (λ fault. fault ≡ Memory → P) → result ≡ Err Memory → P

@@ -2,6 +2,8 @@ pub mod Lines
 pub mod Nearest
 pub mod UrlLines
 pub mod Loader
+pub mod Request
+pub mod TextNotes
 pub mod Rewrite
 pub mod RewriteFrom
 pub mod SameBytes

@@ -1,7 +1,7 @@
 -- What `rewrite` does over files and folders of maps that are read when a trace names them: it gathers what it is over, rewrites
 -- the text over a store of maps, and says what that came to. The status is the greatest of all that was reported.
-use Rattle.std.specs.Prelude.{◌≡◌, ◌⊎◌, ℕ, ◌+◌, ◌-◌, ◌^◌, ◌==◌, Bool, List, [], ◌∷◌, Option, Result, Ok, Err, MatchBool, codes, length, map, max, min}
-use Rattle.std.specs.Prelude.{◌++◌, ◌&&◌, ◌||◌, IfOk, false, if◌then◌else◌, is_ok, nat_lt, not, option_copied, true}
+use Rattle.std.specs.Prelude.{◌≡◌, ◌⊎◌, ℕ, ◌+◌, ◌-◌, ◌^◌, ◌==◌, Bool, List, [], ◌∷◌, Option, Result, Ok, Err, MatchBool, codes, length, max, min}
+use Rattle.std.specs.Prelude.{◌++◌, ◌&&◌, ◌||◌, false, if◌then◌else◌, is_ok, nat_lt, not, true}
 use Rattle.std.specs.Fmt.{decimal}
 use Rattle.std.specs.List.{concat}
 use Rattle.url.specs.Parts.{Parts}
@@ -21,14 +21,13 @@ use Rattle.smap_places.specs.Seeming.{knows}
 use Rattle.smap_record.specs.Record.{MapRecord}
 use Rattle.smap_store.specs.ByPath.{stored_maps}
 use Rattle.smap_store.specs.Cache.{CacheSeen}
-use Rattle.smap_store.specs.Stored.{FindsIn, GivesIn, StoredSeen, found_in}
-use Rattle.smap_trace.specs.Hiding.{HidingSeen, hiding_seen}
+use Rattle.smap_store.specs.Stored.{FindsIn, GivesIn, LoadsMay, LoadsStep, StoredSeen, found_in}
+use Rattle.smap_trace.specs.Hiding.{HidingSeen}
 use Rattle.smap_trace.specs.MapsOf.{MapsByUrl, RewritesBy}
-use Rattle.smap_trace.specs.Noted.{RewritesNoted}
-use Rattle.smap_trace.specs.Passed.{RewritesPassing}
+use Rattle.smap_trace.specs.Noted.{nothing_noted}
 use Rattle.smap_trace.specs.UrlNotes.{NotesSeen}
 use Rattle.smap_text_answers.specs.UrlLines.{TellsUrls}
-use Rattle.smap_trace.specs.Rewriting.{Looked, RewritesFrontOver}
+use Rattle.smap_trace.specs.Rewriting.{Looked, RewriteAsked, RewritesFrontOver, RewritesOver}
 use Rattle.smap_trace.specs.declared.outcome.RewriteCounts.{RewriteCounts}
 use Rattle.smap_replies.specs.Files.{MayRead}
 use Rattle.smap_command.specs.Lines.{line_from}
@@ -38,41 +37,9 @@ use Rattle.smap_replies.specs.Outcome.{Report, answer, fault_report}
 use Rattle.smap_text_answers.specs.SameBytes.{AreSettled, BytesByPath, ReadsSame, maps_at}
 use Rattle.smap_text_answers.specs.Sources.{GathersSources}
 use Rattle.smap_replies.specs.Streams.{Ends, IsReportedTo, Sinks, Streams}
-use Rattle.smap_replies.specs.Arguments.{argument_of}
-use Rattle.smap_text_answers.specs.declared.rewriting.RewriteRequest.{RewriteRequest}
+use Rattle.smap_text_answers.specs.Request.{RequestSeen, most_passed}
 use Rattle.smap_text_answers.specs.declared.rewriting.StoreEnd.{StoreEnd}
 use Rattle.smap_text_answers.specs.declared.sources.MapSources.{MapSources}
-
--- what is asked, the base and the interval aside
-pub record RequestSeen : Type 0 where
-  pub arguments : List (List ℕ × List ℕ)
-  pub list : Option (List ℕ)
-  pub paths : Bool
-  pub hide : HidingSeen
-  pub anywhere : Bool
-  pub cache_bytes : ℕ
-  pub limit_bytes : ℕ
-  pub summary : Bool
-  pub explain : Bool
-  pub hint : Bool
-
-abbrev pub request_seen : {F : Type 0} → RewriteRequest F → RequestSeen
-request_seen request = record {
-  arguments = map argument_of request.arguments.now;
-  list = option_copied request.list;
-  paths = request.paths;
-  hide = hiding_seen request.hiding;
-  anywhere = request.anywhere;
-  cache_bytes = request.cache_bytes;
-  limit_bytes = request.limit_bytes;
-  summary = request.summary;
-  explain = request.explain;
-  hint = request.hint;
-}
-
--- how many of the places are counted, at most, that are passed: all for a summary, and else one where a terminal is told of them
-abbrev pub most_passed : (summary hint : Bool) → ℕ
-most_passed summary hint = if summary then 2 ^ 64 - 1 else if hint then 1 else 0
 
 -- ---- over a store of maps
 
@@ -99,69 +66,60 @@ known_of sources = knows (record { table = sources.words; locations = sources.lo
 
 -- ---- a text over a store
 
--- the places of a text are rewritten, in lines of which none is too long, and none is passed
-abbrev pub RewritesPlacesCounted : {L : Type 0} → (Finds : StoredSeen L → (url : List ℕ) → StoredSeen L → Type 0)
-    → (begins : List ℕ → List ℕ → Option PlaceUrl) → (most : ℕ) → (before after : DevicesSeen) → (old new : StoredSeen L) → RewriteCounts → Type 0
-RewritesPlacesCounted Finds begins most before after old new counts =
-    RewritesPlacesOver Finds found_in begins most before after old new counts.summary × (counts.long ≡ 0) × (counts.passed ≡ 0)
+-- its places are rewritten, in lines of which none is too long, and none is passed; and these are the notes of what they name, and
+-- beside them those of the URLs that look like one and are not known, where that is asked
+pub record RewritesPlaces {L : Type 0} (request : RequestSeen) (sources : MapSources) (Finds : StoredSeen L → (url : List ℕ) → StoredSeen L → Type 0)
+    (before after : DevicesSeen) (old new : StoredSeen L) (counts : RewriteCounts) (notes others : NotesSeen) : Type 0 where
+  pub over : RewritesPlacesOver Finds found_in (places_of sources) request.limit_bytes before after old new counts.summary
+  pub long : counts.long ≡ 0
+  pub passed : counts.passed ≡ 0
+  pub noted : request.explain ≡ true
+      → RewritesPlacesNoted Finds found_in (places_of sources) (known_of sources) request.limit_bytes before after old new counts.summary notes others
 
--- a text is rewritten over stored maps: its places, which begin so, or the frames of a trace, and of its other lines the places,
--- which begin so, are counted up to a number
-abbrev pub RewritesText : {L : Type 0} → (anywhere : Bool) → (Finds : StoredSeen L → (url : List ℕ) → StoredSeen L → Type 0)
-    → (begins : List ℕ → List ℕ → Option PlaceUrl) → (most_passed : ℕ) → (hide : HidingSeen) → (most : ℕ) → (before after : DevicesSeen)
-    → (old new : StoredSeen L) → RewriteCounts → Type 0
-RewritesText anywhere Finds begins most_passed hide most before after old new counts =
-    MatchBool anywhere (RewritesPlacesCounted Finds begins most before after old new counts)
-    (RewritesPassing Finds found_in (places_in begins) most_passed hide most before after old new counts)
+-- what is asked of its frames: of its other lines the places, which begin so, are counted up to a number
+abbrev pub asked_of : RequestSeen → MapSources → RewriteAsked
+asked_of request sources = record {
+  hide = request.hide;
+  most = request.limit_bytes;
+  is_noted = request.explain;
+  count = places_in (places_of sources);
+  most_passed = most_passed request;
+}
 
--- and these are the notes of what its places name, and beside them those of the URLs that look like one and are not known; or of
--- what its frames name, and none beside them
-abbrev pub RewritesTextNoted : {L : Type 0} → (anywhere : Bool) → (Finds : StoredSeen L → (url : List ℕ) → StoredSeen L → Type 0)
-    → (begins : List ℕ → List ℕ → Option PlaceUrl) → (known : List ℕ → Bool) → (hide : HidingSeen) → (most : ℕ) → (before after : DevicesSeen)
-    → (old new : StoredSeen L) → RewriteCounts → (notes others : NotesSeen) → Type 0
-RewritesTextNoted anywhere Finds begins known hide most before after old new counts notes others =
-    MatchBool anywhere (RewritesPlacesNoted Finds found_in begins known most before after old new counts.summary notes others)
-    (RewritesNoted Finds found_in hide most before after old new counts notes × (others ≡ record { notes = []; is_short = false }))
+-- a text is rewritten over stored maps: its places, or the frames of a trace, and these are the notes of what they name
+abbrev pub RewritesText : {L : Type 0} → RequestSeen → MapSources → (Finds : StoredSeen L → (url : List ℕ) → StoredSeen L → Type 0)
+    → (before after : DevicesSeen) → (old new : StoredSeen L) → RewriteCounts → (notes others : NotesSeen) → Type 0
+RewritesText request sources Finds before after old new counts notes others =
+    MatchBool request.anywhere (RewritesPlaces request sources Finds before after old new counts notes others)
+    (RewritesOver Finds found_in (asked_of request sources) before after old new counts notes × (others ≡ nothing_noted))
 
 -- or up to a fault
-abbrev pub RewritesTextFront : (anywhere : Bool) → (Gives : (url : List ℕ) → Option MapRecord → Type 0) → (begins : List ℕ → List ℕ → Option PlaceUrl)
-    → (hide : HidingSeen) → (most : ℕ) → (before after : DevicesSeen) → LineFault → Type 0
-RewritesTextFront anywhere Gives begins hide most before after fault =
-    MatchBool anywhere (RewritesPlacesFrontOver Gives begins most before after fault) (RewritesFrontOver Gives hide most before after fault)
+abbrev pub RewritesTextFront : RequestSeen → MapSources → (Gives : (url : List ℕ) → Option MapRecord → Type 0) → (before after : DevicesSeen) → LineFault → Type 0
+RewritesTextFront request sources Gives before after fault =
+    MatchBool request.anywhere (RewritesPlacesFrontOver Gives (places_of sources) request.limit_bytes before after fault)
+    (RewritesFrontOver Gives request.hide request.limit_bytes before after fault)
 
--- a text was rewritten over a store of these maps to its end, or up to a fault, and the store stands so then
-abbrev pub IsStoredRewritten : MayRead → (paths : Bool) → Option Parts → (k number : ℕ) → (sources : MapSources) → (anywhere : Bool)
-    → (most_passed : ℕ) → (hide : HidingSeen) → (most : ℕ) → (old new : StoredSeen LoaderSeen) → (before after : DevicesSeen) → Result RewriteCounts LineFault → Type 0
-IsStoredRewritten Reads paths base k number sources anywhere most_passed hide most old new before after (Ok counts) =
-    RewritesText anywhere (FindsIn (Loads Reads paths base k number)) (places_of sources) most_passed hide most before after old new counts
-IsStoredRewritten Reads paths base k number sources anywhere most_passed hide most old new before after (Err fault) =
-    RewritesTextFront anywhere (GivesIn (λ loader. MayLoad Reads paths base k number) old) (places_of sources) hide most before after fault
-    × Looked (FindsIn (Loads Reads paths base k number)) old new
+-- a text was rewritten over a store of maps that are loaded so to its end, or up to a fault, and the store and the notes stand so
+-- then
+abbrev pub IsStoredRewritten : LoadsStep LoaderSeen → LoadsMay LoaderSeen → RequestSeen → MapSources → (old new : StoredSeen LoaderSeen) → (before after : DevicesSeen)
+    → (notes others : NotesSeen) → Result RewriteCounts LineFault → Type 0
+IsStoredRewritten Loads May request sources old new before after notes others (Ok counts) =
+    RewritesText request sources (FindsIn Loads) before after old new counts notes others
+IsStoredRewritten Loads May request sources old new before after notes others (Err fault) =
+    RewritesTextFront request sources (GivesIn May old) before after fault × Looked (FindsIn Loads) old new
 
 -- one number more than another, as far as 64 bits can count
 abbrev pub both_counted : ℕ → ℕ → ℕ
 both_counted one other = min (one + other) (2 ^ 64 - 1)
 
--- what frames or places name was noted, where that is asked and they were rewritten to the end of a text, while a store of maps came
--- to stand so
-abbrev pub IsNotedOver : MayRead → Option Parts → (k : ℕ) → RequestSeen → (sources : MapSources) → (last : StoredSeen LoaderSeen) → Result RewriteCounts LineFault
-    → (notes others : NotesSeen) → (before after : Streams) → Type 0
-IsNotedOver Reads base k request sources last result notes others before after =
-    request.explain ≡ true → IfOk result (λ counts.
-    RewritesTextNoted request.anywhere (FindsIn (Loads Reads request.paths base k (length request.arguments + 1))) (places_of sources)
-    (known_of sources) request.hide request.limit_bytes
-    (devices_seen before.input before.sinks.output) (devices_seen after.input after.sinks.output)
-    (store_start sources request.cache_bytes before.sinks.errors before.sinks.code) last counts notes others)
-
 -- what rewriting over a store came to, and what was noted then
 pub record IsOverStore (Reads : MayRead) (base : Option Parts) (k : ℕ) (request : RequestSeen) (sources : MapSources) (end : StoreEnd) (notes others : NotesSeen)
     (before after : Streams) : Type 0 where
   pub last : StoredSeen LoaderSeen
-  pub rewritten : IsStoredRewritten Reads request.paths base k (length request.arguments + 1) sources request.anywhere
-      (most_passed request.summary request.hint) request.hide request.limit_bytes
+  pub rewritten : IsStoredRewritten (Loads Reads request.paths base k (length request.arguments + 1))
+      (λ loader. MayLoad Reads request.paths base k (length request.arguments + 1)) request sources
       (store_start sources request.cache_bytes before.sinks.errors before.sinks.code) last
-      (devices_seen before.input before.sinks.output) (devices_seen after.input after.sinks.output) end.result
-  pub noted : IsNotedOver Reads base k request sources last end.result notes others before after
+      (devices_seen before.input before.sinks.output) (devices_seen after.input after.sinks.output) notes others end.result
   pub errors : after.sinks.errors ≡ last.loader.errors
   pub code : after.sinks.code ≡ last.loader.code
   pub input_failed : after.input.failed ≡ is_read_fault end.result

@@ -1,12 +1,14 @@
 //! What is reported where rewriting over files and folders of maps ends.
 ghost use Rattle.std.specs.Prelude.{◌≡◌, string_bytes, IfOk};
 ghost use Rattle.smap_text_answers.specs.RewriteFrom.{ClosesWith, EndsFrom, Hints, ReportsShortage, ReportsSummary, has_passed, is_hinted};
-ghost use Rattle.smap_text_answers.specs.RewriteFrom.{maps_text, passed_text, request_seen, summary_line, trace_text};
+ghost use Rattle.smap_text_answers.specs.RewriteFrom.{maps_text, passed_text, summary_line, trace_text};
+ghost use Rattle.smap_text_answers.specs.Request.{request_seen};
 ghost use Rattle.smap_replies.specs.Streams.{sinks_seen};
 ghost use Rattle.smap_lines.specs.RunEnds.{is_write_fault};
 ghost use Rattle.smap_trace.specs.NotesSeen.{notes_seen};
 
-use crate::rewriting::{RewriteRequest, StoreEnd};
+use crate::request::TextRequest;
+use crate::rewriting::StoreEnd;
 use smap_codes::Code;
 use smap_io::ByteSink;
 use smap_replies::{DONE, FAILED, Failure, FileReader, NO_MEMORY, Reply, print_error, report};
@@ -19,14 +21,14 @@ const HINT: &str = "smap rewrite --anywhere takes places in lines that are no fr
 /// Reports what rewriting came to, and gives the exit status.
 pub fn finish<F: FileReader, W: ByteSink, E: ByteSink>(
     alloc: Global,
-    request: &RewriteRequest<'_, '_, F>,
+    request: &TextRequest<'_, '_, F>,
     end: &StoreEnd,
     output: &mut W,
     errors: &mut E,
     first: &mut Option<Code>,
 ) -> u8
     requires output_works { (W.seen output.old).failed ≡ is_write_fault end.now.result }
-    ensures { EndsFrom end.now request.now.summary request.now.anywhere result
+    ensures { EndsFrom end.now request.now.options.now.summary request.now.options.now.anywhere result
         (sinks_seen (W.seen output.old) (E.seen errors.old) first.old)
         (sinks_seen (W.seen output.new) (E.seen errors.new) first.new) }
 {
@@ -46,19 +48,19 @@ pub fn finish<F: FileReader, W: ByteSink, E: ByteSink>(
 // Reports that memory ran out for some maps, and what was done where that is asked; and gives the status of both.
 fn close<F: FileReader, E: ByteSink>(
     alloc: Global,
-    request: &RewriteRequest<'_, '_, F>,
+    request: &TextRequest<'_, '_, F>,
     end: &StoreEnd,
     counts: &RewriteCounts,
     errors: &mut E,
 ) -> u8
-    ensures { ClosesWith end.now request.now.summary request.now.anywhere counts.now result
+    ensures { ClosesWith end.now request.now.options.now.summary request.now.options.now.anywhere counts.now result
         (E.seen errors.old) (E.seen errors.new) }
 {
     let short = report_shortage(end.shortages, errors);
-    if !request.summary {
+    if !request.options.summary {
         return short;
     }
-    let reported = report_summary(alloc, end, request.anywhere, counts, errors);
+    let reported = report_summary(alloc, end, request.options.anywhere, counts, errors);
     short.max(reported)
 }
 
@@ -145,7 +147,7 @@ fn passed_text(alloc: Global, anywhere: bool, counts: &RewriteCounts) -> Result<
 
 /// Tells a terminal what takes the places that were passed, where there are some and nothing else was said.
 pub fn hint<F: FileReader, E: ByteSink>(
-    request: &RewriteRequest<'_, '_, F>,
+    request: &TextRequest<'_, '_, F>,
     end: &StoreEnd,
     notes: &UrlNotes,
     status: u8,
@@ -161,14 +163,15 @@ pub fn hint<F: FileReader, E: ByteSink>(
 
 // Whether that is so, where all that was said ended with this status.
 fn is_hinted<F: FileReader>(
-    request: &RewriteRequest<'_, '_, F>,
+    request: &TextRequest<'_, '_, F>,
     end: &StoreEnd,
     notes: &UrlNotes,
     status: u8,
 ) -> bool
     ensures { result ≡ is_hinted (request_seen request.now) end.now (notes_seen notes.now) status }
 {
-    let is_silent = !request.summary && (!request.explain || notes.notes.is_empty());
+    let options = request.options;
+    let is_silent = !options.summary && (!options.explain || notes.notes.is_empty());
     request.hint && is_silent && status == DONE && has_passed(&end.result)
 }
 

@@ -3,7 +3,7 @@
 //!
 //! ```text
 //! let options = FurtherOptions::new(alloc);
-//! let request = TextRequest { maps: &maps, arguments: &arguments, hide_ignored, options: &options };
+//! let request = TextRequest { maps: &maps, arguments: &arguments, hide_ignored, options: &options, hint: false };
 //! let status = answer_rewrite(alloc, &request, &mut input, &mut output, &mut errors, &mut first);
 //! ```
 #![tactic(auto)]
@@ -13,13 +13,16 @@ mod ending;
 mod lines;
 mod loader;
 mod nearest;
+mod notes;
+mod request;
 mod rewriting;
 mod sources;
 mod standing;
 mod trace;
 mod url_lines;
 
-pub use answering::{TextRequest, answer_rewrite};
+pub use answering::answer_rewrite;
 pub use ending::report_shortage;
 pub use loader::FileLoader;
+pub use request::TextRequest;
 pub use sources::{MapSources, sources_of};

@@ -9,14 +9,14 @@ ghost use Rattle.smap_trace.specs.NotesSeen.{note_seen, notes_seen};
 mod ends;
 
 use crate::loader::FileLoader;
-use crate::rewriting::RewriteRequest;
-use crate::sources::MapSources;
+use crate::notes::TextNotes;
+use crate::rewriting::StoreRun;
 use crate::url_lines::ends::end_of;
 use smap_io::ByteSink;
 use smap_locations::Locations;
 use smap_replies::{DONE, FAILED, FileReader, NO_MEMORY, print_error};
 use smap_text::shown_byte;
-use smap_trace::{UrlNote, UrlNotes};
+use smap_trace::UrlNote;
 use std::alloc::{AllocError, Global};
 
 // How many bytes of a URL are printed.
@@ -31,21 +31,19 @@ const NO_PLACE: &str =
 
 /// Reports what became of the URLs that were noted, or that memory ran out, and gives the status of that.
 pub fn tell_urls<F: FileReader, E: ByteSink>(
-    alloc: Global,
-    request: &RewriteRequest<'_, '_, F>,
-    sources: &MapSources,
-    notes: &UrlNotes,
-    others: &UrlNotes,
+    run: &StoreRun<'_, '_, '_, F>,
+    notes: &TextNotes,
     errors: &mut E,
 ) -> u8
-    ensures { TellsUrls (F.gives request.now.maps.now.files.now) request.now.paths
-        (option_copied request.now.maps.now.base) request.now.maps.now.interval
-        (length request.now.arguments.now + 1) (map argument_of request.now.arguments.now)
-        sources.now.locations request.now.anywhere (notes_seen notes.now) (notes_seen others.now)
-        result
+    ensures { let request = run.now.request.now in
+        TellsUrls (F.gives request.maps.now.files.now) request.options.now.paths
+        (option_copied request.maps.now.base) request.maps.now.interval
+        (length request.arguments.now + 1) (map argument_of request.arguments.now)
+        run.now.sources.now.locations request.options.now.anywhere
+        (notes_seen notes.now.named) (notes_seen notes.now.others) result
         (E.seen errors.old) (E.seen errors.new) }
 {
-    match lines_of(alloc, request, sources, notes, others, errors) {
+    match lines_of(run, notes, errors) {
         Ok(text) => {
             print_error(errors, &text);
             DONE
@@ -59,30 +57,29 @@ pub fn tell_urls<F: FileReader, E: ByteSink>(
 
 // The lines of all URLs that were noted, or that there is none, where memory was enough.
 fn lines_of<F: FileReader, E: ByteSink>(
-    alloc: Global,
-    request: &RewriteRequest<'_, '_, F>,
-    sources: &MapSources,
-    notes: &UrlNotes,
-    others: &UrlNotes,
+    run: &StoreRun<'_, '_, '_, F>,
+    notes: &TextNotes,
     errors: &mut E,
 ) -> Result<Vec<u8>, AllocError>
     ensures same { errors.new ≡ errors.old }
-    ensures enough { IfOk result (λ _. (notes.now.is_short ≡ false) ×
-        (others.now.is_short ≡ false)) }
-    ensures lines { IfOk result (λ text.
-        AreAllLines (F.gives request.now.maps.now.files.now) request.now.paths
-        (option_copied request.now.maps.now.base) request.now.maps.now.interval
-        (length request.now.arguments.now + 1) (map argument_of request.now.arguments.now)
-        sources.now.locations request.now.anywhere
-        (map note_seen notes.now.notes.items ++ map note_seen others.now.notes.items)
+    ensures enough { IfOk result (λ _. (notes.now.named.is_short ≡ false) ×
+        (notes.now.others.is_short ≡ false)) }
+    ensures lines { let request = run.now.request.now in IfOk result (λ text.
+        AreAllLines (F.gives request.maps.now.files.now) request.options.now.paths
+        (option_copied request.maps.now.base) request.maps.now.interval
+        (length request.arguments.now + 1) (map argument_of request.arguments.now)
+        run.now.sources.now.locations request.options.now.anywhere
+        (map note_seen notes.now.named.notes.items
+        ++ map note_seen notes.now.others.notes.items)
         text.items) }
 {
-    if notes.is_short || others.is_short {
+    if notes.named.is_short || notes.others.is_short {
         return Err(AllocError);
     }
+    let request = run.request;
     let loader = FileLoader {
         maps: request.maps,
-        paths: request.paths,
+        paths: request.options.paths,
         number: request.arguments.len() + 1,
         errors,
         status: DONE,
@@ -92,13 +89,13 @@ fn lines_of<F: FileReader, E: ByteSink>(
         lost: false,
     };
     all_lines(
-        alloc,
+        run.alloc,
         &loader,
         request.arguments,
-        &sources.locations,
-        request.anywhere,
-        &notes.notes,
-        &others.notes,
+        &run.sources.locations,
+        request.options.anywhere,
+        &notes.named.notes,
+        &notes.others.notes,
     )
 }
 

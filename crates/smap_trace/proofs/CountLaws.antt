@@ -1,63 +1,23 @@
--- What is counted of the frames of a text, and what it becomes over the maps of a table.
-use Rattle.std.proofs.Common.{◌≡◌, ◌+◌, ◌≤◌, ℕ, Bool, true, false, List, [], ◌∷◌, length, Option, Some, None}
-use Rattle.std.proofs.Common.{ap, ◌∙◌, arith, MatchBool}
+-- What a text becomes over the maps of a table.
+use Rattle.std.proofs.Common.{◌≡◌, ℕ, Bool, List, Option, Some, None, ap, ◌∙◌}
 use Rattle.std.specs.Prelude.{⊤}
-use Rattle.smap_lines.specs.Edited.{StepsLines, is_short}
-use Rattle.smap_lines.specs.Editing.{DevicesSeen, EditsInto}
+use Rattle.smap_lines.specs.Editing.{DevicesSeen}
 use Rattle.smap_lines.specs.Limits.{most_text_bytes}
-use Rattle.smap_lines.specs.Lines.{Line, lines_with_ends}
+use Rattle.smap_lines.specs.Lines.{Line}
 use Rattle.smap_lines.specs.Laws.OneText.{Only, edits_front_one}
-use Rattle.smap_lines.specs.declared.counts.LineCounts.{LineCounts}
 use Rattle.smap_lines.specs.declared.fault.LineFault.{LineFault}
-use Rattle.smap_lines.specs.Laws.Step.{edits_front_wider, few_lines}
+use Rattle.smap_lines.specs.Laws.Step.{edits_front_wider}
 use Rattle.smap_record.specs.Record.{MapRecord}
 use Rattle.smap_trace.specs.Frame.{FrameParts}
 use Rattle.smap_trace.specs.FrameOf.{frame_of}
-use Rattle.smap_trace.specs.Hiding.{HidingSeen, only_ignored}
+use Rattle.smap_trace.specs.Hiding.{only_ignored}
 use Rattle.smap_trace.specs.Laws.MapsOf.{in_table, rewrites_by, rewrites_by_table}
-use Rattle.smap_trace.specs.Rewriting.{BecomesFrame, Rewrites, RewritesFront, RewritesFrontOver, RewritesOver, TraceNow, TraceStep, hidden_in, mapped_in}
-use Rattle.smap_trace.specs.Rewriting.{staying_in}
-use Rattle.smap_trace.specs.Rewritten.{Fate, MayMeet, fate, fate_at, fate_of, hidden}
-use Rattle.smap_trace.specs.Rewritten.{line_after, no_frame, original_in, replaced, rewritten_line, stays}
+use Rattle.smap_trace.specs.Rewriting.{BecomesFrame, RewriteAsked, Rewrites, RewritesFront, RewritesFrontOver, RewritesOver, frames_alone}
+use Rattle.smap_trace.specs.Rewritten.{Fate, MayMeet, fate, fate_at, fate_of, line_after, original_in, rewritten_line}
+use Rattle.smap_trace.specs.UrlNotes.{NotesSeen}
 use Rattle.smap_by_text.specs.ByText.{value_under}
 use Rattle.smap_trace.specs.declared.maps.TableMaps.{TableMaps}
 use Rattle.smap_trace.specs.declared.outcome.RewriteCounts.{RewriteCounts}
-
--- a line is a frame that stays, or one that is replaced, or one that is hidden
-abbrev frames_in : Fate → ℕ
-frames_in met = staying_in met + mapped_in met + hidden_in met
-
--- each line adds one frame at most
-module _ {M : Type 0} (Finds : M → (url : List ℕ) → M → Type 0) (found : M → (url : List ℕ) → Option MapRecord) (hide : HidingSeen) where
-  one_at_most : (met : Fate) → frames_in met ≤ 1
-  one_at_most no_frame = omega arith
-  one_at_most stays = omega arith
-  one_at_most (replaced text) = omega arith
-  one_at_most hidden = omega arith
-
-  abbrev frames_now : TraceNow M → ℕ
-  frames_now now = now.staying + now.mapped + now.hidden
-
-  line_adds : (short : Bool) (P : Type 0) (old new : TraceNow M) (line : Line) (text : List ℕ)
-      → MatchBool short (TraceStep Finds found hide old line text new) (P × (new ≡ old)) → frames_now new ≤ frames_now old + 1
-  line_adds true P old new line text step =
-      let one = one_at_most step.met in let staying = step.staying in let mapped = step.mapped in let hiding = step.hiding in
-      omega (arith, one, staying, mapped, hiding)
-  line_adds false P old new line text same = omega (arith, ap frames_now same.1)
-
-  pub lines_add : (lines : List Line) (old new : TraceNow M) (text : List ℕ) → StepsLines (TraceStep Finds found hide) old lines text new
-      → frames_now new ≤ frames_now old + length lines
-  lines_add [] old new text steps = omega (arith, ap frames_now steps.1)
-  lines_add (line ∷ lines) old new text steps =
-      let one = line_adds (is_short line) _ old steps.0 line steps.1 steps.3 in
-      let more = lines_add lines steps.0 new steps.2 steps.4 in
-      omega (arith, one, more)
-
-  pub edits_add : (most : ℕ) (before after : DevicesSeen) (old new : TraceNow M) (counts : LineCounts) →
-      EditsInto (TraceStep Finds found hide) most before after old new counts → frames_now new ≤ frames_now old + most
-  edits_add most before after old new counts done =
-      let more = lines_add (lines_with_ends done.bytes) old new done.written done.steps.each in
-      omega (arith, more, few_lines done.bytes, done.fits)
 
 -- over the maps of a table
 module _ (table : List (List ℕ × MapRecord)) (hide : Bool) where
@@ -76,12 +36,15 @@ module _ (table : List (List ℕ × MapRecord)) (hide : Bool) where
       let same : new.0.now ≡ table = ap (λ m. m.0.now) finds ∙ is in
       (ap (value_under url) same, same)
 
-  pub rewrites_one : (before after : DevicesSeen) (old new : TableMaps) (counts : RewriteCounts) → old.0.now ≡ table →
-      RewritesOver TableFinds table_found (only_ignored hide) most_text_bytes before after old new counts → Rewrites before after table hide counts.summary
-  rewrites_one before after old new counts is all =
+  abbrev asked : RewriteAsked
+  asked = frames_alone (only_ignored hide) most_text_bytes
+
+  pub rewrites_one : (before after : DevicesSeen) (old new : TableMaps) (counts : RewriteCounts) (notes : NotesSeen) → old.0.now ≡ table
+      → RewritesOver TableFinds table_found asked before after old new counts notes → Rewrites before after table hide counts.summary
+  rewrites_one before after old new counts notes is all =
       rewrites_by_table table hide before after counts
       (rewrites_by TableFinds table_found (in_table table hide) (λ maps. ⊤) IsOver (λ old new url finds good. tt)
-      (λ old new url finds good is. finds_table old new url finds is) (only_ignored hide) most_text_bytes before after old new counts all tt is)
+      (λ old new url finds good is. finds_table old new url finds is) asked before after old new counts notes all tt is)
 
   -- where it fails too
   may_is : (parts : Option FrameParts) (met : Fate) → MayMeet (λ url stated. stated ≡ value_under url table) (only_ignored hide) parts met → met ≡ fate_of hide table parts

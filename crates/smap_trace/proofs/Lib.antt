@@ -8,6 +8,5 @@ pub mod EndNumberLaws
 pub mod Examples
 pub mod NotesLaws
 pub mod NoteSteps
-pub mod NotingLaws
-pub mod PassingLaws
+pub mod RewritingLaws
 pub mod RememberedLaws

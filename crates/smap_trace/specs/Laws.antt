@@ -3,6 +3,3 @@ pub mod Seen
 pub mod MapsOf
 pub mod Looked
 pub mod Rewriter
-pub mod NotingRewriter
-pub mod Noted
-pub mod Passed

@@ -5,4 +5,3 @@ pub mod Remembered
 pub mod FrameRewriter
 pub mod Noting
 pub mod Passing
-pub mod NotingRewriter

@@ -1,5 +1,5 @@
 -- What rewriting a trace does to its devices.
-use Rattle.std.specs.Prelude.{◌≡◌, ◌+◌, ℕ, Bool, List, Option}
+use Rattle.std.specs.Prelude.{◌≡◌, ◌+◌, ◌++◌, ℕ, Bool, false, List, [], Option, cond, min}
 use Rattle.std.specs.List.{FoldsTo}
 use Rattle.smap_lines.specs.Editing.{Edits, EditsFront, EditsFrontInto, EditsInto, DevicesSeen}
 use Rattle.smap_lines.specs.Limits.{most_text_bytes}
@@ -7,8 +7,12 @@ use Rattle.smap_lines.specs.Lines.{Line}
 use Rattle.smap_lines.specs.declared.fault.LineFault.{LineFault}
 use Rattle.smap_record.specs.Record.{MapRecord}
 use Rattle.smap_trace.specs.FrameOf.{frame_of}
-use Rattle.smap_trace.specs.Hiding.{HidingSeen}
-use Rattle.smap_trace.specs.Rewritten.{Counts, Fate, FateStep, MayMeet, counts_of, hidden, line_after, no_frame, replaced, rewritten_line, stays}
+use Rattle.smap_trace.specs.Hiding.{HidingSeen, hiding_seen}
+use Rattle.smap_trace.specs.Noted.{AreNotesIf, namings_in}
+use Rattle.smap_trace.specs.Passed.{PlaceCount, passed_in}
+use Rattle.smap_trace.specs.Rewritten.{Counts, Fate, FateStep, MayMeet, counts_of, is_frame_line, is_hidden, is_mapped, line_after, rewritten_line}
+use Rattle.smap_trace.specs.UrlNotes.{NamingSeen, NotesSeen}
+use Rattle.smap_trace.specs.declared.options.RewriteOptions.{RewriteOptions}
 use Rattle.smap_trace.specs.declared.outcome.RewriteCounts.{RewriteCounts}
 use Rattle.smap_trace.specs.declared.outcome.Summary.{Summary}
 
@@ -30,55 +34,65 @@ RewritesFront before after table hide fault = EditsFront (rewritten_line table h
 
 -- ---- over maps that are looked for line by line
 
--- how many frames stay then, how many are replaced, and how many are hidden
-abbrev pub staying_in : Fate → ℕ
-staying_in no_frame = 0
-staying_in stays = 1
-staying_in (replaced text) = 0
-staying_in hidden = 0
+-- what is asked of it: which frames are left out, how many bytes are taken at most, whether it is noted what frames name, and how
+-- many of the places are counted at most that are passed, of which `count` says how many a line has whose URL is another than one
+pub record RewriteAsked : Type 0 where
+  pub hide : HidingSeen
+  pub most : ℕ
+  pub is_noted : Bool
+  pub count : PlaceCount
+  pub most_passed : ℕ
 
-abbrev pub mapped_in : Fate → ℕ
-mapped_in no_frame = 0
-mapped_in stays = 0
-mapped_in (replaced text) = 1
-mapped_in hidden = 0
+abbrev pub asked_seen : {P : Type 0} → (count : P → PlaceCount) → RewriteOptions P → RewriteAsked
+asked_seen count options = record {
+  hide = hiding_seen options.hiding;
+  most = options.most;
+  is_noted = options.is_noted;
+  count = count options.places.now;
+  most_passed = options.most_passed;
+}
 
-abbrev pub hidden_in : Fate → ℕ
-hidden_in no_frame = 0
-hidden_in stays = 0
-hidden_in (replaced text) = 0
-hidden_in hidden = 1
+-- the frames alone
+abbrev pub frames_alone : HidingSeen → (most : ℕ) → RewriteAsked
+frames_alone hide most = record { hide = hide; most = most; is_noted = false; count = λ own line. 0; most_passed = 0 }
 
--- the maps, and what was counted of the lines so far
+-- the maps, what was counted of the lines so far, and what their frames named
 pub record TraceNow (M : Type 0) : Type 0 where
   pub maps : M
-  pub staying : ℕ
+  pub frames : ℕ
   pub mapped : ℕ
   pub hidden : ℕ
+  pub passed : ℕ
+  pub namings : List NamingSeen
 
 abbrev pub trace_start : {M : Type 0} → M → TraceNow M
-trace_start maps = record { maps = maps; staying = 0; mapped = 0; hidden = 0 }
+trace_start maps = record { maps = maps; frames = 0; mapped = 0; hidden = 0; passed = 0; namings = [] }
 
--- what a line became, and how the maps and the counts stand after it
-pub record TraceStep {M : Type 0} (Finds : M → (url : List ℕ) → M → Type 0) (found : M → (url : List ℕ) → Option MapRecord) (hide : HidingSeen)
+-- what a line became, and how the maps, the counts and the namings stand after it
+pub record TraceStep {M : Type 0} (Finds : M → (url : List ℕ) → M → Type 0) (found : M → (url : List ℕ) → Option MapRecord) (asked : RewriteAsked)
     (old : TraceNow M) (line : Line) (text : List ℕ) (new : TraceNow M) : Type 0 where
   pub met : Fate
-  pub step : FateStep Finds found hide old.maps (frame_of line.bytes) met new.maps
+  pub step : FateStep Finds found asked.hide old.maps (frame_of line.bytes) met new.maps
   pub text_is : text ≡ line_after line met
-  pub staying : new.staying ≡ old.staying + staying_in met
-  pub mapped : new.mapped ≡ old.mapped + mapped_in met
-  pub hiding : new.hidden ≡ old.hidden + hidden_in met
+  pub frames : new.frames ≡ old.frames + cond (is_frame_line line) 1 0
+  pub mapped : new.mapped ≡ old.mapped + cond (is_mapped met) 1 0
+  pub hiding : new.hidden ≡ old.hidden + cond (is_hidden met) 1 0
+  pub passed : new.passed ≡ old.passed + passed_in asked.count (found new.maps) line
+  pub named : new.namings ≡ old.namings ++ namings_in asked.hide (found new.maps) (frame_of line.bytes)
 
--- all that the input had, which is at most `most` bytes, was read, and what each line became over the maps that were found for
--- it was written, and nothing else
-pub record RewritesOver {M : Type 0} (Finds : M → (url : List ℕ) → M → Type 0) (found : M → (url : List ℕ) → Option MapRecord) (hide : HidingSeen) (most : ℕ)
-    (before after : DevicesSeen) (old new : M) (counts : RewriteCounts) : Type 0 where
+-- all that the input had, which is not too much, was read, and what each line became over the maps that were found for it was
+-- written, and nothing else; places that were passed are counted in lines of at most 65,536 bytes
+pub record RewritesOver {M : Type 0} (Finds : M → (url : List ℕ) → M → Type 0) (found : M → (url : List ℕ) → Option MapRecord) (asked : RewriteAsked)
+    (before after : DevicesSeen) (old new : M) (counts : RewriteCounts) (notes : NotesSeen) : Type 0 where
   pub last : TraceNow M
-  pub edits : EditsInto (TraceStep Finds found hide) most before after (trace_start old) last (record { lines = counts.summary.lines; long = counts.long })
+  pub edits : EditsInto (TraceStep Finds found asked) asked.most before after (trace_start old) last
+      (record { lines = counts.summary.lines; long = counts.long })
   pub maps : last.maps ≡ new
-  pub frames : counts.summary.frames ≡ last.staying + last.mapped + last.hidden
+  pub frames : counts.summary.frames ≡ last.frames
   pub mapped : counts.summary.mapped ≡ last.mapped
   pub hiding : counts.summary.hidden ≡ last.hidden
+  pub passed : counts.passed ≡ min asked.most_passed last.passed
+  pub noted : AreNotesIf asked.is_noted last.namings notes
 
 -- the maps may stand so after some URLs were looked for, one after another
 abbrev pub Looked : {M : Type 0} → (Finds : M → (url : List ℕ) → M → Type 0) → (old new : M) → Type 0

@@ -1,45 +1,54 @@
-//! The frames of a trace, rewritten line by line.
+//! The frames of a trace, rewritten line by line; what became of them, noted where that is asked; and the places that are
+//! passed over, counted as far as a number.
 ghost use Rattle.std.specs.Prelude.{◌≡◌, ◌++◌, map, true};
 ghost use Rattle.std.specs.List.{concat};
 ghost use Rattle.smap_lines.specs.LineOutput.{IsPut};
 ghost use Rattle.smap_lines.specs.Lines.{end_in};
+ghost use Rattle.smap_trace.specs.FrameSeen.{parts_seen};
+ghost use Rattle.smap_trace.specs.NotesSeen.{naming_seen, notes_seen};
+ghost use Rattle.smap_trace.specs.Private.FrameRewriter.{IsNotedIf};
 ghost use Rattle.smap_trace.specs.Private.Remembered.{is_right};
-ghost use Rattle.smap_trace.specs.SightSeen.{replaced_frame};
+ghost use Rattle.smap_trace.specs.Rewritten.{line_after};
+ghost use Rattle.smap_trace.specs.SightSeen.{fate_seen, replaced_frame};
+ghost use Rattle.smap_trace.specs.UrlNotes.{naming_with};
 
 use crate::frames::frame_of_line;
-use crate::hiding::Hiding;
 use crate::maps::Maps;
+use crate::options::RewriteOptions;
 use crate::original::Replacement;
 use crate::parts::Frame;
+use crate::passed::{PlaceCounter, passed_after};
 use crate::printed::{MOST_PRINTED_BYTES, print_place};
 use crate::remembered::Remembered;
-use crate::sight::{Sight, look_again};
+use crate::sight::{Sight, look_at};
+use crate::url_notes::{Naming, UrlNotes};
 use smap_io::{ByteSink, DeviceFault};
 use smap_lines::{LineEditor, LineOutput, end_of_line};
 use std::alloc::Global;
 
-/// Rewrites the frames among the lines of a trace, and counts those that stay, those that are replaced and those that
-/// are hidden.
+/// Rewrites the frames among the lines of a trace, counts and notes them, and counts the places that are passed over.
 #[derive(Drop)]
-pub struct FrameRewriter<'m, 'h, 'r, M: Maps> {
+pub struct FrameRewriter<'m, 'r, 'o, 'h, 'n, M: Maps, P: PlaceCounter> {
     pub alloc: Global,
     pub maps: &'m mut M,
-    pub hiding: Hiding<'h>,
-    pub staying: u64,
-    pub mapped: u64,
-    pub hidden: u64,
     /// What was answered before, over maps that are still found.
     pub remembered: &'r mut Remembered,
+    pub options: &'o RewriteOptions<'h, P>,
+    pub notes: &'n mut UrlNotes,
+    pub frames: u64,
+    pub mapped: u64,
+    pub hidden: u64,
+    pub passed: u64,
 }
 
-impl<M: Maps> LineEditor for FrameRewriter<'_, '_, '_, M> {
+impl<M: Maps, P: PlaceCounter> LineEditor for FrameRewriter<'_, '_, '_, '_, '_, M, P> {
     ghost use Rattle.smap_trace.specs.Private.FrameRewriter.{RewriterBecomes, RewriterReaches, RewriterSteps, room_of};
     ghost use Rattle.smap_trace.specs.Laws.Rewriter.{became_frame, room_after, same_frame, some_frame};
     ghost use Rattle.smap_trace.specs.Laws.Rewriter.{rewriter_goes_on, rewriter_stays};
 
     ghost Becomes = { RewriterBecomes M.Gives };
 
-    ghost Steps = { RewriterSteps M.Finds M.found };
+    ghost Steps = { RewriterSteps M.Finds M.found P.count };
 
     ghost Reaches = { RewriterReaches M.Finds };
 
@@ -52,34 +61,33 @@ impl<M: Maps> LineEditor for FrameRewriter<'_, '_, '_, M> {
         output: &mut LineOutput<'_, W>,
     ) -> Result<(), DeviceFault> {
         let Some(frame) = frame_of_line(line) else {
-            return output.put_line(line, is_ended);
+            output.put_line(line, is_ended)?;
+            self.passed = passed_after(self.options, self.passed, None, false, line);
+            return Ok(());
         };
         find_map(self.maps, self.remembered, frame.url);
-        match look_again(self.alloc, self.maps, self.remembered, &self.hiding, &frame) {
-            Sight::Staying => {
-                output.put_line(line, is_ended)?;
-                self.staying += 1;
-            }
-            Sight::Replaced(replacement) => {
-                put_frame(&frame, &replacement, is_ended, output)?;
-                self.mapped += 1;
-            }
-            Sight::Hidden => self.hidden += 1,
-        }
+        let hiding = &self.options.hiding;
+        let (has_map, sight) = look_at(self.alloc, self.maps, self.remembered, hiding, &frame);
+        put_sight(line, &frame, &sight, is_ended, output)?;
+        self.frames += 1;
+        self.mapped += u64::from(sight.is_mapped());
+        self.hidden += u64::from(sight.is_hidden());
+        self.passed = passed_after(self.options, self.passed, Some(frame.url), has_map, line);
+        note_if(self.options.is_noted, self.notes, &frame, has_map, &sight);
         Ok(())
     }
 
-    ghost some = { some_frame M.Gives M.Finds M.found M.some };
+    ghost some = { some_frame M.Gives M.Finds M.found P.count M.some };
 
-    ghost became = { became_frame M.Gives M.Finds M.found M.given };
+    ghost became = { became_frame M.Gives M.Finds M.found P.count M.given };
 
-    ghost same = { same_frame M.Gives M.Finds M.found M.same };
+    ghost same = { same_frame M.Gives M.Finds M.found P.count M.same };
 
     ghost stays = { rewriter_stays M.Finds };
 
     ghost goes_on = { rewriter_goes_on M.Finds };
 
-    ghost room_for_one = { room_after M.Gives M.Finds M.found };
+    ghost room_for_one = { room_after M.Gives M.Finds M.found P.count };
 }
 
 // Looks for the map of a URL. Where others may be found then, what was answered is forgotten.
@@ -90,6 +98,25 @@ fn find_map<M: Maps>(maps: &mut M, remembered: &mut Remembered, url: &[u8])
 {
     if maps.find(url) {
         remembered.forget();
+    }
+}
+
+// Puts what becomes of the line of a frame, with the end of the line.
+fn put_sight<W: ByteSink>(
+    line: &[u8],
+    frame: &Frame<'_>,
+    sight: &Sight<'_>,
+    is_ended: bool,
+    output: &mut LineOutput<'_, W>,
+) -> Result<(), DeviceFault>
+    ensures { IsPut W.seen output.old output.new
+        (line_after (record { bytes = line.now; is_ended = is_ended })
+        (fate_seen frame.now sight.now)) result }
+{
+    match sight {
+        Sight::Staying => output.put_line(line, is_ended),
+        Sight::Replaced(replacement) => put_frame(frame, replacement, is_ended, output),
+        Sight::Hidden => Ok(()),
     }
 }
 
@@ -126,4 +153,41 @@ fn pieces_of<'a>(
         ≡ (head.now ++ (name.now ++ place.now) ++ tail.now) ++ end.now }
 {
     [head, name, place, tail, end]
+}
+
+// Notes what became of a frame, whose URL has a map or none, where that is asked.
+fn note_if(
+    is_noted: bool,
+    notes: &mut UrlNotes,
+    frame: &Frame<'_>,
+    has_map: bool,
+    sight: &Sight<'_>,
+)
+    ensures { IsNotedIf is_noted
+        (naming_with (parts_seen frame.now) has_map (fate_seen frame.now sight.now))
+        (notes_seen notes.old) (notes_seen notes.new) }
+{
+    if is_noted {
+        notes.note(&naming_with(frame, has_map, sight));
+    }
+}
+
+// What a frame is noted as.
+fn naming_with<'a>(frame: &Frame<'a>, has_map: bool, sight: &Sight<'_>) -> Naming<'a>
+    ensures { naming_seen result
+        ≡ naming_with (parts_seen frame.now) has_map (fate_seen frame.now sight.now) }
+{
+    let (mapped, staying) = match sight {
+        Sight::Staying => (false, true),
+        Sight::Replaced(_) => (true, false),
+        Sight::Hidden => (false, false),
+    };
+    Naming {
+        url: frame.url,
+        line: frame.line,
+        column: frame.column,
+        found: has_map,
+        mapped,
+        unmapped: has_map && staying,
+    }
 }

@@ -1,14 +1,9 @@
 //! The places that rewriting frames passes over.
-ghost use Rattle.std.specs.Prelude.{◌≡◌, ◌≤◌, ℕ, false, length, List, Option, option_map};
-ghost use Rattle.smap_lines.specs.Limits.{most_line_bytes};
-ghost use Rattle.smap_lines.specs.Lines.{has_line_end};
-ghost use Rattle.smap_trace.specs.FrameOf.{frame_of};
-ghost use Rattle.smap_trace.specs.Passed.{passed_of};
+ghost use Rattle.std.specs.Prelude.{◌≡◌, ℕ, List, Option, option_map};
+ghost use Rattle.smap_trace.specs.Passed.{passed_beside};
 ghost use Rattle.smap_trace.specs.Private.Passing.{passed_after};
 
-use crate::frame_rewriter::FrameRewriter;
-use crate::frames::frame_of_line;
-use crate::maps::Maps;
+use crate::options::RewriteOptions;
 
 /// What counts the places of a line.
 pub trait PlaceCounter {
@@ -20,43 +15,34 @@ pub trait PlaceCounter {
         ensures { result ≡ count self.now (option_map (λ url. url.now) own.entry) line.now };
 }
 
-/// How many places were passed, at most so many, after a line, over maps of which that of its frame's URL was looked for.
-pub fn passed_after<M: Maps, P: PlaceCounter>(
-    rewriter: &FrameRewriter<'_, '_, '_, M>,
-    places: &P,
-    most: u64,
-    passed: u64,
-    line: &[u8],
-) -> u64
-    requires one { has_line_end line.now ≡ false }
-    requires short { length line.now ≤ most_line_bytes }
-    ensures { result ≡ passed_after most passed
-        (passed_of (P.count places.now) (M.found rewriter.now.maps.now) (frame_of line.now)
-        line.now) }
-{
-    if passed >= most {
-        return passed;
+/// No place is looked for.
+#[derive(Clone, Copy)]
+pub struct NoPlaces;
+
+impl PlaceCounter for NoPlaces {
+    ghost count = { λ places own line. 0 };
+
+    fn count_in(&self, _own: Option<&[u8]>, _line: &[u8]) -> u64 {
+        0
     }
-    let more = passed_in(rewriter, places, line);
-    passed.saturating_add(more).min(most)
 }
 
-// How many places are passed in a line: all where it is no frame; and in a frame whose URL has no map those of other URLs.
-fn passed_in<M: Maps, P: PlaceCounter>(
-    rewriter: &FrameRewriter<'_, '_, '_, M>,
-    places: &P,
+/// How many places were passed, at most so many as are asked for, after a line whose frame has this URL, where it is one;
+/// and that has a map or none.
+pub fn passed_after<P: PlaceCounter>(
+    options: &RewriteOptions<'_, P>,
+    passed: u64,
+    own: Option<&[u8]>,
+    has_map: bool,
     line: &[u8],
 ) -> u64
-    requires one { has_line_end line.now ≡ false }
-    requires short { length line.now ≤ most_line_bytes }
-    ensures { result ≡ passed_of (P.count places.now) (M.found rewriter.now.maps.now)
-        (frame_of line.now) line.now }
+    ensures { result ≡ passed_after options.now.most_passed passed
+        (passed_beside (P.count options.now.places.now) (option_map (λ url. url.now) own.entry)
+        has_map line.now) }
 {
-    let Some(frame) = frame_of_line(line) else {
-        return places.count_in(None, line);
-    };
-    match rewriter.maps.map_for(frame.url) {
-        Some(_) => 0,
-        None => places.count_in(Some(frame.url), line),
+    if has_map || passed >= options.most_passed {
+        return passed;
     }
+    let more = options.places.count_in(own, line);
+    passed.saturating_add(more).min(options.most_passed)
 }

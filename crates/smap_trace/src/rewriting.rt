@@ -1,17 +1,15 @@
 //! Rewriting a trace.
-ghost use Rattle.std.specs.Prelude.{◌≡◌, ◌<◌, ◌+◌, ◌^◌, [], false, true, IfOk};
-ghost use Rattle.smap_lines.specs.Editing.{devices_seen};
+ghost use Rattle.std.specs.Prelude.{◌≡◌, ◌<◌, ◌^◌, false};
 ghost use Rattle.smap_lines.specs.RunEnds.{RunEnds};
 ghost use Rattle.smap_trace.specs.Hiding.{hiding_seen};
-ghost use Rattle.smap_trace.specs.Noted.{RewritesNoted};
-ghost use Rattle.smap_trace.specs.Passed.{RewritesPassing};
+ghost use Rattle.smap_trace.specs.Noted.{nothing_noted};
 ghost use Rattle.smap_trace.specs.NotesSeen.{notes_seen};
-ghost use Rattle.smap_trace.specs.Rewriting.{Looked, Rewrites, RewritesFront, RewritesFrontOver, RewritesOver};
+ghost use Rattle.smap_trace.specs.Rewriting.{Looked, Rewrites, RewritesFront, RewritesFrontOver, RewritesOver, asked_seen};
 
 use crate::frame_rewriter::FrameRewriter;
 use crate::hiding::Hiding;
 use crate::maps::{Maps, TableMaps};
-use crate::noting_rewriter::NotingRewriter;
+use crate::options::RewriteOptions;
 use crate::outcome::{RewriteCounts, RewriteFault, Summary};
 use crate::passed::PlaceCounter;
 use crate::remembered::Remembered;
@@ -43,148 +41,56 @@ pub fn rewrite<R: ByteSource, W: ByteSink>(
         (λ before after. RewritesFront before after table.now hide_ignored) result }
 {
     let mut maps = TableMaps(table);
-    let options = RewriteOptions {
-        hiding: Hiding::only_ignored(hide_ignored),
-        most: MOST_TEXT_BYTES,
-    };
-    let counts = rewrite_over(alloc, input, output, &mut maps, options)?;
+    let options = RewriteOptions::of_frames(Hiding::only_ignored(hide_ignored), MOST_TEXT_BYTES);
+    let mut notes = UrlNotes::new(alloc);
+    let counts = rewrite_over(alloc, input, output, &mut maps, &options, &mut notes)?;
     Ok(counts.summary)
 }
 
-/// How a trace is rewritten.
-#[derive(Clone, Copy)]
-pub struct RewriteOptions<'h> {
-    /// Which frames are left out.
-    pub hiding: Hiding<'h>,
-    /// How many bytes of the trace are taken at most: less than 2^63.
-    pub most: u64,
-}
-
-/// What is looked at beside the frames.
-#[derive(Drop)]
-pub struct NotingOptions<'p, P: PlaceCounter> {
-    /// Whether what frames name is noted.
-    pub is_noted: bool,
-    /// What counts the places of lines that are no frames of the maps.
-    pub places: &'p P,
-    /// How many of them are counted at most: none are looked for where this is 0.
-    pub most_passed: u64,
-}
-
-/// The same over maps that are looked for when a frame names them. The caller gives devices that have not failed. The
-/// output is not flushed.
-pub fn rewrite_over<R: ByteSource, W: ByteSink, M: Maps>(
+/// The same over maps that are looked for when a frame names them. Where that is asked, it is noted what became of the first
+/// 100 different URLs that frames name; and the places that are passed over in lines of up to 65,536 bytes are counted, as
+/// far as a number. The caller gives devices that have not failed, and notes without any. The output is not flushed.
+pub fn rewrite_over<R: ByteSource, W: ByteSink, M: Maps, P: PlaceCounter>(
     alloc: Global,
     input: &mut R,
     output: &mut W,
     maps: &mut M,
-    options: RewriteOptions<'_>,
-) -> Result<RewriteCounts, RewriteFault>
-    requires input_works { (R.seen input.old).failed ≡ false }
-    requires output_works { (W.seen output.old).failed ≡ false }
-    requires most { options.most < 2 ^ 63 }
-    ensures ends { RunEnds R.seen W.seen input.old input.new output.old output.new
-        (λ before after. RewritesOver M.Finds M.found (hiding_seen options.entry.hiding)
-        options.entry.most before after maps.old maps.new)
-        (RewritesFrontOver (M.Gives maps.old) (hiding_seen options.entry.hiding)
-        options.entry.most) result }
-    ensures passed { IfOk result (λ counts. counts.passed ≡ 0) }
-    ensures looked { Looked M.Finds maps.old maps.new }
-{
-    let RewriteOptions { hiding, most } = options;
-    let mut remembered = Remembered::new(alloc);
-    let mut rewriter = FrameRewriter {
-        alloc,
-        maps,
-        hiding,
-        staying: 0,
-        mapped: 0,
-        hidden: 0,
-        remembered: &mut remembered,
-    };
-    let lines = edit_lines(alloc, input, output, &mut rewriter, most)?;
-    Ok(counts_of(&lines, &rewriter, 0))
-}
-
-/// The same, where it is noted too what became of the first 100 different URLs that frames name, if that is asked for, and
-/// the places are counted that are passed over in lines of up to 65,536 bytes, as far as a number. The caller gives notes
-/// without any.
-pub fn rewrite_noting<R: ByteSource, W: ByteSink, M: Maps, P: PlaceCounter>(
-    alloc: Global,
-    input: &mut R,
-    output: &mut W,
-    maps: &mut M,
-    options: RewriteOptions<'_>,
-    asked: &NotingOptions<'_, P>,
+    options: &RewriteOptions<'_, P>,
     notes: &mut UrlNotes,
 ) -> Result<RewriteCounts, RewriteFault>
     requires input_works { (R.seen input.old).failed ≡ false }
     requires output_works { (W.seen output.old).failed ≡ false }
-    requires most { options.most < 2 ^ 63 }
-    requires unnoted { notes_seen notes.old ≡ record { notes = []; is_short = false } }
+    requires most { options.now.most < 2 ^ 63 }
+    requires unnoted { notes_seen notes.old ≡ nothing_noted }
     ensures ends { RunEnds R.seen W.seen input.old input.new output.old output.new
-        (λ before after. RewritesPassing M.Finds M.found (P.count asked.now.places.now)
-        asked.now.most_passed (hiding_seen options.entry.hiding) options.entry.most before after
-        maps.old maps.new)
-        (RewritesFrontOver (M.Gives maps.old) (hiding_seen options.entry.hiding)
-        options.entry.most) result }
-    ensures notes { asked.now.is_noted ≡ true → IfOk result (λ counts. RewritesNoted M.Finds M.found
-        (hiding_seen options.entry.hiding) options.entry.most
-        (devices_seen (R.seen input.old) (W.seen output.old))
-        (devices_seen (R.seen input.new) (W.seen output.new)) maps.old maps.new counts
-        (notes_seen notes.new)) }
+        (λ before after counts. RewritesOver M.Finds M.found (asked_seen P.count options.now)
+        before after maps.old maps.new counts (notes_seen notes.new))
+        (RewritesFrontOver (M.Gives maps.old) (hiding_seen options.now.hiding)
+        options.now.most) result }
     ensures looked { Looked M.Finds maps.old maps.new }
 {
-    let RewriteOptions { hiding, most } = options;
     let mut remembered = Remembered::new(alloc);
-    let mut noting = NotingRewriter {
-        rewriter: FrameRewriter {
-            alloc,
-            maps,
-            hiding,
-            staying: 0,
-            mapped: 0,
-            hidden: 0,
-            remembered: &mut remembered,
-        },
-        is_noted: asked.is_noted,
+    let mut rewriter = FrameRewriter {
+        alloc,
+        maps,
+        remembered: &mut remembered,
+        options,
         notes,
-        places: asked.places,
-        most_passed: asked.most_passed,
+        frames: 0,
+        mapped: 0,
+        hidden: 0,
         passed: 0,
     };
-    let lines = edit_lines(alloc, input, output, &mut noting, most)?;
-    Ok(counts_of(&lines, &noting.rewriter, noting.passed))
-}
-
-// What was counted of lines, of the frames among them, and of the places that were passed.
-fn counts_of<M: Maps>(
-    lines: &LineCounts,
-    rewriter: &FrameRewriter<'_, '_, '_, M>,
-    passed: u64,
-) -> RewriteCounts
-    requires { rewriter.now.staying + rewriter.now.mapped + rewriter.now.hidden < 2 ^ 64 }
-    ensures { result ≡ record {
-      summary = record {
-        lines = lines.now.lines;
-        frames = rewriter.now.staying + rewriter.now.mapped + rewriter.now.hidden;
-        mapped = rewriter.now.mapped;
-        hidden = rewriter.now.hidden;
-      };
-      long = lines.now.long;
-      passed = passed;
-    } }
-{
-    let LineCounts { lines, long } = *lines;
+    let LineCounts { lines, long } = edit_lines(alloc, input, output, &mut rewriter, options.most)?;
     let summary = Summary {
         lines,
-        frames: rewriter.staying + rewriter.mapped + rewriter.hidden,
+        frames: rewriter.frames,
         mapped: rewriter.mapped,
         hidden: rewriter.hidden,
     };
-    RewriteCounts {
+    Ok(RewriteCounts {
         summary,
         long,
-        passed,
-    }
+        passed: rewriter.passed,
+    })
 }

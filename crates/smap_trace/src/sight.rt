@@ -1,14 +1,14 @@
 //! What a frame is, over the maps.
-ghost use Rattle.std.specs.Prelude.{◌≡◌, option_map, true};
+ghost use Rattle.std.specs.Prelude.{◌≡◌, is_some, option_map, true};
 ghost use Rattle.smap_trace.specs.FrameSeen.{parts_seen};
 ghost use Rattle.smap_trace.specs.Hiding.{hiding_seen};
-ghost use Rattle.smap_trace.specs.Rewritten.{fate_at, original_in};
 ghost use Rattle.smap_trace.specs.Private.Remembered.{StaysRight, is_right};
+ghost use Rattle.smap_trace.specs.Rewritten.{fate_at, is_hidden, is_mapped, original_in};
 ghost use Rattle.smap_trace.specs.SightSeen.{fate_seen, original_seen};
 
 use crate::hiding::Hiding;
 use crate::maps::Maps;
-use crate::original::{Original, Replacement, original_at};
+use crate::original::{Original, Replacement};
 use crate::parts::Frame;
 use crate::remembered::Remembered;
 use std::alloc::Global;
@@ -24,40 +24,42 @@ pub enum Sight<'m> {
     Hidden,
 }
 
-/// What a frame is over the maps, of which that of its URL was looked for, where these frames are left out.
-pub fn look_at<'m, M: Maps>(
-    alloc: Global,
-    maps: &'m M,
-    hiding: &Hiding<'_>,
-    frame: &Frame<'_>,
-) -> Sight<'m>
-    ensures { fate_seen frame.now result ≡ fate_at (hiding_seen hiding.now) (parts_seen frame.now)
-        (original_in (parts_seen frame.now) (M.found maps.now frame.now.url.now)) }
-{
-    let Some(map) = maps.map_for(frame.url) else {
-        return Sight::Staying;
-    };
-    sight_of(original_at(alloc, map, frame.line, frame.column), hiding)
+impl Sight<'_> {
+    // Whether it is replaced.
+    pub fn is_mapped(&self) -> bool
+        ensures { (frame : _) → result ≡ is_mapped (fate_seen frame self.now) }
+    {
+        matches!(self, Sight::Replaced(_))
+    }
+
+    // Whether it is hidden.
+    pub fn is_hidden(&self) -> bool
+        ensures { (frame : _) → result ≡ is_hidden (fate_seen frame self.now) }
+    {
+        matches!(self, Sight::Hidden)
+    }
 }
 
-/// The same, where what was answered before is remembered, over maps that are still found.
-pub fn look_again<'m, M: Maps>(
+/// Whether the URL of a frame has a map, and what the frame is, over maps of which that of its URL was looked for, where
+/// these frames are left out; what was answered before is remembered, over maps that are still found.
+pub fn look_at<'m, M: Maps>(
     alloc: Global,
     maps: &'m M,
     remembered: &mut Remembered,
     hiding: &Hiding<'_>,
     frame: &Frame<'_>,
-) -> Sight<'m>
+) -> (bool, Sight<'m>)
+    ensures has_map { result.0 ≡ is_some (M.found maps.now frame.now.url.now) }
     ensures sight { is_right (M.found maps.now) remembered.old ≡ true →
-        fate_seen frame.now result ≡ fate_at (hiding_seen hiding.now) (parts_seen frame.now)
+        fate_seen frame.now result.1 ≡ fate_at (hiding_seen hiding.now) (parts_seen frame.now)
         (original_in (parts_seen frame.now) (M.found maps.now frame.now.url.now)) }
     ensures right { StaysRight (M.found maps.now) remembered.old remembered.new }
 {
     let Some(map) = maps.map_for(frame.url) else {
-        return Sight::Staying;
+        return (false, Sight::Staying);
     };
     let original = remembered.original_at(alloc, map, frame.url, frame.line, frame.column);
-    sight_of(original, hiding)
+    (true, sight_of(original, hiding))
 }
 
 // What a frame is that comes from here.

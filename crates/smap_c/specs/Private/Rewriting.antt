@@ -1,5 +1,5 @@
 -- What a rewriting comes to.
-use Rattle.std.specs.Prelude.{◌≡◌, ◌<◌, ◌≤◌, ◌++◌, ℕ, List, length}
+use Rattle.std.specs.Prelude.{◌≡◌, ◌<◌, ◌≤◌, ◌++◌, ℕ, List, Result, Ok, Err, length}
 use Rattle.smap_lines.specs.Limits.{most_text_bytes}
 use Rattle.smap_lines.specs.declared.fault.LineFault.{LineFault}
 use Rattle.smap_lines.specs.declared.fault.LineFault.TheVariants.{TooMuch}
@@ -26,3 +26,8 @@ pub record HasFront (options : RewriteOptions) (table : UrlTableSeen) (read writ
   pub later : List ℕ
   pub is_front : read ≡ front ++ rest
   pub made : text_of options table front ≡ written ++ later
+
+-- so it ends: what was read is rewritten, or too much, and a front of it is
+abbrev pub EndsRewriting : RewriteOptions → UrlTableSeen → (read written : List ℕ) → Result Summary LineFault → Type 0
+EndsRewriting options table read written (Ok summary) = IsRewritten options table read written summary
+EndsRewriting options table read written (Err fault) = IsTooMuch read fault × HasFront options table read written

@@ -1,13 +1,12 @@
 -- Laws of rewriting a trace over files whose paths give the same bytes whenever they are read: what is written and counted is then
 -- what the maps of these files make of it, however few are remembered, if they are settled and memory did not run out.
-use Rattle.std.specs.Prelude.{◌≡◌, ◌<◌, ◌+◌, ◌||◌, ℕ, Bool, true, false, List, [], Option, None, Result, Ok, Err, length}
+use Rattle.std.specs.Prelude.{◌≡◌, ◌<◌, ◌+◌, ◌||◌, ℕ, Bool, true, false, List, [], MatchBool, Option, None, Result, Ok, Err, length}
 use Rattle.std.proofs.Common.{ap, arith, inl, inr, refl, subst, sym, ◌∙◌}
 use Rattle.url.specs.Parts.{Parts}
 use Rattle.smap_lines.specs.Editing.{DevicesSeen, devices_seen}
 use Rattle.smap_lines.specs.declared.fault.LineFault.{LineFault}
 use Rattle.smap_places.specs.Places.{PlaceUrl}
 use Rattle.smap_places.specs.PlacesBy.{RewritesPlacesBy}
-use Rattle.smap_places.specs.PlacesRewritten.{places_in}
 use Rattle.smap_places.specs.Laws.PlacesBy.{places_by}
 use Rattle.smap_places.specs.PlacesOver.{RewritesPlacesOver}
 use Rattle.smap_record.specs.Record.{MapRecord}
@@ -18,19 +17,19 @@ use Rattle.smap_store.specs.Laws.Same.{good_before, right_after, right_start}
 use Rattle.smap_store.specs.Stored.{FindsIn, LoadsStep, StoredSeen, found_in}
 use Rattle.smap_store.specs.declared.loader.NoMap.{NoMap}
 use Rattle.smap_store.specs.declared.loader.NoMap.TheVariants.{Unnamed, Unread, Refused, Memory}
-use Rattle.smap_trace.specs.Hiding.{HidingSeen}
 use Rattle.smap_trace.specs.MapsOf.{RewritesBy}
 use Rattle.smap_trace.specs.Laws.MapsOf.{rewrites_by}
-use Rattle.smap_trace.specs.Laws.Passed.{passing_over}
-use Rattle.smap_trace.specs.Rewriting.{RewritesOver}
+use Rattle.smap_trace.specs.Noted.{nothing_noted}
+use Rattle.smap_trace.specs.Rewriting.{RewriteAsked, RewritesOver}
 use Rattle.smap_trace.specs.UrlNotes.{NotesSeen}
 use Rattle.smap_trace.specs.declared.outcome.RewriteCounts.{RewriteCounts}
 use Rattle.smap_trace.specs.declared.outcome.Summary.{Summary}
 use Rattle.smap_replies.specs.Files.{MayRead}
 use Rattle.smap_replies.specs.Standing.{IsRefusedFor}
-use Rattle.smap_text_answers.specs.Loader.{FailsBy, FailsWith, LoaderSeen, Loads, is_lost, is_of_url}
+use Rattle.smap_text_answers.specs.Loader.{FailsBy, FailsWith, LoaderSeen, Loads, MayLoad, is_lost, is_of_url}
 use Rattle.smap_replies.specs.Outcome.{Report}
-use Rattle.smap_text_answers.specs.RewriteFrom.{AnswersByPath, IsOverStore, IsStoredRewritten, RequestSeen, RewritesTextBy, most_passed, places_of, store_start}
+use Rattle.smap_text_answers.specs.Request.{RequestSeen}
+use Rattle.smap_text_answers.specs.RewriteFrom.{AnswersByPath, IsOverStore, IsStoredRewritten, RewritesPlaces, RewritesTextBy, asked_of, places_of, store_start}
 use Rattle.smap_text_answers.specs.SameBytes.{AreSettled, BytesByPath, FailsSame, ReadsSame, maps_at, stated_by, stated_in}
 use Rattle.smap_text_answers.specs.Standing.{record_loaded}
 use Rattle.smap_replies.specs.Streams.{Streams}
@@ -44,12 +43,12 @@ use Rattle.smap_text_answers.specs.declared.sources.MapSources.{MapSources}
 module _ {L : Type 0} (Steps : LoadsStep L) (Good : L → Type 0) (load : MapsByPath)
     (loads_right : (old new : L) (url path : List ℕ) (came : Came) → Steps old url path came new → Good new
     → Good old × (record_in came ≡ load url path)) where
-  pub rewrites_same : (hide : HidingSeen) (most : ℕ) (before after : DevicesSeen) (old new : StoredSeen L) (counts : RewriteCounts)
-      → RewritesOver (FindsIn Steps) found_in hide most before after old new counts → old.cache.kept ≡ [] → IsGood Good new
-      → RewritesBy (stored_maps load old.words old.locations) hide most before after counts
-  rewrites_same hide most before after old new counts all empty good =
+  pub rewrites_same : (asked : RewriteAsked) (before after : DevicesSeen) (old new : StoredSeen L) (counts : RewriteCounts) (notes : NotesSeen)
+      → RewritesOver (FindsIn Steps) found_in asked before after old new counts notes → old.cache.kept ≡ [] → IsGood Good new
+      → RewritesBy (stored_maps load old.words old.locations) asked.hide asked.most before after counts
+  rewrites_same asked before after old new counts notes all empty good =
       rewrites_by (FindsIn Steps) found_in (stored_maps load old.words old.locations) (IsGood Good) (IsRight load old.words old.locations)
-      (good_before Steps Good load loads_right) (right_after Steps Good load loads_right old.words old.locations) hide most before after old new counts all
+      (good_before Steps Good load loads_right) (right_after Steps Good load loads_right old.words old.locations) asked before after old new counts notes all
       good (right_start load old empty)
 
   -- and rewriting places
@@ -108,32 +107,32 @@ module _ (Reads : MayRead) (paths : Bool) (base : Option Parts) (k number : ℕ)
       let (bytes, read, many, is) = loads.0 in
       (subst Settled loads.1 settled, sym (ap (stated_by paths base k url) (same path bytes read) ∙ ap stated_in is))
 
-  pub same_settled : (sources : MapSources) (anywhere : Bool) (most_passed : ℕ) (hide : HidingSeen) (most : ℕ) (before after : DevicesSeen) (old new : StoredSeen LoaderSeen) (counts : RewriteCounts)
-      → IsStoredRewritten Reads paths base k number sources anywhere most_passed hide most old new before after (Ok counts) → old.cache.kept ≡ []
-      → Settled new.loader → new.cache.shortages ≡ 0
-      → RewritesTextBy anywhere (stored_maps load old.words old.locations) (places_of sources) hide most before after counts
-  same_settled sources true most_passed hide most before after old new counts all empty settled enough =
-      places_same (Loads Reads paths base k number) Settled load loads_settled (places_of sources) most before after old new counts.summary all.0 empty
+  pub same_settled : (request : RequestSeen) (sources : MapSources) (before after : DevicesSeen) (old new : StoredSeen LoaderSeen) (counts : RewriteCounts)
+      (notes others : NotesSeen) (anywhere : Bool)
+      → MatchBool anywhere (RewritesPlaces request sources (FindsIn (Loads Reads paths base k number)) before after old new counts notes others)
+      (RewritesOver (FindsIn (Loads Reads paths base k number)) found_in (asked_of request sources) before after old new counts notes
+      × (others ≡ nothing_noted))
+      → old.cache.kept ≡ [] → Settled new.loader → new.cache.shortages ≡ 0
+      → RewritesTextBy anywhere (stored_maps load old.words old.locations) (places_of sources) request.hide request.limit_bytes before after counts
+  same_settled request sources before after old new counts notes others true all empty settled enough =
+      places_same (Loads Reads paths base k number) Settled load loads_settled (places_of sources) request.limit_bytes before after old new counts.summary
+      all.over empty (settled, enough)
+  same_settled request sources before after old new counts notes others false all empty settled enough =
+      rewrites_same (Loads Reads paths base k number) Settled load loads_settled (asked_of request sources) before after old new counts notes all.0 empty
       (settled, enough)
-  same_settled sources false most_passed hide most before after old new counts all empty settled enough =
-      rewrites_same (Loads Reads paths base k number) Settled load loads_settled hide most before after old new counts
-      (passing_over (FindsIn (Loads Reads paths base k number)) found_in (places_in (places_of sources)) hide most_passed most before after old new counts all)
-      empty (settled, enough)
 
 -- and so it is of a run
 pub same_run : (Reads : MayRead) (base : Option Parts) (k : ℕ) (request : RequestSeen) (sources : MapSources) (end : StoreEnd) (notes others : NotesSeen)
     (before after : Streams) → IsOverStore Reads base k request sources end notes others before after → AnswersByPath Reads base k request sources end before after
 same_run Reads base k request sources end notes others before after over bytes_at same counts result settled enough =
+    let number : ℕ = length request.arguments + 1 in
+    let first : StoredSeen LoaderSeen = store_start sources request.cache_bytes before.sinks.errors before.sinks.code in
     let P : Result RewriteCounts LineFault → Type 0 = λ result.
-    IsStoredRewritten Reads request.paths base k (length request.arguments + 1) sources request.anywhere
-    (most_passed request.summary request.hint) request.hide request.limit_bytes
-    (store_start sources request.cache_bytes before.sinks.errors before.sinks.code) over.last
-    (devices_seen before.input before.sinks.output) (devices_seen after.input after.sinks.output) result in
-    let are : AreSettled Reads (length request.arguments + 1) bytes_at over.last.loader.status over.last.loader.lost =
-    subst (λ status. AreSettled Reads (length request.arguments + 1) bytes_at status over.last.loader.lost) over.status
-    (subst (λ lost. AreSettled Reads (length request.arguments + 1) bytes_at end.status lost) over.lost settled) in
-    same_settled Reads request.paths base k (length request.arguments + 1) bytes_at same sources request.anywhere
-    (most_passed request.summary request.hint) request.hide request.limit_bytes
-    (devices_seen before.input before.sinks.output) (devices_seen after.input after.sinks.output)
-    (store_start sources request.cache_bytes before.sinks.errors before.sinks.code) over.last counts (subst P result over.rewritten) refl
-    are (sym over.shortages ∙ enough)
+    IsStoredRewritten (Loads Reads request.paths base k number) (λ loader. MayLoad Reads request.paths base k number) request sources first over.last
+    (devices_seen before.input before.sinks.output) (devices_seen after.input after.sinks.output) notes others result in
+    let are : AreSettled Reads number bytes_at over.last.loader.status over.last.loader.lost =
+    subst (λ status. AreSettled Reads number bytes_at status over.last.loader.lost) over.status
+    (subst (λ lost. AreSettled Reads number bytes_at end.status lost) over.lost settled) in
+    same_settled Reads request.paths base k number bytes_at same request sources
+    (devices_seen before.input before.sinks.output) (devices_seen after.input after.sinks.output) first over.last counts notes others request.anywhere
+    (subst P result over.rewritten) refl are (sym over.shortages ∙ enough)

@@ -3,7 +3,7 @@
 use Rattle.std.specs.Prelude.{◌≡◌, ◌+◌, ◌&&◌, ℕ, Bool, true, false, not, List, [], ◌∷◌, Option, Some, None, MatchBool, ⊤}
 use Rattle.std.specs.Prelude.{cond, filter, fold, is_some, length}
 use Rattle.std.proofs.Common.{ap, arith, refl, subst, sym, ◌∙◌}
-use Rattle.std.proofs.lemmas.Bool.{cond-false, cond_both}
+use Rattle.std.proofs.lemmas.Bool.{cond-false}
 use Rattle.smap_io.specs.Device.{Takes}
 use Rattle.smap_lines.specs.Edited.{StepsLines, after_line, after_text, edited, is_short}
 use Rattle.smap_lines.specs.Editing.{DevicesSeen, EditsInto}
@@ -15,11 +15,12 @@ use Rattle.smap_lines.specs.declared.counts.LineCounts.{LineCounts}
 use Rattle.smap_record.specs.Record.{MapRecord}
 use Rattle.smap_trace.specs.Frame.{FrameParts, has_cr_within, is_line}
 use Rattle.smap_trace.specs.FrameOf.{frame_of}
-use Rattle.smap_trace.specs.Hiding.{HidingSeen, hides, only_ignored}
+use Rattle.smap_trace.specs.Hiding.{HidingSeen, only_ignored}
 use Rattle.smap_trace.specs.MapsOf.{MapsByUrl, RewritesBy, counts_by, fate_by, is_hidden_by, is_mapped_by, line_by, rewritten_by}
-use Rattle.smap_trace.specs.Rewriting.{Rewrites, RewritesOver, TraceNow, TraceStep, hidden_in, mapped_in, staying_in, trace_start}
-use Rattle.smap_trace.specs.Rewritten.{Fate, FateStep, SourceLocation, counts_of, fate, fate_at, fate_of, hidden, is_frame_line, is_hidden}
-use Rattle.smap_trace.specs.Rewritten.{is_mapped, line_after, named_fate, no_frame, original_in, replaced, rewritten, rewritten_line, stays}
+use Rattle.smap_trace.specs.Rewriting.{RewriteAsked, Rewrites, RewritesOver, TraceNow, TraceStep, trace_start}
+use Rattle.smap_trace.specs.Rewritten.{Fate, FateStep, counts_of, fate, fate_at, fate_of, is_frame_line, is_hidden, is_mapped, line_after, original_in}
+use Rattle.smap_trace.specs.Rewritten.{rewritten, rewritten_line}
+use Rattle.smap_trace.specs.UrlNotes.{NotesSeen}
 use Rattle.smap_by_text.specs.ByText.{value_under}
 use Rattle.smap_trace.specs.declared.outcome.RewriteCounts.{RewriteCounts}
 
@@ -76,35 +77,6 @@ long_is_none line long =
     let other : is_line line.bytes ≡ false = ap (λ b. b && not (has_line_end line.bytes) && not (has_cr_within line.bytes)) long in
     cond-false (is_line line.bytes) _ None other
 
--- it is a frame that stays, or one that is replaced, or one that is hidden
-abbrev frames_in : Fate → ℕ
-frames_in met = staying_in met + mapped_in met + hidden_in met
-
-named_frame : (parts : FrameParts) (location : SourceLocation) (name : Option (List ℕ)) → frames_in (named_fate parts location name) ≡ 1
-named_frame parts location None = refl
-named_frame parts location (Some name) = refl
-
-one_frame : (hide : HidingSeen) (parts : FrameParts) (location : Option SourceLocation) → frames_in (fate_at hide parts location) ≡ 1
-one_frame hide parts None = refl
-one_frame hide parts (Some location) = cond_both (hides hide location.ignored location.name) hidden (named_fate parts location location.name) (λ met. frames_in met ≡ 1)
-    (λ _. refl) (λ _. named_frame parts location location.name)
-
-frames_by : (maps : MapsByUrl) (hide : HidingSeen) (parts : Option FrameParts) → frames_in (fate_by maps hide parts) ≡ cond (is_some parts) 1 0
-frames_by maps hide None = refl
-frames_by maps hide (Some parts) = one_frame hide parts (original_in parts (maps parts.url))
-
-mapped_as : (met : Fate) → mapped_in met ≡ cond (is_mapped met) 1 0
-mapped_as no_frame = refl
-mapped_as stays = refl
-mapped_as (replaced text) = refl
-mapped_as hidden = refl
-
-hidden_as : (met : Fate) → hidden_in met ≡ cond (is_hidden met) 1 0
-hidden_as no_frame = refl
-hidden_as stays = refl
-hidden_as (replaced text) = refl
-hidden_as hidden = refl
-
 one_more : {A : Type 0} (t : Bool) (x : A) (xs : List A) → length (cond t (x ∷ xs) xs) ≡ cond t 1 0 + length xs
 one_more true x xs = omega arith
 one_more false x xs = omega arith
@@ -115,7 +87,7 @@ abbrev CountsNow : Type 0
 CountsNow = TraceNow ⊤
 
 abbrev counts_now : {M : Type 0} → TraceNow M → CountsNow
-counts_now now = record { maps = tt; staying = now.staying; mapped = now.mapped; hidden = now.hidden }
+counts_now now = record { maps = tt; frames = now.frames; mapped = now.mapped; hidden = now.hidden; passed = 0; namings = [] }
 
 module _ (maps : MapsByUrl) (hide : HidingSeen) where
   -- after a line
@@ -123,30 +95,27 @@ module _ (maps : MapsByUrl) (hide : HidingSeen) where
   after_counts now line =
       let met = fate_by maps hide (frame_of line.bytes) in
       record now {
-        staying = now.staying + staying_in met;
-        mapped = now.mapped + mapped_in met;
-        hidden = now.hidden + hidden_in met;
+        frames = now.frames + cond (is_frame_line line) 1 0;
+        mapped = now.mapped + cond (is_mapped met) 1 0;
+        hidden = now.hidden + cond (is_hidden met) 1 0;
       }
 
   -- these are the counts of lines
   abbrev Counted : CountsNow → List Line → CountsNow → Type 0
   Counted now lines new =
-      (new.staying + new.mapped + new.hidden ≡ now.staying + now.mapped + now.hidden + length (filter is_frame_line lines))
+      (new.frames ≡ now.frames + length (filter is_frame_line lines))
       × (new.mapped ≡ now.mapped + length (filter (is_mapped_by maps hide) lines))
       × (new.hidden ≡ now.hidden + length (filter (is_hidden_by maps hide) lines))
 
   -- and these of one
   abbrev Adds : CountsNow → Line → CountsNow → Type 0
   Adds now line new =
-      (new.staying + new.mapped + new.hidden ≡ now.staying + now.mapped + now.hidden + cond (is_frame_line line) 1 0)
+      (new.frames ≡ now.frames + cond (is_frame_line line) 1 0)
       × (new.mapped ≡ now.mapped + cond (is_mapped_by maps hide line) 1 0)
       × (new.hidden ≡ now.hidden + cond (is_hidden_by maps hide line) 1 0)
 
   adds_at : (now : CountsNow) (line : Line) (short : Bool) → is_short line ≡ short → Adds now line (cond short (after_counts now line) now)
-  adds_at now line true short =
-      let met : Fate = fate_by maps hide (frame_of line.bytes) in
-      let frames = frames_by maps hide (frame_of line.bytes) in
-      (omega (arith, frames), omega (arith, mapped_as met), omega (arith, hidden_as met))
+  adds_at now line true short = (refl, refl, refl)
   adds_at now line false long =
       let none = long_is_none line long in
       let frames : ◌≡◌ {A = ℕ} (cond (is_frame_line line) 1 0) 0 = ap (λ o. cond (is_some o) 1 0) none in
@@ -210,28 +179,28 @@ module _ {M : Type 0} (Finds : M → (url : List ℕ) → M → Type 0) (found :
     (Good Kept : M → Type 0)
     (good_back : (old new : M) (url : List ℕ) → Finds old url new → Good new → Good old)
     (finds_right : (old new : M) (url : List ℕ) → Finds old url new → Good new → Kept old → (found new url ≡ maps url) × Kept new)
-    (hide : HidingSeen) where
-  fate_back : (old new : M) (parts : Option FrameParts) (met : Fate) → FateStep Finds found hide old parts met new → Good new → Good old
+    (asked : RewriteAsked) where
+  fate_back : (old new : M) (parts : Option FrameParts) (met : Fate) → FateStep Finds found asked.hide old parts met new → Good new → Good old
   fate_back old new None met step good = subst Good step.1 good
   fate_back old new (Some parts) met step good = good_back old new parts.url step.0 good
 
-  step_back : (old : TraceNow M) (line : Line) (text : List ℕ) (new : TraceNow M) → TraceStep Finds found hide old line text new → Good new.maps
+  step_back : (old : TraceNow M) (line : Line) (text : List ℕ) (new : TraceNow M) → TraceStep Finds found asked old line text new → Good new.maps
       → Good old.maps
   step_back old line text new step good = fate_back old.maps new.maps (frame_of line.bytes) step.met step.step good
 
-  fate_is : (old new : M) (parts : Option FrameParts) (met : Fate) → FateStep Finds found hide old parts met new → Good new → Kept old
-      → (met ≡ fate_by maps hide parts) × Kept new
+  fate_is : (old new : M) (parts : Option FrameParts) (met : Fate) → FateStep Finds found asked.hide old parts met new → Good new → Kept old
+      → (met ≡ fate_by maps asked.hide parts) × Kept new
   fate_is old new None met step good kept = (step.0, subst Kept (sym step.1) kept)
   fate_is old new (Some parts) met step good kept =
       let one = finds_right old new parts.url step.0 good kept in
-      (step.1 ∙ ap (λ f. fate_at hide parts (original_in parts f)) one.0, one.1)
+      (step.1 ∙ ap (λ f. fate_at asked.hide parts (original_in parts f)) one.0, one.1)
 
   -- a step then makes this text, and counts so
   abbrev TraceGood : (old : TraceNow M) → Line → (text : List ℕ) → (new : TraceNow M) → Type 0
-  TraceGood = GoodStep (TraceStep Finds found hide) (λ now. Good now.maps) step_back
+  TraceGood = GoodStep (TraceStep Finds found asked) (λ now. Good now.maps) step_back
 
   abbrev Only : (old : CountsNow) → Line → (text : List ℕ) → (new : CountsNow) → Type 0
-  Only = OnlyStep (λ now line. line_by maps hide line) (after_counts maps hide)
+  Only = OnlyStep (λ now line. line_by maps asked.hide line) (after_counts maps asked.hide)
 
   step_is : (old : TraceNow M) (line : Line) (text : List ℕ) (new : TraceNow M) → Kept old.maps → TraceGood old line text new
       → Only (counts_now old) line text (counts_now new) × Kept new.maps
@@ -241,36 +210,38 @@ module _ {M : Type 0} (Finds : M → (url : List ℕ) → M → Type 0) (found :
           step.0.text_is ∙ ap (line_after line) met.0,
           (λ i. record {
             maps = tt;
-            staying = (step.0.staying ∙ ap (λ m. old.staying + staying_in m) met.0) i;
-            mapped = (step.0.mapped ∙ ap (λ m. old.mapped + mapped_in m) met.0) i;
-            hidden = (step.0.hiding ∙ ap (λ m. old.hidden + hidden_in m) met.0) i;
+            frames = step.0.frames i;
+            mapped = (step.0.mapped ∙ ap (λ m. old.mapped + cond (is_mapped m) 1 0) met.0) i;
+            hidden = (step.0.hiding ∙ ap (λ m. old.hidden + cond (is_hidden m) 1 0) met.0) i;
+            passed = 0;
+            namings = [];
           }),
         ),
         met.1,
       )
 
   only_is : (old : CountsNow) (line : Line) (text : List ℕ) (new : CountsNow) → ⊤ → Only old line text new
-      → (text ≡ line_by maps hide line) × (new ≡ after_counts maps hide old line) × ⊤
+      → (text ≡ line_by maps asked.hide line) × (new ≡ after_counts maps asked.hide old line) × ⊤
   only_is old line text new is only = (only.0, only.1, tt)
 
   -- rewriting over maps to which no trouble came, where what they remembered at first was right
-  pub rewrites_by : (most : ℕ) (before after : DevicesSeen) (old new : M) (counts : RewriteCounts)
-      → RewritesOver Finds found hide most before after old new counts → Good new → Kept old → RewritesBy maps hide most before after counts
+  pub rewrites_by : (before after : DevicesSeen) (old new : M) (counts : RewriteCounts) (notes : NotesSeen)
+      → RewritesOver Finds found asked before after old new counts notes → Good new → Kept old → RewritesBy maps asked.hide asked.most before after counts
   unfolding after_text counts_by
-  rewrites_by most before after old new counts all good kept =
+  rewrites_by before after old new counts notes all good kept =
       let lines : LineCounts = record { lines = counts.summary.lines; long = counts.long } in
-      let sure = edits_back (TraceStep Finds found hide) (λ now. Good now.maps) step_back most before after (trace_start old) all.last lines all.edits
+      let sure = edits_back (TraceStep Finds found asked) (λ now. Good now.maps) step_back asked.most before after (trace_start old) all.last lines all.edits
       (subst Good (sym all.maps) good) in
-      let seen = edits_seen TraceGood Only counts_now (λ now. Kept now.maps) step_is most before after (trace_start old) all.last lines kept sure.0 in
+      let seen = edits_seen TraceGood Only counts_now (λ now. Kept now.maps) step_is asked.most before after (trace_start old) all.last lines kept sure.0 in
       let done = seen.0 in
-      let is = steps_are Only (line_by maps hide) (after_counts maps hide) (λ now. ⊤) only_is (trace_start tt) done.bytes done.written
+      let is = steps_are Only (line_by maps asked.hide) (after_counts maps asked.hide) (λ now. ⊤) only_is (trace_start tt) done.bytes done.written
       (counts_now all.last) tt done.steps in
-      let counted : Counted maps hide (trace_start tt) (lines_with_ends done.bytes) (counts_now all.last) =
-      subst (λ n. Counted maps hide (trace_start tt) (lines_with_ends done.bytes) n) (sym is.1)
-      (counted_over maps hide (trace_start tt) (lines_with_ends done.bytes)) in
+      let counted : Counted maps asked.hide (trace_start tt) (lines_with_ends done.bytes) (counts_now all.last) =
+      subst (λ n. Counted maps asked.hide (trace_start tt) (lines_with_ends done.bytes) n) (sym is.1)
+      (counted_over maps asked.hide (trace_start tt) (lines_with_ends done.bytes)) in
       let frames : counts.summary.frames ≡ length (filter is_frame_line (lines_with_ends done.bytes)) = omega (arith, all.frames, counted.0) in
-      let mapped : counts.summary.mapped ≡ length (filter (is_mapped_by maps hide) (lines_with_ends done.bytes)) = omega (arith, all.mapped, counted.1) in
-      let hiding : counts.summary.hidden ≡ length (filter (is_hidden_by maps hide) (lines_with_ends done.bytes)) = omega (arith, all.hiding, counted.2) in
+      let mapped : counts.summary.mapped ≡ length (filter (is_mapped_by maps asked.hide) (lines_with_ends done.bytes)) = omega (arith, all.mapped, counted.1) in
+      let hiding : counts.summary.hidden ≡ length (filter (is_hidden_by maps asked.hide) (lines_with_ends done.bytes)) = omega (arith, all.hiding, counted.2) in
       record {
         bytes = done.bytes;
         edits = record {

@@ -1,5 +1,5 @@
 -- Laws of rewriting over maps of which only some is seen: what is seen goes the same way, if looking for a map is seen so.
-use Rattle.std.specs.Prelude.{◌≡◌, ℕ, List, [], ◌∷◌, Option, Some, None}
+use Rattle.std.specs.Prelude.{◌≡◌, ◌+◌, ◌++◌, ℕ, List, [], ◌∷◌, Option, Some, None, is_some, refl}
 use Rattle.std.specs.List.{FoldsTo}
 use Rattle.std.proofs.Common.{ap, subst, sym, ◌∙◌}
 use Rattle.smap_lines.specs.Editing.{DevicesSeen}
@@ -10,8 +10,11 @@ use Rattle.smap_record.specs.Record.{MapRecord}
 use Rattle.smap_trace.specs.Frame.{FrameParts}
 use Rattle.smap_trace.specs.FrameOf.{frame_of}
 use Rattle.smap_trace.specs.Hiding.{HidingSeen}
-use Rattle.smap_trace.specs.Rewriting.{BecomesFrame, Looked, RewritesFrontOver, RewritesOver, TraceNow, TraceStep, trace_start}
+use Rattle.smap_trace.specs.Noted.{namings_in}
+use Rattle.smap_trace.specs.Passed.{passed_beside, passed_of}
+use Rattle.smap_trace.specs.Rewriting.{BecomesFrame, Looked, RewriteAsked, RewritesFrontOver, RewritesOver, TraceNow, TraceStep, trace_start}
 use Rattle.smap_trace.specs.Rewritten.{Fate, FateStep, MayMeet, fate_at, original_in}
+use Rattle.smap_trace.specs.UrlNotes.{NotesSeen, naming_in}
 use Rattle.smap_trace.specs.declared.outcome.RewriteCounts.{RewriteCounts}
 
 module _ {M N : Type 0} (Finds : M → (url : List ℕ) → M → Type 0) (found : M → (url : List ℕ) → Option MapRecord)
@@ -28,36 +31,54 @@ module _ {M N : Type 0} (Finds : M → (url : List ℕ) → M → Type 0) (found
   pub looked_seen : (old new : M) → Is old → Looked Finds old new → Looked Seen (see old) (see new) × Is new
   looked_seen old new is looked = let all = urls_go looked.0 old new is looked.1 in ((looked.0, all.0), all.1)
 
-  module _ (hide : HidingSeen) where
+  module _ (asked : RewriteAsked) where
     abbrev pub see_trace : TraceNow M → TraceNow N
-    see_trace now = record { maps = see now.maps; staying = now.staying; mapped = now.mapped; hidden = now.hidden }
+    see_trace now = record {
+      maps = see now.maps;
+      frames = now.frames;
+      mapped = now.mapped;
+      hidden = now.hidden;
+      passed = now.passed;
+      namings = now.namings;
+    }
 
-    fate_goes : (old new : M) (parts : Option FrameParts) (met : Fate) → Is old → FateStep Finds found hide old parts met new
-        → FateStep Seen found_seen hide (see old) parts met (see new) × Is new
+    fate_goes : (old new : M) (parts : Option FrameParts) (met : Fate) → Is old → FateStep Finds found asked.hide old parts met new
+        → FateStep Seen found_seen asked.hide (see old) parts met (see new) × Is new
     fate_goes old new None met is step = ((step.0, ap see step.1), subst Is (sym step.1) is)
     fate_goes old new (Some parts) met is step =
         let one = finds old new parts.url is step.0 in
-        ((one.0, step.1 ∙ ap (λ f. fate_at hide parts (original_in parts f)) (same new parts.url)), one.1)
+        ((one.0, step.1 ∙ ap (λ f. fate_at asked.hide parts (original_in parts f)) (same new parts.url)), one.1)
 
-    pub step_goes : (old : TraceNow M) (line : Line) (text : List ℕ) (new : TraceNow M) → Is old.maps → TraceStep Finds found hide old line text new
-        → TraceStep Seen found_seen hide (see_trace old) line text (see_trace new) × Is new.maps
+    passed_same : (maps : M) (parts : Option FrameParts) (line : List ℕ)
+        → passed_of asked.count (found maps) parts line ≡ passed_of asked.count (found_seen (see maps)) parts line
+    passed_same maps None line = refl
+    passed_same maps (Some parts) line = ap (λ f. passed_beside asked.count (Some parts.url) (is_some f) line) (same maps parts.url)
+
+    named_same : (maps : M) (parts : Option FrameParts) → namings_in asked.hide (found maps) parts ≡ namings_in asked.hide (found_seen (see maps)) parts
+    named_same maps None = refl
+    named_same maps (Some parts) = ap (λ f. naming_in asked.hide parts f ∷ []) (same maps parts.url)
+
+    step_goes : (old : TraceNow M) (line : Line) (text : List ℕ) (new : TraceNow M) → Is old.maps → TraceStep Finds found asked old line text new
+        → TraceStep Seen found_seen asked (see_trace old) line text (see_trace new) × Is new.maps
     step_goes old line text new is step =
         let one = fate_goes old.maps new.maps (frame_of line.bytes) step.met is step.step in (
           record {
             met = step.met;
             step = one.0;
             text_is = step.text_is;
-            staying = step.staying;
+            frames = step.frames;
             mapped = step.mapped;
             hiding = step.hiding;
+            passed = step.passed ∙ ap (λ n. old.passed + n) (passed_same new.maps (frame_of line.bytes) line.bytes);
+            named = step.named ∙ ap (λ l. old.namings ++ l) (named_same new.maps (frame_of line.bytes));
           },
           one.1,
         )
 
-    pub rewrites_seen : (most : ℕ) (before after : DevicesSeen) (old new : M) (counts : RewriteCounts) → Is old
-        → RewritesOver Finds found hide most before after old new counts → RewritesOver Seen found_seen hide most before after (see old) (see new) counts
-    rewrites_seen most before after old new counts is_old is =
-        let all = edits_seen (TraceStep Finds found hide) (TraceStep Seen found_seen hide) see_trace (λ now. Is now.maps) step_goes most before after
+    pub rewrites_seen : (before after : DevicesSeen) (old new : M) (counts : RewriteCounts) (notes : NotesSeen) → Is old
+        → RewritesOver Finds found asked before after old new counts notes → RewritesOver Seen found_seen asked before after (see old) (see new) counts notes
+    rewrites_seen before after old new counts notes is_old is =
+        let all = edits_seen (TraceStep Finds found asked) (TraceStep Seen found_seen asked) see_trace (λ now. Is now.maps) step_goes asked.most before after
         (trace_start old) is.last (record { lines = counts.summary.lines; long = counts.long }) is_old is.edits in
         record {
           last = see_trace is.last;
@@ -66,6 +87,8 @@ module _ {M N : Type 0} (Finds : M → (url : List ℕ) → M → Type 0) (found
           frames = is.frames;
           mapped = is.mapped;
           hiding = is.hiding;
+          passed = is.passed;
+          noted = is.noted;
         }
 
 -- what may be found may be found by more

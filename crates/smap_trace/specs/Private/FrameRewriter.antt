@@ -1,36 +1,58 @@
--- The editor that rewrites the frames of a trace, and counts them.
-use Rattle.std.specs.Prelude.{◌≡◌, ℕ, ◌+◌, ◌-◌, ◌^◌, Bool, true, List, Option, cond}
+-- The editor that rewrites the frames of a trace, counts and notes them, and counts the places of other lines.
+use Rattle.std.specs.Prelude.{◌≡◌, ℕ, ◌+◌, ◌-◌, ◌^◌, ◌∷◌, ◌++◌, Bool, true, List, [], Option, Some, None, MatchBool, cond, max}
 use Rattle.smap_lines.specs.Lines.{Line}
 use Rattle.smap_record.specs.Record.{MapRecord}
+use Rattle.smap_trace.specs.Frame.{FrameParts}
+use Rattle.smap_trace.specs.FrameOf.{frame_of}
 use Rattle.smap_trace.specs.Hiding.{hiding_seen}
-use Rattle.smap_trace.specs.Rewriting.{BecomesFrame, Looked, TraceNow, TraceStep}
+use Rattle.smap_trace.specs.Noted.{AreNotesOf}
+use Rattle.smap_trace.specs.NotesSeen.{notes_seen}
+use Rattle.smap_trace.specs.Passed.{PlaceCount, passed_in}
+use Rattle.smap_trace.specs.Private.Passing.{passed_after}
 use Rattle.smap_trace.specs.Private.Remembered.{is_right}
+use Rattle.smap_trace.specs.Rewriting.{BecomesFrame, Looked, RewriteAsked, asked_seen}
+use Rattle.smap_trace.specs.Rewritten.{Fate, FateStep, is_frame_line, is_hidden, is_mapped, line_after}
+use Rattle.smap_trace.specs.UrlNotes.{NamingSeen, NotesSeen, naming_in}
 use Rattle.smap_trace.specs.declared.frame_rewriter.FrameRewriter.{FrameRewriter}
 
--- the maps, and what was counted
-abbrev pub trace_now : {M : Type 0} → FrameRewriter M → TraceNow M
-trace_now rewriter = record { maps = rewriter.maps.now; staying = rewriter.staying; mapped = rewriter.mapped; hidden = rewriter.hidden }
+-- a naming was noted, if that is asked
+abbrev pub IsNotedIf : (is_noted : Bool) → NamingSeen → (old new : NotesSeen) → Type 0
+IsNotedIf is_noted naming old new = MatchBool is_noted ((namings : List NamingSeen) → AreNotesOf namings old → AreNotesOf (namings ++ naming ∷ []) new) (new ≡ old)
 
--- what a line may become
-abbrev pub RewriterBecomes : {M : Type 0} → (Gives : M → (url : List ℕ) → Option MapRecord → Type 0) → FrameRewriter M → Line → (text : List ℕ) → Type 0
-RewriterBecomes Gives rewriter = BecomesFrame (Gives rewriter.maps.now) (hiding_seen rewriter.hiding)
+-- so was a line, where it is a frame, over what is found for its URL
+abbrev pub IsLineNoted : (asked : RewriteAsked) → (found : (url : List ℕ) → Option MapRecord) → Option FrameParts → (old new : NotesSeen) → Type 0
+IsLineNoted asked found None old new = new ≡ old
+IsLineNoted asked found (Some parts) old new = IsNotedIf asked.is_noted (naming_in asked.hide parts (found parts.url)) old new
 
--- what it remembers is what the maps answer that are found
-abbrev pub is_sound : {M : Type 0} → (found : M → (url : List ℕ) → Option MapRecord) → FrameRewriter M → Bool
-is_sound found rewriter = is_right (found rewriter.maps.now) rewriter.remembered.now
+module _ {M P : Type 0} where
+  -- what a line may become
+  abbrev pub RewriterBecomes : (Gives : M → (url : List ℕ) → Option MapRecord → Type 0) → FrameRewriter M P → Line → (text : List ℕ) → Type 0
+  RewriterBecomes Gives rewriter = BecomesFrame (Gives rewriter.maps.now) (hiding_seen rewriter.options.now.hiding)
 
--- what it became, and the editor after it
-pub record RewriterSteps {M : Type 0} (Finds : M → (url : List ℕ) → M → Type 0) (found : M → (url : List ℕ) → Option MapRecord)
-    (old : FrameRewriter M) (line : Line) (text : List ℕ) (new : FrameRewriter M) : Type 0 where
-  pub step : TraceStep Finds found (hiding_seen old.hiding) (trace_now old) line text (trace_now new)
-  pub hiding : new.hiding ≡ old.hiding
-  pub same : new.maps.ghost_name ≡ old.maps.ghost_name
-  pub sound : is_sound found old ≡ true → is_sound found new ≡ true
+  -- what it remembers is what the maps answer that are found
+  abbrev pub is_sound : (found : M → (url : List ℕ) → Option MapRecord) → FrameRewriter M P → Bool
+  is_sound found rewriter = is_right (found rewriter.maps.now) rewriter.remembered.now
 
--- how it may stand later
-abbrev pub RewriterReaches : {M : Type 0} → (Finds : M → (url : List ℕ) → M → Type 0) → FrameRewriter M → (later : FrameRewriter M) → Type 0
-RewriterReaches Finds old later = Looked Finds old.maps.now later.maps.now × (later.maps.ghost_name ≡ old.maps.ghost_name)
+  -- what it became, and the editor after it
+  pub record RewriterSteps (Finds : M → (url : List ℕ) → M → Type 0) (found : M → (url : List ℕ) → Option MapRecord) (count : P → PlaceCount)
+      (old : FrameRewriter M P) (line : Line) (text : List ℕ) (new : FrameRewriter M P) : Type 0 where
+    pub met : Fate
+    pub step : FateStep Finds found (hiding_seen old.options.now.hiding) old.maps.now (frame_of line.bytes) met new.maps.now
+    pub text_is : text ≡ line_after line met
+    pub frames : new.frames ≡ old.frames + cond (is_frame_line line) 1 0
+    pub mapped : new.mapped ≡ old.mapped + cond (is_mapped met) 1 0
+    pub hiding : new.hidden ≡ old.hidden + cond (is_hidden met) 1 0
+    pub passed : new.passed ≡ passed_after old.options.now.most_passed old.passed (passed_in (count old.options.now.places.now) (found new.maps.now) line)
+    pub noted : IsLineNoted (asked_seen count old.options.now) (found new.maps.now) (frame_of line.bytes) (notes_seen old.notes.now) (notes_seen new.notes.now)
+    pub options : new.options ≡ old.options
+    pub same : (new.maps.ghost_name ≡ old.maps.ghost_name) × (new.notes.ghost_name ≡ old.notes.ghost_name)
+    pub sound : is_sound found old ≡ true → is_sound found new ≡ true
 
--- how many lines it can take, each of which adds to one count at most: none, if it remembers anything else
-abbrev pub room_of : {M : Type 0} → (found : M → (url : List ℕ) → Option MapRecord) → FrameRewriter M → ℕ
-room_of found rewriter = cond (is_sound found rewriter) (2 ^ 64 - 1 - (rewriter.staying + rewriter.mapped + rewriter.hidden)) 0
+  -- how it may stand later
+  abbrev pub RewriterReaches : (Finds : M → (url : List ℕ) → M → Type 0) → FrameRewriter M P → (later : FrameRewriter M P) → Type 0
+  RewriterReaches Finds old later =
+      Looked Finds old.maps.now later.maps.now × (later.maps.ghost_name ≡ old.maps.ghost_name) × (later.notes.ghost_name ≡ old.notes.ghost_name)
+
+  -- how many lines it can take, each of which adds one to a count at most: none, if it remembers anything else
+  abbrev pub room_of : (found : M → (url : List ℕ) → Option MapRecord) → FrameRewriter M P → ℕ
+  room_of found rewriter = cond (is_sound found rewriter) (2 ^ 64 - 1 - max rewriter.frames (max rewriter.mapped rewriter.hidden)) 0

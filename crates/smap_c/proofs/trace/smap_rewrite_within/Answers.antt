@@ -9,7 +9,7 @@ returns-then-len-most-clause-refused c =
     let table = c.lend-maps.result.now in
     let read = text_read options c.args.text.now in
     let written = c.rewrite_text-outcome.new.output.bytes.items in
-    let front = front_of options table read written c.rewrite_text-outcome.result c.rewrite_text-outcome.ensures.rewritten c.rewrite_text-outcome.ensures.front in
+    let front = front_of options table read written c.rewrite_text-outcome.result c.rewrite_text-outcome.ensures in
     let over : c.args.most < length written = omega (arith, c.if-len-most.true, c.len.ensures) in
     let lines = c.line_ends.ensures ∙ ap (λ w. line_ends (take c.args.most w)) c.deref.ensures.value in
     if_held _ table c.lend-maps.ensures.value (λ maps. ◌≡◌ {A = ℕ} 1 1 → IsRefusedFor options maps c.args.text.now c.args.most c.refused-then-len-most.result)
@@ -25,6 +25,6 @@ returns-clause-refused c =
     let table = c.lend-maps.result.now in
     if_held _ table c.lend-maps.ensures.value (λ maps. c.reported.result ≡ 1 → IsRefusedFor options maps c.args.text.now c.args.most c.reported.new.refusal)
     (λ is.
-    let too = too_much_read (text_read options c.args.text.now) c.reported.result c.reported.new.refusal is c.rewrite_text-outcome.result
-    c.reported.ensures.refused c.reported.ensures.failed c.rewrite_text-outcome.ensures.refused in
+    let too = too_much_read options table (text_read options c.args.text.now) _ c.reported.result c.reported.new.refusal is c.rewrite_text-outcome.result
+    c.reported.ensures.refused c.reported.ensures.failed c.rewrite_text-outcome.ensures in
     inr (inl (sym c.is_for_all.ensures ∙ c.if-is_for_all.false, too.0, too.1)))

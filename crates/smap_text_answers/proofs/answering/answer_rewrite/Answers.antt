@@ -2,4 +2,4 @@ use Rattle.smap_text_answers.proofs.BytesLaws.{within_limit}
 use Rattle.smap_text_answers.proofs.answering.answer_rewrite.Goals as goal
 
 pub rewrite_from-requires-clause-limit : goal.rewrite_from-requires-clause-limit
-rewrite_from-requires-clause-limit g c = rw c.unwrap_or-limit_bytes.ensures (within_limit c.args.request.now.options.now.limit_bytes c.requires.bytes.1)
+rewrite_from-requires-clause-limit g c = within_limit c.args.request.now.options.now.limit_bytes c.requires.bytes.1

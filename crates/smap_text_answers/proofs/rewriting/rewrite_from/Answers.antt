@@ -1,6 +1,6 @@
 use Rattle.std.proofs.Common.{option_copied, refl, rules}
 use Rattle.std.specs.Prelude.{Ok}
-use Rattle.smap_text_answers.specs.RewriteFrom.{request_seen}
+use Rattle.smap_text_answers.specs.Request.{request_seen}
 use Rattle.smap_text_answers.specs.Laws.SameBytes.{same_run}
 use Rattle.smap_replies.specs.Streams.{sinks_seen, streams_seen}
 use Rattle.smap_trace.specs.NotesSeen.{notes_seen}
@@ -15,8 +15,8 @@ returns-in-Ok g c =
       c.in-Ok.ensures,
       (
         run.result,
-        notes_seen run.new.notes,
-        notes_seen run.new.others,
+        notes_seen run.new.notes.named,
+        notes_seen run.new.notes.others,
         streams_seen (g.R.ByteSource.seen run.new.input) (g.W.ByteSink.seen run.new.output) (g.E.ByteSink.seen run.new.errors) run.new.first,
         sinks_seen (g.W.ByteSink.seen c.finish-ended.new.output) (g.E.ByteSink.seen c.finish-ended.new.errors) c.finish-ended.new.first,
         g.E.ByteSink.seen c.say_urls-said.new.errors,

@@ -1,4 +1,3 @@
-use Rattle.std.proofs.Common.{List}
 use Rattle.smap_trace.proofs.NotesLaws.{noted_after}
 use Rattle.smap_trace.proofs.url_notes.UrlNotes.note.Goals as goal
 
