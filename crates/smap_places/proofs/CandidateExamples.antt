@@ -2,7 +2,8 @@
 use Rattle.std.proofs.Common.{◌≡◌, ◌||◌, ℕ, zero, suc, Bool, List, [], ◌∷◌, Option, Some, None, refl, codes}
 use Rattle.std.specs.Str.{bytes_eq}
 use Rattle.smap_places.specs.Candidates.{candidate_at, run_length}
-use Rattle.smap_places.specs.Places.{PlaceUrl, numbers_after}
+use Rattle.smap_pairs.specs.Numbers.{numbers_after}
+use Rattle.smap_places.specs.Places.{PlaceUrl}
 
 abbrev is_named : List ℕ → Bool
 is_named url = bytes_eq url (codes "a/b/x.js:3") || bytes_eq url (codes "a/b/y")

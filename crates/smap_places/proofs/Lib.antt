@@ -3,9 +3,6 @@ pub mod CandidateExamples
 pub mod LineEndLaws
 pub mod ColourLaws
 pub mod BegunLaws
-pub mod PrintedLaws
-pub mod NumberReach
-pub mod NumberLaws
 pub mod RunLaws
 pub mod GreatestLaws
 pub mod NearLaws

@@ -3,7 +3,8 @@ use Rattle.std.proofs.Common.{◌≡◌, ◌-◌, ℕ, true, false, List, [], �
 use Rattle.smap_places.specs.Candidates.{candidate_at}
 use Rattle.smap_places.specs.PatternUrl.{is_pattern_byte, run_back, url_back}
 use Rattle.smap_places.specs.PlaceAt.{MapsSeen, pattern_at, place_at}
-use Rattle.smap_places.specs.Places.{PlaceUrl, begins_colour, following, may_follow, numbers_after}
+use Rattle.smap_pairs.specs.Numbers.{numbers_after}
+use Rattle.smap_places.specs.Places.{PlaceUrl, begins_colour, following, may_follow}
 
 -- the URL that a text ends with
 abbrev url : List ℕ → List ℕ

@@ -13,7 +13,8 @@ use Rattle.smap_record.specs.Record.{MapRecord}
 use Rattle.smap_places.specs.Candidates.{place_of_bytes}
 use Rattle.smap_places.specs.PatternUrl.{is_pattern_byte, url_back, url_length}
 use Rattle.smap_places.specs.PlaceAt.{MapsSeen, exact_at, exact_within, is_of_pattern, pattern_at, pattern_place, place_at}
-use Rattle.smap_places.specs.Places.{PlaceUrl, begun_at, numbers_after}
+use Rattle.smap_pairs.specs.Numbers.{numbers_after}
+use Rattle.smap_places.specs.Places.{PlaceUrl, begun_at}
 use Rattle.smap_places.specs.PlaceSeen.{HasMap, IsNext, NoneBetween, place_seen}
 use Rattle.smap_places.specs.declared.place.FoundPlace.{FoundPlace}
 use Rattle.smap_places.proofs.BegunLaws.{place_is_next}

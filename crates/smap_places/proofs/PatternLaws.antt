@@ -11,11 +11,12 @@ use Rattle.smap_locations.specs.Patterns.{has_in_text}
 use Rattle.smap_places.specs.Candidates.{candidate_at, place_of_bytes}
 use Rattle.smap_places.specs.PatternUrl.{url_back, url_length}
 use Rattle.smap_places.specs.PlaceAt.{MapsSeen, exact_at, exact_within, is_named, is_of_pattern, is_prefix, pattern_at, pattern_place, place_at}
-use Rattle.smap_places.specs.Places.{PlaceUrl, begun_at, following, may_follow, numbers_after}
+use Rattle.smap_pairs.specs.Numbers.{numbers_after}
+use Rattle.smap_places.specs.Places.{PlaceUrl, begun_at, following, may_follow}
 use Rattle.smap_places.specs.PlacesNear.{DecidedWithin, EndsAtLines, KnownWithin}
 use Rattle.smap_places.proofs.ColourLaws.{follow_line, follow_more}
 use Rattle.smap_places.proofs.FinderLaws.{candidate_empty, candidate_line, candidate_size, place_same, place_size}
-use Rattle.smap_places.proofs.NumberReach.{numbers_line, numbers_reach}
+use Rattle.smap_pairs.specs.Laws.NumberReach.{numbers_line, numbers_reach}
 use Rattle.smap_places.proofs.PatternUrlLaws.{back_at_line, back_known, length_line, length_reach, length_within}
 
 -- ---- a choice of two

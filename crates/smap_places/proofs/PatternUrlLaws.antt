@@ -7,9 +7,9 @@ use Rattle.std.proofs.lemmas.List.{length-reverse, length-take-le, reverse-appen
 use Rattle.std.proofs.lemmas.List.Folds.{list_all-append}
 use Rattle.std.proofs.Math.Seq.{take-add, take-append_seam}
 use Rattle.smap_places.specs.PatternUrl.{ends_colour, goes_on, is_pattern_byte, run_back, run_url, url_back, url_begin, url_length}
-use Rattle.smap_places.specs.Places.{numbers_after}
+use Rattle.smap_pairs.specs.Numbers.{numbers_after}
 use Rattle.smap_places.proofs.ColourLaws.{colour_line, colour_more}
-use Rattle.smap_places.proofs.NumberReach.{numbers_line, numbers_reach}
+use Rattle.smap_pairs.specs.Laws.NumberReach.{numbers_line, numbers_reach}
 
 -- ---- how many bytes stand before the numbers
 

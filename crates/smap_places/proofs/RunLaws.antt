@@ -5,10 +5,9 @@ use Rattle.std.proofs.Common.{◌<◌, ◌⊎◌, drop, take, get_or, inl, inr, 
 use Rattle.std.proofs.lemmas.Bool.{false_from_ne_true}
 use Rattle.std.proofs.lemmas.List.{drop_more, get_or-drop, get_or-take}
 use Rattle.smap_places.specs.Candidates.{has_query, is_url_byte, query_length, run_further, run_length}
-use Rattle.smap_places.specs.Places.{numbers_after}
+use Rattle.smap_pairs.specs.Numbers.{numbers_after}
 use Rattle.smap_places.specs.Private.Finder.{IsBarred, IsUnqueried}
-use Rattle.smap_places.proofs.NumberReach.{numbers_line, numbers_reach}
-use Rattle.smap_places.proofs.NumberLaws.{no_numbers}
+use Rattle.smap_pairs.specs.Laws.NumberReach.{no_numbers, numbers_line, numbers_reach}
 
 -- so many bytes more
 abbrev pub run_on : (more : ℕ) → Option ℕ → Option ℕ

@@ -9,7 +9,8 @@ use Rattle.smap_lines.specs.Lines.{has_line_end}
 use Rattle.smap_trace.specs.Noted.{AreNotesOf}
 use Rattle.smap_trace.specs.UrlNotes.{NamingSeen, NotesSeen}
 use Rattle.smap_places.specs.PatternUrl.{url_back}
-use Rattle.smap_places.specs.Places.{PlaceUrl, begun_at, numbers_after}
+use Rattle.smap_pairs.specs.Numbers.{numbers_after}
+use Rattle.smap_places.specs.Places.{PlaceUrl, begun_at}
 use Rattle.smap_places.specs.PlacesNear.{KnownWithin}
 use Rattle.smap_places.specs.PlacesOver.{naming_by}
 use Rattle.smap_places.specs.Private.PlaceRewriter.{Shows}
@@ -17,7 +18,7 @@ use Rattle.smap_places.specs.Private.Seeming.{AddsNotes}
 use Rattle.smap_places.specs.Seeming.{each_from, seeming_at, seeming_with, unknown_at, unknown_in, unknown_namings, unless_known}
 use Rattle.smap_places.proofs.LineEndLaws.{cut_at_end}
 use Rattle.smap_places.proofs.NearLaws.{known_further, window_shows}
-use Rattle.smap_places.proofs.NumberReach.{numbers_line, numbers_reach}
+use Rattle.smap_pairs.specs.Laws.NumberReach.{numbers_line, numbers_reach}
 use Rattle.smap_places.proofs.PatternUrlLaws.{back_few, back_known, back_within, run_text}
 
 -- ---- at bytes one after another

@@ -1,5 +1,4 @@
 pub mod Places
-pub mod Printed
 pub mod PlaceSeen
 pub mod PlacesNear
 pub mod PlacesOver

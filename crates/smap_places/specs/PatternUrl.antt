@@ -12,7 +12,8 @@ use Rattle.std.specs.Char.{is_ascii_alphabetic, is_ascii_alphanumeric}
 use Rattle.std.specs.List.{ends_with, list_any, prefix_len}
 use Rattle.smap_locations.specs.Patterns.{is_separator}
 use Rattle.smap_places.specs.Candidates.{greatest}
-use Rattle.smap_places.specs.Places.{begins_colour, numbers_after}
+use Rattle.smap_pairs.specs.Numbers.{numbers_after}
+use Rattle.smap_places.specs.Places.{begins_colour}
 
 -- ---- its bytes
 

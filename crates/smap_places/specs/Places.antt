@@ -1,34 +1,12 @@
 -- The places in a text, anywhere in it (this project's own): a URL, `:`, a line, `:` and a column, in decimal without leading
 -- zeros, from 1 to 2147483648, and no digit after them. No place begins after a byte of a word, but after one that ends a
 -- colour of a terminal. Places are taken from the left, and the next is sought after one.
-use Rattle.std.specs.Prelude.{ℕ, zero, suc, ◌+◌, ◌-◌, ◌==◌, ◌||◌, ◌&&◌, Bool, true, false, not, nat_le, List, [], ◌∷◌, Option, Some, None, codes, take}
-use Rattle.std.specs.Prelude.{drop, reverse, if◌then◌else◌, option_map}
+use Rattle.std.specs.Prelude.{ℕ, zero, suc, ◌-◌, ◌==◌, ◌||◌, ◌&&◌, Bool, true, false, not, nat_le, List, [], ◌∷◌, Option, Some, None, codes, take}
+use Rattle.std.specs.Prelude.{drop, reverse, if◌then◌else◌}
 use Rattle.std.specs.Char.{is_ascii_digit, is_ascii_alphanumeric}
-use Rattle.std.specs.List.{list_any, prefix_len}
-use Rattle.smap_lines.specs.Numbers.{decimal_number}
+use Rattle.std.specs.List.{list_any}
 
--- ---- the numbers of a place
-
--- how many digits a text begins with
-abbrev pub digits : List ℕ → ℕ
-digits text = prefix_len is_ascii_digit text
-
--- the number after the `:` that a text begins with, whose digits all belong to it; and how many bytes both are
-abbrev pub number_after : List ℕ → Option (ℕ × ℕ)
-number_after [] = None
-number_after (byte ∷ text) = if byte == 58 then option_map (λ n. (n, digits text + 1)) (decimal_number (take (digits text) text)) else None
-
-abbrev pub with_column : (line size : ℕ) → Option (ℕ × ℕ) → Option (ℕ × ℕ × ℕ)
-with_column line size None = None
-with_column line size (Some (column, more)) = Some (line, column, size + more)
-
-abbrev pub with_line : List ℕ → Option (ℕ × ℕ) → Option (ℕ × ℕ × ℕ)
-with_line text None = None
-with_line text (Some (line, size)) = with_column line size (number_after (drop size text))
-
--- the numbers after a URL: a line, a column, and how many bytes they are with the `:` before each
-unfoldable pub numbers_after : List ℕ → Option (ℕ × ℕ × ℕ)
-numbers_after text = with_line text (number_after text)
+-- ---- a place
 
 -- a place: its URL, its line and its column, which count from 1, and how many bytes it is
 pub record PlaceUrl : Type 0 where

@@ -10,7 +10,8 @@ use Rattle.smap_trace.specs.UrlNotes.{NamingSeen}
 use Rattle.smap_places.specs.Candidates.{prefix_bytes}
 use Rattle.smap_places.specs.PatternUrl.{last_end, url_back}
 use Rattle.smap_places.specs.PlaceAt.{MapsSeen, is_named, is_prefix}
-use Rattle.smap_places.specs.Places.{PlaceUrl, begun_at, numbers_after}
+use Rattle.smap_pairs.specs.Numbers.{numbers_after}
+use Rattle.smap_places.specs.Places.{PlaceUrl, begun_at}
 use Rattle.smap_places.specs.PlacesOver.{naming_by}
 
 -- ---- one of them

@@ -3,9 +3,9 @@ ghost use Rattle.std.specs.Prelude.{◌≡◌, ◌≢◌, ◌↔◌, ◌++◌, �
 ghost use Rattle.std.specs.List.{flat_map};
 ghost use Rattle.smap_lines.specs.Lines.{IsWholeLines, lines_with_ends};
 ghost use Rattle.smap_record.specs.Record.{MapRecord};
-ghost use Rattle.smap_places.specs.Places.{numbers_after};
+ghost use Rattle.smap_pairs.specs.Numbers.{numbers_after};
 ghost use Rattle.smap_places.specs.PlacesRewritten.{placed_line, placed_text};
-ghost use Rattle.smap_places.specs.Printed.{IsNumbers};
+ghost use Rattle.smap_pairs.specs.Printed.{IsNumbers};
 ghost use Rattle.smap_by_text.specs.ByText.{value_under};
 
 use smap_lines::laws::numbers_are_read_as_printed;

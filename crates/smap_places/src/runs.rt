@@ -1,11 +1,11 @@
 //! What a URL has behind the prefix of a folder, and behind the bytes that are named.
 ghost use Rattle.std.specs.Prelude.{◌≡◌, ◌<◌, ◌≤◌, ◌+◌, ℕ, IfSome, None, Some, drop, false, length, option_map};
 ghost use Rattle.smap_places.specs.Candidates.{has_query, is_url_byte, query_length, run_length};
-ghost use Rattle.smap_places.specs.Places.{numbers_after};
+ghost use Rattle.smap_pairs.specs.Numbers.{numbers_after};
 ghost use Rattle.smap_places.specs.Private.Finder.{IsBarred};
 
-use crate::numbers::numbers_after;
 use memchr::memchr2;
+use smap_pairs::numbers_after;
 
 /// How many bytes it is at most.
 pub const MOST_RUN: usize = 2048;

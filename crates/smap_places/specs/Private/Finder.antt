@@ -5,7 +5,7 @@ use Rattle.smap_by_text.specs.ByText.{value_under}
 use Rattle.smap_by_text.specs.Common.{IsFront, common_front}
 use Rattle.smap_record.specs.Record.{MapRecord}
 use Rattle.smap_places.specs.Candidates.{query_length, run_length}
-use Rattle.smap_places.specs.Places.{numbers_after}
+use Rattle.smap_pairs.specs.Numbers.{numbers_after}
 use Rattle.smap_places.specs.PlaceAt.{MapsSeen, is_named, is_prefix}
 use Rattle.smap_places.specs.declared.lengths.Lengths.{Lengths}
 use Rattle.smap_places.specs.declared.place.FoundUrl.{FoundUrl}

@@ -1,15 +1,15 @@
 //! The places in a text whose URLs are named or stand behind a prefix.
 ghost use Rattle.std.specs.Prelude.{◌≡◌, ◌<◌, ◌≤◌, ◌+◌, ℕ, IsSomeAnd, MatchOption, None, drop, length};
-ghost use Rattle.smap_places.specs.Places.{numbers_after};
+ghost use Rattle.smap_pairs.specs.Numbers.{numbers_after};
 ghost use Rattle.smap_places.specs.PlaceAt.{exact_at};
 ghost use Rattle.smap_places.specs.PlaceSeen.{HasMap, IsNext, NoneBetween};
 ghost use Rattle.smap_places.specs.Private.Finder.{IsBarred, IsOpen, IsUnqueried};
 
 use super::PlaceFinder;
 use crate::begins::may_begin;
-use crate::numbers::find_candidate;
 use crate::place::FoundPlace;
 use crate::runs::{barred_end, has_query_between};
+use smap_pairs::find_candidate;
 
 impl<'t> PlaceFinder<'t> {
     /// The first place of a text with a URL that is named or behind a prefix that begins at byte `from` or after it, and

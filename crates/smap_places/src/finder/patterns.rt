@@ -1,13 +1,13 @@
 //! The places in a text where there are patterns.
 ghost use Rattle.std.specs.Prelude.{◌≡◌, ◌<◌, ◌≤◌, ℕ, MatchOption, None, drop, is_some, length, true};
-ghost use Rattle.smap_places.specs.Places.{numbers_after};
+ghost use Rattle.smap_pairs.specs.Numbers.{numbers_after};
 ghost use Rattle.smap_places.specs.PlaceAt.{exact_at, place_at};
 ghost use Rattle.smap_places.specs.PlaceSeen.{HasMap, IsNext, NoneBetween};
 
 use super::PlaceFinder;
-use crate::numbers::find_numbers;
 use crate::pattern_url::url_start;
 use crate::place::{FoundPlace, FoundUrl};
+use smap_pairs::find_numbers;
 
 impl<'t> PlaceFinder<'t> {
     /// The first place of a text that begins at byte `from` or after it, and before byte `high`, where there are patterns.

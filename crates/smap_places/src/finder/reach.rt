@@ -5,8 +5,8 @@ ghost use Rattle.smap_places.specs.PlacesNear.{DecidedWithin, EndsAtLines, Known
 
 use super::PlaceFinder;
 use crate::begins::MOST_COLOUR;
-use crate::numbers::MOST_NUMBERS;
 use crate::runs::MOST_RUN;
+use smap_pairs::MOST_NUMBERS;
 
 /// How many bytes before the numbers of a place decide which URL stands right before them, at most.
 pub(crate) const MOST_KEPT: usize = MOST_RUN + MOST_COLOUR;

@@ -8,9 +8,9 @@ ghost use Rattle.smap_places.specs.Seeming.{each_from, has_scheme, is_script, kn
 ghost use Rattle.smap_trace.specs.NotesSeen.{naming_seen, notes_seen};
 
 use super::PlaceFinder;
-use crate::numbers::{find_numbers, numbers_after};
 use crate::pattern_url::{last_end, url_start};
 use smap_locations::without_query;
+use smap_pairs::{find_numbers, numbers_after};
 use smap_trace::{Naming, UrlNotes};
 
 impl<'t> PlaceFinder<'t> {

@@ -1,4 +1,4 @@
-use Rattle.smap_places.proofs.PrintedLaws.{numbers_are, numbers_printed}
+use Rattle.smap_pairs.specs.Laws.Printed.{numbers_are, numbers_printed}
 use Rattle.smap_places.proofs.laws.numbers_are_those_printed.Goals as goal
 
 pub returns : goal.returns

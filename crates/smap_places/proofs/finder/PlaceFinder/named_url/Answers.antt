@@ -1,11 +1,18 @@
-use Rattle.std.proofs.Common.{◌≡◌, ◌≤◌, ◌+◌, IfSome, Some, arith, drop, length, length-drop, refl, rules, sym}
+use Rattle.std.proofs.Common.{◌≡◌, ◌≤◌, ◌+◌, ◌∙◌, ℕ, List, Option, IfSome, None, Some, ap, arith, drop, drop-drop, length, length-drop, refl, rules, sym}
 use Rattle.std.proofs.lemmas.Grind.{common_steps}
+use Rattle.smap_pairs.specs.Numbers.{numbers_after}
 use Rattle.smap_places.specs.Candidates.{query_length}
 use Rattle.smap_places.proofs.FinderLaws.{run_some}
-use Rattle.smap_places.specs.Places.{numbers_after}
-use Rattle.smap_places.proofs.NumberLaws.{numbers_on}
 use Rattle.smap_places.proofs.RunLaws.{query_is_run}
 use Rattle.smap_places.proofs.finder.PlaceFinder.named_url.Goals as goal
+
+-- numbers that are known behind bytes of a text
+numbers_on : (text : List ℕ) (bytes more : ℕ) (known : Option (ℕ × ℕ × ℕ)) → bytes ≤ length text
+    → IfSome known (λ numbers. (numbers_after (drop more (drop bytes text)) ≡ Some numbers) × (more + numbers.2 ≤ length (drop bytes text)))
+    → IfSome known (λ numbers. (numbers_after (drop (bytes + more) text) ≡ Some numbers) × (bytes + more + numbers.2 ≤ length text))
+numbers_on text bytes more None within is = is
+numbers_on text bytes more (Some numbers) within is =
+    (sym (ap numbers_after (drop-drop more bytes text)) ∙ is.0, omega (arith, is.1, length-drop bytes text, within))
 
 pub returns-clause-url : goal.returns-clause-url
 returns-clause-url c =

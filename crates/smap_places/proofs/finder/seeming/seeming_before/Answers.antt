@@ -1,7 +1,8 @@
 use Rattle.std.proofs.Common.{ap, false, option_map, sym, ◌∙◌}
 use Rattle.std.specs.Prelude.{slice_range}
 use Rattle.std.proofs.lemmas.List.{take_rest}
-use Rattle.smap_places.specs.Places.{PlaceUrl, numbers_after}
+use Rattle.smap_pairs.specs.Numbers.{numbers_after}
+use Rattle.smap_places.specs.Places.{PlaceUrl}
 use Rattle.smap_places.specs.PlacesOver.{naming_by}
 use Rattle.smap_places.specs.Seeming.{place_if}
 use Rattle.smap_places.proofs.SeemingLaws.{begun_is, begun_none}

@@ -1,0 +1,72 @@
+-- Worked examples of the URLs of frames that a pattern may have: each holds by computing both sides.
+use Rattle.std.proofs.Common.{◌≡◌, ℕ, Bool, true, false, List, codes, map, refl, reverse}
+use Rattle.smap_pairs.specs.Before.{has_separator}
+use Rattle.smap_pairs.specs.FrameUrl.{begins_again, begins_as_url, has_slash_behind_sign, is_function, is_in_scheme, is_one_url}
+use Rattle.smap_pairs.specs.Path.{is_path}
+use Rattle.smap_pairs.specs.Root.{is_root}
+use Rattle.smap_pairs.specs.declared.seen.SeenByte.{SeenByte}
+
+-- a text without escapes
+plain : (text : List ℕ) → List SeenByte
+plain text = map (λ byte. record { size = 0; byte = byte; counts = byte; is_edge = false }) text
+
+-- what stands before the URL of a frame, and the URL
+is_taken : (before url : List ℕ) → Bool
+is_taken before url = is_one_url (plain before) (plain url)
+
+-- ---- as what a URL begins
+
+a_scheme : begins_as_url (codes "https://h/app.js") ≡ true
+unfolding is_in_scheme
+a_scheme = refl
+
+a_scheme_before_one_slash : begins_as_url (codes "file:/srv/app.js") ≡ true
+unfolding is_in_scheme
+a_scheme_before_one_slash = refl
+
+a_host_is_no_scheme : begins_as_url (codes "ex.com:/srv/app.js") ≡ false
+unfolding is_in_scheme
+a_host_is_no_scheme = refl
+
+a_drive : begins_as_url (codes "C:\\Program Files\\a\\app.js") ≡ true
+a_drive = refl
+
+-- ---- one URL
+
+with_blanks : is_taken (codes "    at f (") (codes "C:\\Program Files\\a\\app.js") ≡ true
+unfolding plain is_taken begins_again has_slash_behind_sign is_in_scheme
+with_blanks = refl
+
+with_brackets : is_taken (codes "    at f (") (codes "https://h/app/(shop)/x.min.js") ≡ true
+unfolding plain is_taken begins_again has_slash_behind_sign is_in_scheme
+with_brackets = refl
+
+an_open_bracket : is_taken (codes "    at ") (codes "[/srv/app.js") ≡ false
+unfolding plain is_taken
+an_open_bracket = refl
+
+behind_a_key : is_taken (codes "    at ") (codes "x=/srv/app.js") ≡ false
+unfolding plain is_taken is_in_scheme is_path is_root has_separator
+behind_a_key = refl
+
+a_relative_path : is_taken (codes "f@") (codes "dist/app.js") ≡ true
+unfolding plain is_taken is_in_scheme is_path is_root has_separator
+a_relative_path = refl
+
+a_sentence : is_taken (codes "    at ") (codes "startup: cannot load https://h/app.js") ≡ false
+unfolding plain is_taken is_in_scheme is_path is_root has_separator
+a_sentence = refl
+
+a_sentence_behind_a_url : is_taken (codes "me@") (codes "/home: see \"https://h/app.js") ≡ false
+unfolding plain is_taken begins_again has_slash_behind_sign is_in_scheme
+a_sentence_behind_a_url = refl
+
+-- ---- no function
+
+in_a_url : is_taken (codes "https://h/npm/a@") (codes "1/app.js") ≡ false
+unfolding plain is_taken is_in_scheme is_path is_root has_separator
+in_a_url = refl
+
+a_date_is_no_path : is_function (reverse (codes "2024/01/01 f@")) ≡ true
+unfolding has_separator
+a_date_is_no_path = refl

@@ -1,0 +1,35 @@
+mod BytesLaws
+pub mod EscapesLaws
+pub mod ColoursLaws
+pub mod SeenLaws
+mod StandLaws
+mod SeenExamples
+mod TokenLaws
+mod SeenBytesLaws
+mod WholeLaws
+mod ApartLaws
+mod MarksLaws
+mod MarksExamples
+mod VirtualLineLaws
+mod CoverLaws
+mod NoMarkLaws
+mod PairsLaws
+mod PairExamples
+pub mod BackLaws
+pub mod RootLaws
+pub mod PathLaws
+mod WordLaws
+mod BracketLaws
+mod BehindExamples
+mod FrameUrlExamples
+mod WordExamples
+mod BehindLaws
+pub mod GreatestLaws
+mod NamedLaws
+mod MostLaws
+mod NumberLaws
+mod RestLaws
+mod NotingLaws
+mod PairAtLaws
+mod LinePlacesLaws
+mod LinePlacesExamples

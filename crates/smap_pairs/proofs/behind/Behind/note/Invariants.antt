@@ -1,0 +1,12 @@
+use Rattle.smap_pairs.specs.Private.Rest.{IsNoting, IsRest}
+use Rattle.smap_pairs.proofs.behind.Behind.note.Given as goal
+
+-- what has been read is noted
+abbrev pub invariant-loop-rest : goal.invariant-loop-rest
+invariant-loop-rest l = record {
+  rest : IsRest l.before l.rest;
+  noted : IsNoting l.before l.fn.piece l.self l.rest.at;
+}
+
+abbrev pub decreases-loop-rest : goal.decreases-loop-rest
+decreases-loop-rest l = l.rest.at

@@ -1,0 +1,24 @@
+use Rattle.std.proofs.Common.{◌≡◌, ◌≤◌, ◌++◌, ℕ, length}
+use Rattle.std.specs.List.{filter_map, slice_get}
+use Rattle.smap_pairs.specs.LinePlaces.{frame_in, place_of}
+use Rattle.smap_pairs.specs.Pairs.{AreInOrder}
+use Rattle.smap_pairs.specs.VirtualLines.{line_of_byte}
+use Rattle.smap_pairs.proofs.line_places.LineSeen.find_places.Given as goal
+
+-- the places of the pairs so far were found, and both lines, with their frames, are not behind the pairs that are left
+abbrev pub invariant-loop-pair : goal.invariant-loop-pair
+invariant-loop-pair g l =
+    let known = g.K.KnownUrls.known l.known in
+    let frame = frame_in known l.self.text.now l.self.seen.now l.self.pairs.now in
+    let place = place_of known l.self.text.now l.self.seen.now l.self.pairs.now in
+    record {
+      places : filter_map place l.self.pairs.now ≡ l.places.items ++ filter_map place l.rest;
+      order : (piece : ℕ) × AreInOrder piece (length l.self.text.now) l.rest
+          × ((byte : ℕ) → piece ≤ byte → l.string.index ≤ line_of_byte l.self.strings.now byte)
+          × ((byte : ℕ) → piece ≤ byte → l.line.index ≤ line_of_byte l.self.lines.now byte);
+      string : l.string.place ≡ frame (slice_get l.self.strings.now l.string.index);
+      line : l.line.place ≡ frame (slice_get l.self.lines.now l.line.index);
+    }
+
+abbrev pub decreases-loop-pair : goal.decreases-loop-pair
+decreases-loop-pair g l = length l.rest

@@ -1,0 +1,16 @@
+use Rattle.std.proofs.Common.{◌≡◌, ◌+◌, ◌++◌, ◌≤◌, length, vec_capacity}
+use Rattle.smap_pairs.specs.Seen.{counted_from}
+use Rattle.smap_pairs.specs.Signs.{text_of}
+use Rattle.smap_pairs.proofs.seen.count_into.Given as goal
+
+-- what was added, and what the rest of the line gives, is what the line gives
+abbrev pub invariant-loop-byte : goal.invariant-loop-byte
+invariant-loop-byte l = record {
+  counted : l.seen.items ++ counted_from 0 l.rest ≡ counted_from 0 l.line;
+  stands : text_of l.seen.items ++ l.rest ≡ l.line;
+  one_a_byte : length l.seen.items + length l.rest ≡ length l.line;
+  room : length l.line ≤ vec_capacity l.fn.seen → length l.line ≤ vec_capacity l.seen;
+}
+
+abbrev pub decreases-loop-byte : goal.decreases-loop-byte
+decreases-loop-byte l = length l.rest

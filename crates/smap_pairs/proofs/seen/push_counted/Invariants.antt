@@ -1,0 +1,11 @@
+use Rattle.std.proofs.Common.{◌≡◌, ◌+◌, ◌++◌, ◌≤◌, length, map, take, vec_capacity}
+use Rattle.smap_pairs.specs.Seen.{within}
+use Rattle.smap_pairs.proofs.seen.push_counted.Given as goal
+
+-- the bytes so far were added, and the room is there
+abbrev pub invariant-loop-byte : goal.invariant-loop-byte
+invariant-loop-byte l = record {
+  added : l.seen.items ≡ l.fn.seen.items ++ map within (take l.byte-index l.part);
+  size : length l.seen.items ≡ length l.fn.seen.items + l.byte-index;
+  room : vec_capacity l.fn.seen ≤ vec_capacity l.seen;
+}

@@ -1,0 +1,27 @@
+//! Kinds of bytes.
+ghost use Rattle.std.specs.Prelude.{◌≡◌};
+ghost use Rattle.smap_pairs.specs.Bytes.{is_control, is_edge_byte, is_letter_or_digit};
+
+/// Whether a byte is a letter or a digit, as each byte of a character beyond ASCII counts.
+pub fn is_letter_or_digit(byte: u8) -> bool
+    ensures { result ≡ is_letter_or_digit byte }
+{
+    byte.is_ascii_alphanumeric() || byte >= 0x80
+}
+
+/// Whether a URL may begin behind a byte.
+pub fn is_edge_byte(byte: u8) -> bool
+    ensures { result ≡ is_edge_byte byte }
+{
+    match byte {
+        b'_' | b'-' | b'.' | b'/' | b'\\' | b'%' | b'~' | b'+' | b'$' | b':' => false,
+        _ => !is_letter_or_digit(byte),
+    }
+}
+
+/// Whether a byte is a blank or a control byte.
+pub fn is_control(byte: u8) -> bool
+    ensures { result ≡ is_control byte }
+{
+    byte <= b' ' || byte == 0x7f
+}

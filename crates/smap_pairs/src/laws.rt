@@ -1,0 +1,51 @@
+//! Laws over the definitions, for all texts: a call does nothing, and its contract is the law.
+ghost use Rattle.std.specs.Prelude.{◌≡◌, ◌≤◌, ℕ, IsSomeAnd, List, length, slice_get};
+ghost use Rattle.std.specs.List.{All};
+ghost use Rattle.smap_pairs.specs.Apart.{AreAmong, AreApart, HasNoMark, HasNoQuotationMark};
+ghost use Rattle.smap_pairs.specs.Apart.{HasWhole, IsClearOf, in_turn};
+ghost use Rattle.smap_pairs.specs.Marks.{marks_of};
+ghost use Rattle.smap_pairs.specs.Pairs.{IsPairOf};
+ghost use Rattle.smap_pairs.specs.Seen.{seen_of};
+ghost use Rattle.smap_pairs.specs.VirtualLines.{line_of_byte, lines_of_strings, marks_of_strings, virtual_lines};
+ghost use Rattle.smap_pairs.specs.declared.marks.Mark.{Mark};
+ghost use Rattle.smap_pairs.specs.declared.pairs.Pair.{Pair};
+ghost use Rattle.smap_pairs.specs.declared.seen.SeenByte.{SeenByte};
+ghost use Rattle.smap_pairs.specs.declared.virtual_lines.VirtualLine.{VirtualLine};
+
+/// Virtual lines and marks have the bytes of a line by turns: each byte is in one of them. So do lines of strings, and the
+/// marks that end them, which are some of all.
+pub fn lines_and_marks_are_the_line()
+    ensures apart { (line : List ℕ) → AreApart 0 (length line) (marks_of (seen_of line)) }
+    ensures virtual_lines { (line : List ℕ) →
+        in_turn line (virtual_lines (seen_of line)) (marks_of (seen_of line)) ≡ line }
+    ensures lines_of_strings { (line : List ℕ) →
+        let marks = marks_of_strings 0 (marks_of (seen_of line)) in
+        in_turn line (lines_of_strings (seen_of line)) marks ≡ line }
+    ensures among { (marks : List Mark) → AreAmong (marks_of_strings 0 marks) marks }
+{}
+
+/// No mark has a byte of a pair, so a virtual line has the pair whole, and so has a line of a string.
+pub fn pairs_are_in_one_line()
+    ensures clear { (line : List ℕ) (pair : Pair) → IsPairOf line pair →
+        All (IsClearOf pair.start pair.end) (marks_of (seen_of line)) }
+    ensures virtual_lines { (line : List ℕ) (pair : Pair) → IsPairOf line pair →
+        let lines = virtual_lines (seen_of line) in
+        IsSomeAnd (slice_get lines (line_of_byte lines pair.start)) (HasWhole pair.start pair.end) }
+    ensures lines_of_strings { (line : List ℕ) (pair : Pair) → IsPairOf line pair →
+        let lines = lines_of_strings (seen_of line) in
+        IsSomeAnd (slice_get lines (line_of_byte lines pair.start)) (HasWhole pair.start pair.end) }
+{}
+
+/// No mark ends in a virtual line: it has no quotation mark, no escape of one, and none of a line's end. A line of a string
+/// has no quotation mark, either.
+pub fn quotation_marks_end_lines()
+    ensures virtual_lines { (line : List SeenByte) → All (HasNoMark line) (virtual_lines line) }
+    ensures lines_of_strings { (line : List SeenByte) →
+        All (HasNoQuotationMark line) (lines_of_strings line) }
+{}
+
+/// A later byte has a later line, or the same.
+pub fn later_bytes_have_later_lines()
+    ensures { (lines : List VirtualLine) (first second : ℕ) → first ≤ second →
+        line_of_byte lines first ≤ line_of_byte lines second }
+{}
