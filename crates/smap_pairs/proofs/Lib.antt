@@ -24,7 +24,6 @@ mod BehindExamples
 mod FrameUrlExamples
 mod WordExamples
 mod BehindLaws
-pub mod GreatestLaws
 mod NamedLaws
 mod MostLaws
 mod NumberLaws

@@ -4,7 +4,7 @@ use Rattle.std.proofs.lemmas.Bool.{cases_lt}
 use Rattle.std.proofs.lemmas.List.{take_all}
 use Rattle.smap_pairs.specs.Greatest.{most_below}
 use Rattle.smap_pairs.specs.Known.{is_among}
-use Rattle.smap_pairs.proofs.GreatestLaws.{among_more}
+use Rattle.smap_pairs.specs.Laws.Greatest.{among_more}
 
 module _ (has : ℕ → ℕ) where
   pub most_above : (end n : ℕ) → n < end → has n ≤ most_below has end

@@ -7,7 +7,7 @@ use Rattle.smap_pairs.specs.Behind.{begins_query, fits_at, is_query_at, queries_
 use Rattle.smap_pairs.specs.Signs.{text_of}
 use Rattle.smap_pairs.specs.Known.{UrlsKnown, is_among}
 use Rattle.smap_pairs.specs.Named.{cut_bytes, named_bytes, with_rest}
-use Rattle.smap_pairs.proofs.GreatestLaws.{head_or}
+use Rattle.smap_pairs.specs.Laws.Greatest.{head_or}
 use Rattle.smap_pairs.specs.declared.known.NamedBy.{NamedBy}
 use Rattle.smap_pairs.specs.declared.seen.SeenByte.{SeenByte}
 

@@ -6,3 +6,4 @@ pub mod Queries
 pub mod PairBytes
 pub mod PairsWhole
 pub mod LastPair
+pub mod Greatest

@@ -28,8 +28,8 @@ fn begins_with_backslash(text: &[u8]) -> bool
     }
 }
 
-/// Puts a text with one backslash for each two in the place of what `halves` has. It takes no memory where that has room for the
-/// text.
+/// Puts a text with one backslash for each two in the place of what `halves` has. It takes no memory where that has room
+/// for the text.
 pub fn halve_into(text: &[u8], halves: &mut Vec<u8>) -> Result<(), AllocError>
     ensures halved { OnOk result (halves.new.items ≡ halved text.now) }
     ensures room { length text.now ≤ vec_capacity halves.old → IsOk result }

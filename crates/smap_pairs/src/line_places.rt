@@ -19,8 +19,8 @@ use crate::word::begin_by_word;
 use std::alloc::{AllocError, Global};
 use std::marker::Model;
 
-/// A place in a line: from which byte to which it stands, where its URL ends, its line and its column, which count from 1, and
-/// whether each two backslashes of its URL are one.
+/// A place in a line: from which byte to which it stands, where its URL ends, its line and its column, which count from 1,
+/// and whether each two backslashes of its URL are one.
 #[derive(Clone, Copy)]
 pub struct Span {
     pub start: usize,
@@ -68,10 +68,11 @@ impl LinePlaces {
         }
     }
 
-    /// Finds the places of a line. Each byte of it is gone through a few times, and those before a pair, at most 2,048 of its
-    /// piece, once for it, but for URLs that are named: there the lengths of these are tried.
+    /// Finds the places of a line. Each byte of it is gone through a few times, and those before a pair, at most 2,048 of
+    /// its piece, once for it, but for URLs that are named: there the lengths of these are tried.
     pub fn find<K: KnownUrls>(&mut self, known: &K, text: &[u8]) -> Result<(), AllocError>
-        ensures { IfOk result (λ _. self.new ≡ places_in (K.known known.now) text.now (seen_of text.now)) }
+        ensures { IfOk result (λ _. self.new
+            ≡ places_in (K.known known.now) text.now (seen_of text.now)) }
     {
         see_into(text, &mut self.seen)?;
         marks_into(&self.seen, &mut self.marks)?;

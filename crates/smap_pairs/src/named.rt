@@ -22,8 +22,8 @@ pub struct Sought<'a, K: KnownUrls> {
 }
 
 impl<K: KnownUrls> Sought<'_, K> {
-    /// How many bytes the longest URL has that ends at the pair and has its map by a name, a list or a folder, 0 where there is
-    /// none.
+    /// How many bytes the longest URL has that ends at the pair and has its map by a name, a list or a folder, 0 where there
+    /// is none.
     #[tactic(auto, unfolding(crate::specs::Named::own_bytes))]
     pub fn own_bytes(&self) -> usize
         requires piece { self.now.piece ≤ self.now.end }
@@ -48,10 +48,12 @@ impl<K: KnownUrls> Sought<'_, K> {
         requires seen { self.now.end ≤ length self.now.seen.now }
         requires behind { IsBehind (take self.now.end self.now.seen.now) self.now.piece
             self.now.behind.now }
-        ensures longest { result ≡ max named (greatest (is_in_folder_before (K.known self.now.known.now)
+        ensures longest { result ≡ max named (greatest
+            (is_in_folder_before (K.known self.now.known.now)
             self.now.text.now self.now.seen.now (is_in_folder (take self.now.end self.now.seen.now) self.now.piece) self.now.end)
             (self.now.end - self.now.piece)) }
-        ensures within { named ≤ self.now.end - self.now.piece → result ≤ self.now.end - self.now.piece }
+        ensures within { named ≤ self.now.end - self.now.piece →
+            result ≤ self.now.end - self.now.piece }
     {
         for at in self.first_in_folder()..self.end.saturating_sub(named) {
             if self.begins_in_folder(at) {
@@ -159,7 +161,8 @@ impl<K: KnownUrls> Sought<'_, K> {
     fn is_cut(&self, by: NamedBy, query: usize, bytes: usize) -> bool
         requires query { query < self.now.end }
         requires end { self.now.end ≤ length self.now.text.now }
-        requires is_one { is_query_at (take self.now.end self.now.seen.now) self.now.piece query ≡ true }
+        requires is_one { is_query_at (take self.now.end self.now.seen.now) self.now.piece query
+            ≡ true }
         ensures { result ≡ (cut_bytes (K.known self.now.known.now) self.now.text.now
             self.now.seen.now self.now.piece
             (is_query_at (take self.now.end self.now.seen.now) self.now.piece) self.now.end by query == bytes) }
@@ -172,7 +175,8 @@ impl<K: KnownUrls> Sought<'_, K> {
     fn cut_bytes(&self, by: NamedBy, query: usize) -> usize
         requires query { query < self.now.end }
         requires end { self.now.end ≤ length self.now.text.now }
-        requires is_one { is_query_at (take self.now.end self.now.seen.now) self.now.piece query ≡ true }
+        requires is_one { is_query_at (take self.now.end self.now.seen.now) self.now.piece query
+            ≡ true }
         ensures cut { result ≡ cut_bytes (K.known self.now.known.now) self.now.text.now
             self.now.seen.now self.now.piece (is_query_at (take self.now.end self.now.seen.now) self.now.piece) self.now.end by query }
         ensures within { result ≤ self.now.end - self.now.piece }
@@ -191,7 +195,8 @@ impl<K: KnownUrls> Sought<'_, K> {
     fn prefix_bytes(&self, at: usize) -> usize
         requires at { at ≤ self.now.end }
         requires end { self.now.end ≤ length self.now.text.now }
-        ensures prefix { result ≡ prefix_bytes (K.known self.now.known.now) self.now.text.now self.now.end at }
+        ensures prefix { result ≡ prefix_bytes (K.known self.now.known.now) self.now.text.now
+            self.now.end at }
         ensures within { at + result ≤ self.now.end }
     {
         let mut best = 0;

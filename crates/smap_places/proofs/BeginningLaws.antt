@@ -13,7 +13,7 @@ use Rattle.smap_places.specs.Places.{begun_at}
 use Rattle.smap_places.specs.Private.Finder.{IsBeginning, common_join}
 use Rattle.smap_places.proofs.BegunLaws.{not_begun}
 use Rattle.smap_places.proofs.FinderLaws.{either, named_on, no_candidate, prefix_on, run_none}
-use Rattle.smap_places.proofs.GreatestLaws.{greatest_passes}
+use Rattle.smap_pairs.specs.Laws.Greatest.{greatest_passes}
 
 -- ---- what all begin with
 

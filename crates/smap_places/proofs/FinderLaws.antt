@@ -11,15 +11,17 @@ use Rattle.std.specs.Str.{bytes_eq}
 use Rattle.smap_lines.specs.Lines.{has_line_end}
 use Rattle.smap_by_text.specs.ByText.{value_under}
 use Rattle.smap_record.specs.Record.{MapRecord}
-use Rattle.smap_places.specs.Candidates.{candidate_at, greatest, has_named, has_prefix, named_bytes, own_bytes, place_of, place_of_bytes, prefix_bytes}
+use Rattle.smap_pairs.specs.Greatest.{greatest}
+use Rattle.smap_places.specs.Candidates.{candidate_at, has_named, has_prefix, named_bytes, own_bytes, place_of, place_of_bytes, prefix_bytes}
 use Rattle.smap_places.specs.Candidates.{query_length, run_end, run_length, url_bytes, url_end, with_run}
 use Rattle.smap_pairs.specs.Numbers.{numbers_after}
 use Rattle.smap_places.specs.Places.{PlaceUrl, begun_at}
 use Rattle.smap_places.specs.PlaceAt.{MapsSeen, exact_at, is_named, is_prefix, table_alone}
-use Rattle.smap_places.specs.Private.Finder.{HasLengths, IsBarred, IsLongest, IsOpen, IsUnqueried, KnowsLengths, is_among}
+use Rattle.smap_pairs.specs.Known.{is_among}
+use Rattle.smap_places.specs.Private.Finder.{HasLengths, IsBarred, IsLongest, IsOpen, IsUnqueried, KnowsLengths}
 use Rattle.smap_places.specs.declared.lengths.Lengths.{Lengths}
 use Rattle.smap_places.proofs.BegunLaws.{not_begun}
-use Rattle.smap_places.proofs.GreatestLaws.{greatest_passes, greatest_same, greatest_within, head_or}
+use Rattle.smap_pairs.specs.Laws.Greatest.{greatest_passes, greatest_same, greatest_within, head_or}
 use Rattle.smap_places.proofs.LineEndLaws.{end_within}
 use Rattle.smap_pairs.specs.Laws.NumberReach.{no_numbers, numbers_line, numbers_reach, numbers_size}
 use Rattle.smap_places.proofs.RunLaws.{query_line, query_reach, run_line, run_reach, run_within}

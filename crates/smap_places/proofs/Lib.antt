@@ -4,7 +4,6 @@ pub mod LineEndLaws
 pub mod ColourLaws
 pub mod BegunLaws
 pub mod RunLaws
-pub mod GreatestLaws
 pub mod NearLaws
 pub mod CountLaws
 pub mod PartLaws

@@ -5,14 +5,10 @@
 use Rattle.std.specs.Prelude.{ℕ, zero, suc, ◌==◌, ◌+◌, ◌&&◌, ◌||◌, Bool, false, not, nat_le, List, [], ◌∷◌, Option, Some, None, codes, drop, is_some, length, max, take}
 use Rattle.std.specs.Prelude.{if◌then◌else◌, option_map}
 use Rattle.std.specs.List.{list_any}
+use Rattle.smap_pairs.specs.Greatest.{greatest}
 use Rattle.smap_lines.specs.Lines.{has_line_end}
 use Rattle.smap_pairs.specs.Numbers.{numbers_after}
 use Rattle.smap_places.specs.Places.{PlaceUrl}
-
--- the greatest number from 1 to another that passes a test, and 0 where none does
-abbrev pub greatest : (test : ℕ → Bool) → (most : ℕ) → ℕ
-greatest test zero = 0
-greatest test (suc n) = if test (suc n) then suc n else greatest test n
 
 -- ---- what runs to numbers
 

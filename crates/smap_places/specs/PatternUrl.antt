@@ -11,7 +11,7 @@ use Rattle.std.specs.Bool.{nat_eq}
 use Rattle.std.specs.Char.{is_ascii_alphabetic, is_ascii_alphanumeric}
 use Rattle.std.specs.List.{ends_with, list_any, prefix_len}
 use Rattle.smap_locations.specs.Patterns.{is_separator}
-use Rattle.smap_places.specs.Candidates.{greatest}
+use Rattle.smap_pairs.specs.Greatest.{greatest}
 use Rattle.smap_pairs.specs.Numbers.{numbers_after}
 use Rattle.smap_places.specs.Places.{begins_colour}
 

@@ -1,6 +1,6 @@
 //! The lengths of texts that are looked for.
 ghost use Rattle.std.specs.Prelude.{◌≡◌, ◌≤◌, ℕ, IfOk, true};
-ghost use Rattle.smap_places.specs.Private.Finder.{is_among};
+ghost use Rattle.smap_pairs.specs.Known.{is_among};
 
 use std::alloc::{AllocError, Global};
 

@@ -4,15 +4,12 @@ use Rattle.std.specs.List.{list_any}
 use Rattle.smap_by_text.specs.ByText.{value_under}
 use Rattle.smap_by_text.specs.Common.{IsFront, common_front}
 use Rattle.smap_record.specs.Record.{MapRecord}
+use Rattle.smap_pairs.specs.Known.{is_among}
 use Rattle.smap_places.specs.Candidates.{query_length, run_length}
 use Rattle.smap_pairs.specs.Numbers.{numbers_after}
 use Rattle.smap_places.specs.PlaceAt.{MapsSeen, is_named, is_prefix}
 use Rattle.smap_places.specs.declared.lengths.Lengths.{Lengths}
 use Rattle.smap_places.specs.declared.place.FoundUrl.{FoundUrl}
-
--- a number is among these
-abbrev pub is_among : List ℕ → ℕ → Bool
-is_among numbers n = list_any (λ x. x == n) numbers
 
 -- the length of each text that passes a test is among these, and at most their greatest
 abbrev pub HasLengths : (lengths : Lengths) → (test : List ℕ → Bool) → Type 0

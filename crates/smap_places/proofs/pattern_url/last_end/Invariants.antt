@@ -1,6 +1,6 @@
 use Rattle.std.proofs.Common.{◌≡◌, ◌≤◌, length, nat_eq, take}
 use Rattle.std.specs.List.{ends_with}
-use Rattle.smap_places.specs.Candidates.{greatest}
+use Rattle.smap_pairs.specs.Greatest.{greatest}
 use Rattle.smap_places.specs.PatternUrl.{last_end}
 use Rattle.smap_places.proofs.pattern_url.last_end.Given as goal
 

@@ -2,7 +2,7 @@ use Rattle.std.proofs.Common.{◌≡◌, ◌≤◌, ◌-◌, ap, arith, sym, ◌
 use Rattle.std.specs.List.{slice_range}
 use Rattle.smap_pairs.specs.Known.{is_among}
 use Rattle.smap_pairs.specs.Named.{is_named_before, may_begin_name}
-use Rattle.smap_pairs.proofs.GreatestLaws.{greatest_found}
+use Rattle.smap_pairs.specs.Laws.Greatest.{greatest_found}
 use Rattle.smap_pairs.proofs.NamedLaws.{among_slice, both_rest}
 use Rattle.smap_pairs.proofs.named.Sought.named_bytes.Goals as goal
 

@@ -1,6 +1,6 @@
 use Rattle.std.proofs.Common.{◌≡◌, ◌≤◌, ◌⊎◌, ◌-◌, true}
 use Rattle.smap_pairs.specs.Named.{is_named_before}
-use Rattle.smap_pairs.proofs.GreatestLaws.{NoneGreater}
+use Rattle.smap_pairs.specs.Laws.Greatest.{NoneGreater}
 use Rattle.smap_pairs.proofs.named.Sought.named_bytes.Given as goal
 
 -- it is the greatest so far that passes

@@ -3,7 +3,7 @@ use Rattle.std.proofs.lemmas.Bool.{cases_lt}
 use Rattle.smap_pairs.specs.Behind.{is_in_folder}
 use Rattle.smap_pairs.specs.Greatest.{greatest}
 use Rattle.smap_pairs.specs.Named.{begins_in_folder, is_in_folder as is_in_folder_before}
-use Rattle.smap_pairs.proofs.GreatestLaws.{greatest_is, greatest_passes, greatest_within}
+use Rattle.smap_pairs.specs.Laws.Greatest.{greatest_is, greatest_passes, greatest_within}
 use Rattle.smap_pairs.proofs.named.Sought.or_in_folder.Goals as goal
 
 pub returns-then-begins_in_folder-clause-longest : goal.returns-then-begins_in_folder-clause-longest

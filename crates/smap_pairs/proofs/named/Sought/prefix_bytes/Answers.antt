@@ -1,7 +1,7 @@
 use Rattle.std.proofs.Common.{◌≡◌, ◌≤◌, ◌+◌, ◌-◌, ℕ, ap, arith, length, sym, true, ◌∙◌}
 use Rattle.std.specs.List.{slice_range}
 use Rattle.smap_pairs.specs.Known.{is_among}
-use Rattle.smap_pairs.proofs.GreatestLaws.{greatest_found}
+use Rattle.smap_pairs.specs.Laws.Greatest.{greatest_found}
 use Rattle.smap_pairs.proofs.NamedLaws.{among_slice}
 use Rattle.smap_pairs.proofs.named.Sought.prefix_bytes.Goals as goal
 

@@ -1,6 +1,6 @@
 use Rattle.std.proofs.Common.{◌≡◌, ◌≤◌, ◌⊎◌, ◌+◌, ◌-◌, ℕ, true}
 use Rattle.std.specs.List.{slice_range}
-use Rattle.smap_pairs.proofs.GreatestLaws.{NoneGreater}
+use Rattle.smap_pairs.specs.Laws.Greatest.{NoneGreater}
 use Rattle.smap_pairs.proofs.named.Sought.prefix_bytes.Given as goal
 
 -- it is the greatest so far that passes

@@ -4,7 +4,7 @@ use Rattle.std.proofs.lemmas.List.{length-take-le, take_all}
 use Rattle.smap_pairs.specs.Behind.{is_query_at, queries_of}
 use Rattle.smap_pairs.specs.Known.{is_among}
 use Rattle.smap_pairs.specs.Named.{cut_bytes}
-use Rattle.smap_pairs.proofs.GreatestLaws.{NoneGreater, greater_found, greatest_is, none_greater}
+use Rattle.smap_pairs.specs.Laws.Greatest.{NoneGreater, greater_found, greatest_is, none_greater}
 use Rattle.smap_pairs.proofs.NamedLaws.{covered, noted_query}
 use Rattle.smap_pairs.proofs.named.Sought.query_of.Goals as goal
 use Rattle.smap_pairs.proofs.named.Sought.query_of.Goals.{then-query-last+then-query-self+then-is_cut, else-query-last, else-query-last-via-then-query-last+then-query-self+else-is_cut}

@@ -1,7 +1,7 @@
 use Rattle.std.proofs.Common.{◌≡◌, ◌==◌, ◌≤◌, ◌⊎◌, ℕ, take, true}
 use Rattle.smap_pairs.specs.Behind.{is_query_at}
 use Rattle.smap_pairs.specs.Named.{cut_bytes}
-use Rattle.smap_pairs.proofs.GreatestLaws.{NoneGreater}
+use Rattle.smap_pairs.specs.Laws.Greatest.{NoneGreater}
 use Rattle.smap_pairs.proofs.named.Sought.query_of.Given as goal
 
 -- it is the last so far of those before the pair

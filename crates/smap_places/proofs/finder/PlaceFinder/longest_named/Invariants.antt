@@ -2,7 +2,7 @@ use Rattle.std.proofs.Common.{◌≡◌, ◌≤◌, ◌⊎◌, true, length}
 use Rattle.smap_places.specs.Candidates.{has_named, run_end}
 use Rattle.smap_places.specs.PlaceAt.{is_named}
 use Rattle.smap_places.specs.Private.Finder.{HasOwnMap, HasOwnNumbers}
-use Rattle.smap_places.proofs.GreatestLaws.{NoneGreater}
+use Rattle.smap_pairs.specs.Laws.Greatest.{NoneGreater}
 use Rattle.smap_places.proofs.finder.PlaceFinder.longest_named.Given as goal
 
 -- it is the longest so far that passes

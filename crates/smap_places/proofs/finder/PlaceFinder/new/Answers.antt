@@ -1,5 +1,6 @@
 use Rattle.std.proofs.Common.{◌≡◌, ◌++◌, ap, length, map, rules, subst, sym, ◌∙◌}
-use Rattle.smap_places.specs.Private.Finder.{IsBeginning, is_among}
+use Rattle.smap_pairs.specs.Known.{is_among}
+use Rattle.smap_places.specs.Private.Finder.{IsBeginning}
 use Rattle.smap_places.specs.PlaceAt.{MapsSeen}
 use Rattle.smap_places.proofs.FinderLaws.{named_among, text_among}
 use Rattle.smap_places.proofs.finder.PlaceFinder.new.Goals as goal

@@ -1,8 +1,9 @@
 use Rattle.std.proofs.Common.{ap, arith, length, subst, sym, ◌∙◌}
 use Rattle.smap_places.specs.Candidates.{has_prefix}
-use Rattle.smap_places.specs.Private.Finder.{KnowsLengths, is_among}
+use Rattle.smap_pairs.specs.Known.{is_among}
+use Rattle.smap_places.specs.Private.Finder.{KnowsLengths}
 use Rattle.smap_places.specs.PlaceAt.{is_prefix}
-use Rattle.smap_places.proofs.GreatestLaws.{greatest_found}
+use Rattle.smap_pairs.specs.Laws.Greatest.{greatest_found}
 use Rattle.smap_places.proofs.FinderLaws.{length_among, prefix_on}
 use Rattle.smap_places.proofs.finder.PlaceFinder.prefix_bytes.Goals as goal
 

@@ -1,7 +1,7 @@
 use Rattle.std.proofs.Common.{◌≡◌, ◌≤◌, ◌⊎◌, true, length}
 use Rattle.smap_places.specs.Candidates.{has_prefix}
 use Rattle.smap_places.specs.PlaceAt.{is_prefix}
-use Rattle.smap_places.proofs.GreatestLaws.{NoneGreater}
+use Rattle.smap_pairs.specs.Laws.Greatest.{NoneGreater}
 use Rattle.smap_places.proofs.finder.PlaceFinder.prefix_bytes.Given as goal
 
 -- it is the greatest so far that passes

@@ -1,6 +1,6 @@
 use Rattle.std.proofs.Common.{◌≡◌, ap, arith, take, true, ◌∙◌}
 use Rattle.std.proofs.lemmas.List.{take_all}
-use Rattle.smap_places.specs.Private.Finder.{is_among}
+use Rattle.smap_pairs.specs.Known.{is_among}
 use Rattle.smap_places.proofs.lengths.Lengths.new.Goals as goal
 
 pub returns : goal.returns

@@ -1,5 +1,5 @@
 use Rattle.std.proofs.Common.{◌≡◌, ◌≤◌, ℕ, true, take}
-use Rattle.smap_places.specs.Private.Finder.{is_among}
+use Rattle.smap_pairs.specs.Known.{is_among}
 use Rattle.smap_places.proofs.lengths.Lengths.new.Given as goal
 
 -- each length so far is among those that are kept, and at most the greatest
