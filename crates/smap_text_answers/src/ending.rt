@@ -28,7 +28,8 @@ pub fn finish<F: FileReader, W: ByteSink, E: ByteSink>(
     first: &mut Option<Code>,
 ) -> u8
     requires output_works { (W.seen output.old).failed ≡ is_write_fault end.now.result }
-    ensures { EndsFrom end.now request.now.options.now.summary request.now.options.now.anywhere result
+    ensures { EndsFrom end.now request.now.options.now.summary
+        request.now.options.now.anywhere result
         (sinks_seen (W.seen output.old) (E.seen errors.old) first.old)
         (sinks_seen (W.seen output.new) (E.seen errors.new) first.new) }
 {
@@ -53,7 +54,8 @@ fn close<F: FileReader, E: ByteSink>(
     counts: &RewriteCounts,
     errors: &mut E,
 ) -> u8
-    ensures { ClosesWith end.now request.now.options.now.summary request.now.options.now.anywhere counts.now result
+    ensures { ClosesWith end.now request.now.options.now.summary
+        request.now.options.now.anywhere counts.now result
         (E.seen errors.old) (E.seen errors.new) }
 {
     let short = report_shortage(end.shortages, errors);
