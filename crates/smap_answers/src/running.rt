@@ -13,8 +13,8 @@ use smap_compose_answers::{answer_compose, answer_compose_all, answer_show};
 use smap_io::{ByteSink, ByteSource};
 use smap_locate_answers::{LocateRequest, answer_locate};
 use smap_map_answers::{
-    LookUp, answer_content, answer_generated, answer_lookup, answer_mappings, answer_positions,
-    answer_raw, answer_sources,
+    answer_content, answer_generated, answer_lookup, answer_mappings, answer_positions, answer_raw,
+    answer_sources,
 };
 use smap_replies::{FileReader, Loaded, LoadedFiles, MapReader, report};
 use smap_sequences::WithoutSequences;
@@ -136,15 +136,14 @@ fn run_over<F: FileReader, R: ByteSource, W: ByteSink, E: ByteSink>(
             after,
             options,
             ..
-        } => {
-            let asked = LookUp {
-                line: *line,
-                column: *column,
-                direction: Direction::of(*after),
-                options: *options,
-            };
-            answer_lookup(alloc, &maps, path, asked)
-        }
+        } => answer_lookup(
+            alloc,
+            &maps,
+            path,
+            (*line, *column),
+            Direction::of(*after),
+            *options,
+        ),
         Command::Generated(asked) => answer_generated(alloc, &maps, asked),
         Command::Positions(asked) => answer_positions(alloc, &maps, asked, input, output),
         Command::Mappings(asked) => answer_mappings(alloc, &maps, asked, output),

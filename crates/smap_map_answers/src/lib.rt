@@ -3,8 +3,7 @@
 //!
 //! ```text
 //! let options = LookupOptions { form: Form::Text, explain: false };
-//! let asked = LookUp { line: 0, column: 5, direction: Direction::AtOrBefore, options };
-//! let outcome = answer_lookup(alloc, &maps, "app.js.map", asked);
+//! let outcome = answer_lookup(alloc, &maps, "app.js.map", (0, 5), Direction::AtOrBefore, options);
 //! ```
 #![tactic(auto)]
 
@@ -17,7 +16,7 @@ mod raw;
 mod sources;
 
 pub use generated::answer_generated;
-pub use lookup::{LookUp, answer_lookup};
+pub use lookup::answer_lookup;
 pub use mappings::answer_mappings;
 pub use positions::answer_positions;
 pub use raw::answer_raw;

@@ -9,6 +9,6 @@ pub returns-in_err-map : goal.returns-in_err-map
 returns-in_err-map g c =
     let maps = c.args.maps.now in
     let p = err_from_is_err_and c.from_residual.result c.from_residual.ensures.1 in
-    rw (p.1, p.2) (refused_why (g.F.FileReader.gives maps.files.now) c.args.asked.options.explain 0 c.args.path.now (option_copied maps.base)
-    maps.interval (IsLine (lookup_print c.args.asked.direction c.args.asked.options c.args.asked.line c.args.asked.column))
+    rw (p.1, p.2) (refused_why (g.F.FileReader.gives maps.files.now) c.args.options.explain 0 c.args.path.now (option_copied maps.base)
+    maps.interval (IsLine (lookup_print c.args.direction c.args.options c.args.position.0 c.args.position.1))
     _ c.in_err-map.ensures.refused)
