@@ -9,7 +9,6 @@ use Rattle.smap_check_answers.specs.Fit.{FitsPair, pairs_of}
 use Rattle.smap_compose_answers.specs.Compose.{ReportsComposed}
 use Rattle.smap_compose_answers.specs.ComposeAll.{ReportsAllComposed}
 use Rattle.smap_compose_answers.specs.Show.{shown_result}
-use Rattle.smap_locate_answers.specs.Asked.{asked_of}
 use Rattle.smap_locate_answers.specs.Locate.{RunsLocate}
 use Rattle.smap_map_answers.specs.Generated.{generated_result}
 use Rattle.smap_map_answers.specs.Lookup.{lookup_print}
@@ -53,7 +52,7 @@ Runs Reads hint (Sources asked) = RunsOne (ReportsAside (ReportsMap Reads 0 (str
 Runs Reads hint (SourceContent asked) =
     RunsOne (ReportsAside (ReportsMap Reads 0 (string_bytes asked.path) None usual_interval (IsResult (content_result asked.source))))
 Runs Reads hint (Rewrite maps base interval hide_ignored options) = RunsRewrite Reads base interval maps.items hide_ignored options hint
-Runs Reads hint (Locate asked) = RunsLocate Reads asked.base asked.interval (asked_of asked)
+Runs Reads hint (Locate asked) = RunsLocate Reads asked
 Runs Reads hint (Compose outer source inner base options) =
     RunsOne (ReportsAside (ReportsComposed Reads options (string_bytes outer) source (string_bytes inner) base))
 Runs Reads hint (ComposeAll asked) = RunsOne (ReportsAside (ReportsAllComposed Reads asked.options (string_bytes asked.outer)

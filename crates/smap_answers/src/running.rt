@@ -11,7 +11,7 @@ use smap_codes::Code;
 use smap_command::{Command, Direction, Fit, Reading};
 use smap_compose_answers::{answer_compose, answer_compose_all, answer_show};
 use smap_io::{ByteSink, ByteSource};
-use smap_locate_answers::{LocateRequest, answer_locate};
+use smap_locate_answers::answer_locate;
 use smap_map_answers::{
     answer_content, answer_generated, answer_lookup, answer_mappings, answer_positions, answer_raw,
     answer_sources,
@@ -165,8 +165,7 @@ fn run_over<F: FileReader, R: ByteSource, W: ByteSink, E: ByteSink>(
             return answer_rewrite(alloc, &request, input, output, errors, first);
         }
         Command::Locate(asked) => {
-            let request = LocateRequest::new(&maps, asked);
-            return answer_locate(alloc, &request, input, output, errors, first);
+            return answer_locate(alloc, reader, asked, input, output, errors, first);
         }
         Command::Compose {
             outer,

@@ -4,6 +4,5 @@ pub mod PlaceSeen
 pub mod Locating
 pub mod ByPath
 pub mod Locate
-pub mod Asked
 pub mod Private
 pub mod Laws

@@ -1,6 +1,6 @@
 -- What `locate` does over files and folders of maps that are read when a line names them: it gathers what it is over, answers the
 -- lines over a store of maps, and says what that came to. The status is the greatest of all that was reported.
-use Rattle.std.specs.Prelude.{◌≡◌, ℕ, ◌+◌, Bool, false, List, [], Option, Result, Ok, Err, length, map, max, option_copied}
+use Rattle.std.specs.Prelude.{◌≡◌, ℕ, ◌+◌, Bool, false, List, [], Option, Result, Ok, Err, length, map, max, option_map, string_bytes, unwrap_or}
 use Rattle.url.specs.Parts.{Parts}
 use Rattle.smap_lines.specs.Editing.{DevicesSeen, EditsFrontInto, EditsInto, devices_seen}
 use Rattle.smap_lines.specs.RunEnds.{is_read_fault}
@@ -10,8 +10,9 @@ use Rattle.smap_lines.specs.declared.fault.LineFault.{LineFault}
 use Rattle.smap_lines.specs.declared.fault.LineFault.TheVariants as fault
 use Rattle.smap_locate_answers.specs.ByPath.{AnswersAll, AnswersLine}
 use Rattle.smap_locate_answers.specs.Locating.{BecomesAnswer, LocateStep}
-use Rattle.smap_locate_answers.specs.declared.locating.LocateRequest.{LocateRequest}
 use Rattle.smap_locate_answers.specs.declared.locating.StoreEnd.{StoreEnd}
+use Rattle.smap_command.specs.Limits.{usual_cache_bytes}
+use Rattle.smap_command.specs.declared.asked.Locate.{Locate}
 use Rattle.smap_command.specs.declared.options.AnswerOptions.{AnswerOptions}
 use Rattle.smap_replies.specs.Arguments.{argument_of}
 use Rattle.smap_replies.specs.Files.{MayRead}
@@ -25,23 +26,6 @@ use Rattle.smap_text_answers.specs.Sources.{GathersSources}
 use Rattle.smap_text_answers.specs.declared.sources.MapSources.{MapSources}
 use Rattle.smap_trace.specs.Rewriting.{Looked}
 
--- what is asked, the base and the interval aside
-pub record RequestSeen : Type 0 where
-  pub arguments : List (List ℕ × List ℕ)
-  pub list : Option (List ℕ)
-  pub paths : Bool
-  pub cache_bytes : ℕ
-  pub options : AnswerOptions
-
-abbrev pub request_seen : {F : Type 0} → LocateRequest F → RequestSeen
-request_seen request = record {
-  arguments = map argument_of request.arguments.now;
-  list = option_copied request.list;
-  paths = request.paths;
-  cache_bytes = request.cache_bytes;
-  options = request.options;
-}
-
 -- ---- over a store of maps
 
 -- the lines of a text were answered over a store of these maps to its end, or up to a fault, and the store stands so then
@@ -54,10 +38,10 @@ IsStoredLocated Reads paths base k number options old new before after (Err faul
     × Looked (FindsIn (Loads Reads paths base k number)) old new
 
 -- what answering over a store came to
-pub record IsOverStore (Reads : MayRead) (base : Option Parts) (k : ℕ) (request : RequestSeen) (sources : MapSources) (end : StoreEnd) (before after : Streams) : Type 0 where
+pub record IsOverStore (Reads : MayRead) (asked : Locate) (sources : MapSources) (end : StoreEnd) (before after : Streams) : Type 0 where
   pub last : StoredSeen LoaderSeen
-  pub located : IsStoredLocated Reads request.paths base k (length request.arguments + 1) request.options
-      (store_start sources request.cache_bytes before.sinks.errors before.sinks.code) last
+  pub located : IsStoredLocated Reads asked.paths asked.base asked.interval (length asked.maps.items + 1) asked.options
+      (store_start sources (unwrap_or asked.cache_bytes usual_cache_bytes) before.sinks.errors before.sinks.code) last
       (devices_seen before.input before.sinks.output) (devices_seen after.input after.sinks.output) end.result
   pub errors : after.sinks.errors ≡ last.loader.errors
   pub code : after.sinks.code ≡ last.loader.code
@@ -67,10 +51,10 @@ pub record IsOverStore (Reads : MayRead) (base : Option Parts) (k : ℕ) (reques
   pub shortages : end.shortages ≡ last.cache.shortages
 
 -- where each path gives the same whenever it is read, each line is answered by what the files have, or by that memory ran out
-abbrev pub AnswersByPath : MayRead → Option Parts → (k : ℕ) → RequestSeen → MapSources → StoreEnd → (before after : Streams) → Type 0
-AnswersByPath Reads base k request sources end before after =
-    (bytes_at : BytesByPath) → ReadsAlike Reads (length request.arguments + 1) bytes_at → (counts : LineCounts) → end.result ≡ Ok counts
-    → AnswersAll (AnswersLine request.paths base k bytes_at sources.words sources.locations request.options)
+abbrev pub AnswersByPath : MayRead → Locate → MapSources → StoreEnd → (before after : Streams) → Type 0
+AnswersByPath Reads asked sources end before after =
+    (bytes_at : BytesByPath) → ReadsAlike Reads (length asked.maps.items + 1) bytes_at → (counts : LineCounts) → end.result ≡ Ok counts
+    → AnswersAll (AnswersLine asked.paths asked.base asked.interval bytes_at sources.words sources.locations asked.options)
     (devices_seen before.input before.sinks.output) (devices_seen after.input after.sinks.output)
 
 -- ---- what is reported at the end
@@ -89,14 +73,13 @@ EndsLocating end status before after = EndsBy end end.result status before after
 -- ---- the run
 
 -- over what it gathered, or where that is refused
-abbrev pub LocatesOver : MayRead → Option Parts → (k : ℕ) → RequestSeen → Result MapSources Report → (status : ℕ) → (before after : Streams) → Type 0
-LocatesOver Reads base k request (Err refused) status before after = (after.input ≡ before.input) × Ends refused status before.sinks after.sinks
-LocatesOver Reads base k request (Ok sources) status before after =
-    (end : StoreEnd) × (between : Streams) × IsOverStore Reads base k request sources end before between
-    × AnswersByPath Reads base k request sources end before between × (after.input ≡ between.input)
-    × EndsLocating end status between.sinks after.sinks
+abbrev pub LocatesOver : MayRead → Locate → Result MapSources Report → (status : ℕ) → (before after : Streams) → Type 0
+LocatesOver Reads asked (Err refused) status before after = (after.input ≡ before.input) × Ends refused status before.sinks after.sinks
+LocatesOver Reads asked (Ok sources) status before after =
+    (end : StoreEnd) × (between : Streams) × IsOverStore Reads asked sources end before between
+    × AnswersByPath Reads asked sources end before between × (after.input ≡ between.input) × EndsLocating end status between.sinks after.sinks
 
-abbrev pub RunsLocate : MayRead → Option Parts → (k : ℕ) → RequestSeen → (status : ℕ) → (before after : Streams) → Type 0
-RunsLocate Reads base k request status before after =
-    (gathered : Result MapSources Report) × GathersSources Reads request.paths false base k request.arguments request.list gathered
-    × LocatesOver Reads base k request gathered status before after
+abbrev pub RunsLocate : MayRead → Locate → (status : ℕ) → (before after : Streams) → Type 0
+RunsLocate Reads asked status before after = (gathered : Result MapSources Report)
+    × GathersSources Reads asked.paths false asked.base asked.interval (map argument_of asked.maps.items) (option_map string_bytes asked.list) gathered
+    × LocatesOver Reads asked gathered status before after

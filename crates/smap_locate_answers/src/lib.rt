@@ -2,8 +2,7 @@
 //! read when a line names them.
 //!
 //! ```text
-//! let request = LocateRequest::new(&maps, &arguments, &options);
-//! let status = answer_locate(alloc, &request, &mut input, &mut output, &mut errors, &mut first);
+//! let status = answer_locate(alloc, &rt, &asked, &mut input, &mut output, &mut errors, &mut first);
 //! ```
 #![tactic(auto)]
 
@@ -11,4 +10,4 @@ mod locating;
 mod locator;
 mod place;
 
-pub use locating::{LocateRequest, answer_locate};
+pub use locating::answer_locate;

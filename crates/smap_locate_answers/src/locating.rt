@@ -3,8 +3,7 @@ ghost use Rattle.std.specs.Prelude.{◌≡◌, false, option_copied};
 ghost use Rattle.smap_lines.specs.Editing.{EditsFrontInto, EditsInto};
 ghost use Rattle.smap_lines.specs.Limits.{most_text_bytes};
 ghost use Rattle.smap_lines.specs.RunEnds.{RunEnds, is_write_fault};
-ghost use Rattle.smap_locate_answers.specs.Asked.{asked_of};
-ghost use Rattle.smap_locate_answers.specs.Locate.{EndsLocating, IsOverStore, RunsLocate, request_seen};
+ghost use Rattle.smap_locate_answers.specs.Locate.{EndsLocating, IsOverStore, RunsLocate};
 ghost use Rattle.smap_locate_answers.specs.Locating.{BecomesAnswer, LocateStep};
 ghost use Rattle.smap_replies.specs.Streams.{sinks_seen, streams_seen};
 ghost use Rattle.smap_store.specs.Stored.{FindsIn, GivesIn};
@@ -21,48 +20,14 @@ use smap_store::{MapCache, MapLoader, StoredMaps};
 use smap_text_answers::{FileLoader, MapSources, report_shortage, sources_of};
 use std::alloc::Global;
 
-/// How places are answered over files and folders.
-#[derive(Drop)]
-pub struct LocateRequest<'a, 'r, F: FileReader> {
-    /// How map files are read.
-    pub maps: &'a MapReader<'r, F>,
-    /// Pairs of a URL and a path; where the path ends in `/`, of a prefix of URLs and a folder; where the URL begins with
-    /// `*`, of a pattern.
-    pub arguments: &'a [(String, String)],
-    /// The path of a list of more of them.
-    pub list: Option<&'a str>,
-    /// Whether, without a base, the sources of a map whose URL is a path are named by paths that go on from its folder.
-    pub paths: bool,
-    /// How many bytes of files are kept as maps.
-    pub cache_bytes: u64,
-    /// Which mapping answers, and how that is printed.
-    pub options: AnswerOptions,
-}
-
-impl<'a, 'r, F: FileReader> LocateRequest<'a, 'r, F> {
-    /// What the command asks for, with the usual number of bytes where none is given.
-    pub fn new(maps: &'a MapReader<'r, F>, asked: &'a Locate) -> LocateRequest<'a, 'r, F>
-        ensures maps { result.maps ≡ maps.entry }
-        ensures asked { request_seen result ≡ asked_of asked.entry.now }
-    {
-        LocateRequest {
-            maps,
-            arguments: &asked.maps,
-            list: asked.list.as_deref(),
-            paths: asked.paths,
-            cache_bytes: asked.cache_bytes.unwrap_or(USUAL_CACHE_BYTES),
-            options: asked.options,
-        }
-    }
-}
-
 /// Reads the maps that are words of the command line, and answers the places on the lines of standard input over them and
 /// over those that they name, each by a line in their order, and gives the exit status: the greatest of all that was
 /// reported. The code of the first refusal is put into `first`, where that has none. The caller gives devices that have not
 /// failed.
 pub fn answer_locate<F: FileReader, R: ByteSource, W: ByteSink, E: ByteSink>(
     alloc: Global,
-    request: &LocateRequest<'_, '_, F>,
+    reader: &F,
+    asked: &Locate,
     input: &mut R,
     output: &mut W,
     errors: &mut E,
@@ -70,22 +35,19 @@ pub fn answer_locate<F: FileReader, R: ByteSource, W: ByteSink, E: ByteSink>(
 ) -> u8
     requires input_works { (R.seen input.old).failed ≡ false }
     requires output_works { (W.seen output.old).failed ≡ false }
-    ensures { RunsLocate (F.gives request.now.maps.now.files.now)
-        (option_copied request.now.maps.now.base) request.now.maps.now.interval
-        (request_seen request.now) result
+    ensures { RunsLocate (F.gives reader.now) asked.now result
         (streams_seen (R.seen input.old) (W.seen output.old) (E.seen errors.old) first.old)
         (streams_seen (R.seen input.new) (W.seen output.new) (E.seen errors.new) first.new) }
 {
-    match sources_of(
-        alloc,
-        request.maps,
-        request.paths,
-        false,
-        request.arguments,
-        request.list,
-    ) {
+    let maps = MapReader {
+        files: reader,
+        base: asked.base.as_ref(),
+        interval: asked.interval,
+    };
+    let list = asked.list.as_deref();
+    match sources_of(alloc, &maps, asked.paths, false, &asked.maps, list) {
         Ok(sources) => {
-            let end = over_store(alloc, request, &sources, input, output, errors, first);
+            let end = over_store(alloc, &maps, asked, &sources, input, output, errors, first);
             finish(&end, output, errors, first)
         }
         Err(failure) => report(&Err(failure), output, errors, first),
@@ -103,30 +65,31 @@ struct StoreEnd {
     shortages: u64,
 }
 
-// Answers the places over the maps of words and of what they name.
+// Answers the places over the maps of words and of what they name, read with the command's base and interval.
 fn over_store<F: FileReader, R: ByteSource, W: ByteSink, E: ByteSink>(
     alloc: Global,
-    request: &LocateRequest<'_, '_, F>,
+    maps: &MapReader<'_, F>,
+    asked: &Locate,
     sources: &MapSources,
     input: &mut R,
     output: &mut W,
     errors: &mut E,
     first: &mut Option<Code>,
 ) -> StoreEnd
+    requires base { option_copied maps.now.base ≡ asked.now.base }
+    requires interval { maps.now.interval ≡ asked.now.interval }
     requires input_works { (R.seen input.old).failed ≡ false }
     requires output_works { (W.seen output.old).failed ≡ false }
-    ensures over { IsOverStore (F.gives request.now.maps.now.files.now)
-        (option_copied request.now.maps.now.base) request.now.maps.now.interval
-        (request_seen request.now) sources.now result
+    ensures over { IsOverStore (F.gives maps.now.files.now) asked.now sources.now result
         (streams_seen (R.seen input.old) (W.seen output.old) (E.seen errors.old) first.old)
         (streams_seen (R.seen input.new) (W.seen output.new) (E.seen errors.new) first.new) }
     ensures output_failure { (W.seen output.new).failed ≡ is_write_fault result.result }
 {
-    let mut cache = MapCache::new(alloc, request.cache_bytes);
+    let mut cache = MapCache::new(alloc, asked.cache_bytes.unwrap_or(USUAL_CACHE_BYTES));
     let mut loader = FileLoader {
-        maps: request.maps,
-        paths: request.paths,
-        number: request.arguments.len() + 1,
+        maps,
+        paths: asked.paths,
+        number: asked.maps.as_slice().len() + 1,
         errors,
         status: DONE,
         code: *first,
@@ -137,7 +100,7 @@ fn over_store<F: FileReader, R: ByteSource, W: ByteSink, E: ByteSink>(
     let result = locate_text(
         alloc,
         sources,
-        request.options,
+        asked.options,
         &mut cache,
         &mut loader,
         input,

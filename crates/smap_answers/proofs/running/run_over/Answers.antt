@@ -1,6 +1,4 @@
-use Rattle.std.proofs.Common.{ap, option_copied, refl, subst}
-use Rattle.smap_locate_answers.specs.Locate.{RequestSeen, RunsLocate}
-use Rattle.smap_replies.specs.Streams.{streams_seen}
+use Rattle.std.proofs.Common.{ap, refl}
 use Rattle.smap_replies.proofs.RunLaws.{runs_one}
 use Rattle.smap_answers.proofs.running.run_over.Goals.{in-Raw, in-Show, in-Lookup, in-Generated, in-Positions, in-Mappings, in-Sources, in-SourceContent, in-Compose, in-ComposeAll, in-Explain}
 use Rattle.smap_answers.proofs.running.run_over.Goals as goal
@@ -63,13 +61,4 @@ returns-in-Rewrite g c =
     rw c.in-Rewrite.is (rw (c.deref-in-Rewrite.ensures.value, base, interval, c.in-Rewrite.is) at c.answer_rewrite.ensures)
 
 pub returns-in-Locate : goal.returns-in-Locate
-returns-in-Locate g c =
-    let base = ap (λ seen. seen.base) c.reading-reading.ensures in
-    let interval = ap (λ seen. seen.interval) c.reading-reading.ensures in
-    let made = c.new-request.result in
-    let before = streams_seen (g.R.ByteSource.seen c.args.input.now) (g.W.ByteSink.seen c.args.output.now) (g.E.ByteSink.seen c.args.errors.now) c.args.first.now in
-    let new = c.answer_locate.new in
-    let after = streams_seen (g.R.ByteSource.seen new.input) (g.W.ByteSink.seen new.output) (g.E.ByteSink.seen new.errors) new.first in
-    let asked = subst (λ (seen : RequestSeen). RunsLocate (g.F.FileReader.gives made.maps.now.files.now) (option_copied made.maps.now.base) made.maps.now.interval seen
-    c.answer_locate.result before after) c.new-request.ensures.asked c.answer_locate.ensures in
-    rw c.in-Locate.is (rw (c.new-request.ensures.maps, base, interval, c.in-Locate.is) at asked)
+returns-in-Locate g c = rw c.in-Locate.is c.answer_locate.ensures
