@@ -12,8 +12,8 @@ use smap_replies::{Failure, FileReader, MapReader, Reply, read_map_explained};
 use smap_verdicts::nearest_text;
 use std::alloc::{AllocError, Global};
 
-/// Looks a generated line and column, both from 0, up in the map that the file at this path is. Where it is none, and that is
-/// asked, why is reported too.
+/// Looks a generated line and column, both from 0, up in the map that the file at this path is. Where it is none, and that
+/// is asked, why is reported too.
 pub fn answer_lookup<F: FileReader>(
     alloc: Global,
     maps: &MapReader<'_, F>,
