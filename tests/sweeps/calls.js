@@ -100,7 +100,7 @@ const TAKING = [
   { call: 'traces add to a table of 1', answer: REPLACED, memory: KEPT },
   { call: 'traces add to a table of 11', answer: REPLACED, memory: KEPT },
   { call: 'traces rewrite', answer: REPLACED, memory: 'Memory|' },
-  { call: 'traces rewrite_places', answer: REPLACED, memory: 'Memory|' },
+  { call: 'traces rewrite_anywhere', answer: REPLACED, memory: 'Memory|' },
   { call: 'traces answer_positions', answer: 'answered|a.ts:1:2/bad position/', memory: 'not answered|' },
   {
     call: 'traces answer_positions as JSON',
@@ -170,7 +170,8 @@ const TAKING = [
   { call: 'stores path_for a file of a folder', answer: 'maps/b.js.map', memory: 'memory' },
   { call: 'stores url_lengths', answer: '[22]', memory: 'memory' },
   { call: 'stores prefix_lengths', answer: '[19]', memory: 'memory' },
-  { call: 'stores PlaceFinder::new', answer: 'made', memory: 'memory' },
+  { call: 'stores MapUrls::new', answer: 'made', memory: 'memory' },
+  { call: 'stores LineCounter::new', answer: 'made', memory: 'memory' },
   {
     call: 'stores rewrite_over',
     answer: 'rewritten|    at f (a.ts:1:2)|0 0',

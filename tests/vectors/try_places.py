@@ -7,7 +7,7 @@
   JSON stays JSON; the lines that `rewrite` rewrites are rewritten alike; and a place is, whole, one that was put in;
 - long texts of few pieces, again and again, take about twice the time where they are twice as long.
 
-With --rows it writes places/stdin and places/stdout beside it: rows of crates/smap_rows of the cases, by the model.
+With --rows it writes the rows of crates/smap_rows of the cases, by the model, in the place of those that are there.
 """
 
 from __future__ import annotations
@@ -27,7 +27,7 @@ from places_cases import CASES, Case
 from places_line import Line, VirtualLine
 from places_maps import LookUp, Maps, Original
 
-HERE = Path(__file__).resolve().parent
+ROWS = Path(__file__).resolve().parents[2] / "crates" / "smap_rows"
 
 # ---------------------------------------------------------------------------------------------
 # The maps.
@@ -509,12 +509,14 @@ def try_rows(is_written: bool) -> Optional[str]:
     made = rows()
     wrong = []
     for name, part in (("stdin", 0), ("stdout", 1)):
-        text = "".join(line + "\n" for line in [HEADING, *(row[part] for row in made)])
-        file = HERE / "places" / name
+        file = ROWS / name
+        lines = file.read_text().split("\n")
+        begin = lines.index(HEADING)
+        end = next(at for at in range(begin + 1, len(lines)) if lines[at][:2] in ("# ", ""))
+        section = [HEADING, *(row[part] for row in made)]
         if is_written:
-            file.parent.mkdir(exist_ok=True)
-            file.write_text(text)
-        elif file.read_text() != text:
+            file.write_text("\n".join([*lines[:begin], *section, *lines[end:]]))
+        elif lines[begin:end] != section:
             wrong.append(f"{file.name} has other rows")
     print(f"{len(made)} rows")
     return "\n".join(wrong) or None

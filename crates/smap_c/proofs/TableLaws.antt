@@ -16,13 +16,13 @@ use Rattle.smap_lines.specs.Limits.{most_text_bytes}
 use Rattle.smap_lines.specs.declared.fault.LineFault.{LineFault}
 use Rattle.smap_lines.specs.declared.fault.LineFault.TheVariants.{Memory, TooMuch}
 use Rattle.smap_record.specs.Record.{MapRecord}
-use Rattle.smap_places.specs.Laws.PlacesBy.{places_by}
-use Rattle.smap_places.specs.PlaceAt.{place_at}
-use Rattle.smap_places.specs.PlacesBeside.{FindsBeside, found_beside}
-use Rattle.smap_places.specs.PlacesBy.{RewritesPlacesBy}
-use Rattle.smap_places.specs.PlacesOver.{MayBe, MayBecome, RewritesPlacesFrontOver, RewritesPlacesOver}
-use Rattle.smap_places.specs.PlacesRewritten.{part_text, parts_text, replacement}
-use Rattle.smap_places.specs.Places.{Part, found, other, parts_of}
+use Rattle.smap_anywhere.specs.Anywhere.{PlacesAsked, RewritesAnywhere, RewritesAnywhereFront}
+use Rattle.smap_anywhere.specs.AnywhereBy.{RewritesAnywhereBy}
+use Rattle.smap_anywhere.specs.ChunkParts.{parts_in}
+use Rattle.smap_anywhere.specs.Laws.AnywhereBy.{anywhere_by}
+use Rattle.smap_anywhere.specs.PartSteps.{MayBe, MayBecome}
+use Rattle.smap_anywhere.specs.Replaced.{part_text, parts_text, replacement}
+use Rattle.smap_anywhere.specs.Parts.{Part, found, other}
 use Rattle.smap_tables.specs.UrlTable.{UrlTableSeen, map_by_pattern, map_of_cut, map_under}
 use Rattle.smap_tables.specs.declared.url_maps.UrlMaps.{UrlMaps}
 use Rattle.smap_trace.specs.Frame.{FrameParts}
@@ -36,7 +36,7 @@ use Rattle.smap_trace.specs.UrlNotes.{NotesSeen}
 use Rattle.smap_trace.specs.declared.outcome.RewriteCounts.{RewriteCounts}
 use Rattle.smap_trace.specs.declared.outcome.Summary.{Summary}
 use Rattle.smap_c.specs.Private.Rewriting.{EndsRewriting, HasFront, IsRewritten, IsTooMuch}
-use Rattle.smap_c.specs.Trace.{place_counts_by, placed_by, places_of, text_of}
+use Rattle.smap_c.specs.Trace.{place_counts_by, placed_by, places_asked, text_of, urls_of}
 use Rattle.smap_c.specs.declared.trace.RewriteOptions.{RewriteOptions}
 
 module _ (table : UrlTableSeen) (cut : Bool) where
@@ -65,41 +65,16 @@ module _ (table : UrlTableSeen) (cut : Bool) where
       (λ old new url finds good is. let stays = over_next old new finds is in (over_found new url stays, stays))
       (frames_alone (only_ignored hide) most_text_bytes) before after old new counts notes all tt is
 
--- ---- places
+  -- ---- places
 
-module _ (table : UrlTableSeen) where
-  abbrev words : List (List ℕ × MapRecord)
-  words = table.words
-
-  -- a map that comes with its place is the one under the place's URL
-  beside_under : (own rest : Option MapRecord) → option_or own (option_or own rest) ≡ option_or own rest
-  beside_under None rest = refl
-  beside_under (Some own) rest = refl
-
-  found_under : (maps : UrlMaps) (url : List ℕ) → IsOver table true maps
-      → found_beside words (url_found table true) maps url ≡ map_under true table url
-  found_under maps url is =
-      ap (option_or (value_under url words)) (over_found table true maps url is)
-      ∙ beside_under (value_under url words) (option_or (map_of_cut true table url) (map_by_pattern table url))
-
-  finds_same : (old new : UrlMaps) (url : List ℕ) → FindsBeside words (UrlFinds table true) old url new → new ≡ old
-  finds_same old new url finds = go (value_under url words) finds
-    where
-      go : (own : Option MapRecord) → MatchOption own (new ≡ old) (λ _. new ≡ old) → new ≡ old
-      go None same = same
-      go (Some own) same = same
-
-  pub places_table : (before after : DevicesSeen) (old new : UrlMaps) (summary : Summary) → IsOver table true old
-      → RewritesPlacesOver (FindsBeside words (UrlFinds table true)) (found_beside words (url_found table true)) (place_at (places_of table)) most_text_bytes
-      before after old new summary
-      → RewritesPlacesBy (map_under true table) (place_at (places_of table)) most_text_bytes before after summary
-  places_table before after old new summary is all =
-      places_by (FindsBeside words (UrlFinds table true)) (found_beside words (url_found table true)) (map_under true table) (λ maps. ⊤) (IsOver table true)
-      (λ old new url finds good. tt)
-      (λ old new url finds good is.
-      let stays = over_next table true old new (finds_same old new url finds) is in
-      (found_under new url stays, stays))
-      (place_at (places_of table)) most_text_bytes before after old new summary all tt is
+  -- and a text by its places
+  pub places_table : (before after : DevicesSeen) (old new : UrlMaps) (summary : Summary) (named others : NotesSeen) → IsOver old
+      → RewritesAnywhere UrlFinds url_found (places_asked table) before after old new summary named others
+      → RewritesAnywhereBy (map_under cut table) (parts_in (urls_of table)) most_text_bytes before after summary
+  places_table before after old new summary named others is all =
+      anywhere_by UrlFinds url_found (map_under cut table) (λ maps. ⊤) IsOver (λ old new url finds good. tt)
+      (λ old new url finds good is. let stays = over_next old new finds is in (over_found new url stays, stays))
+      (places_asked table) before after old new summary named others all tt is
 
 -- ---- a front of a text
 
@@ -127,11 +102,6 @@ module _ (maps : MapsByUrl) (Allows : (url : List ℕ) → Option MapRecord → 
   parts_by : (parts : List Part) (text : List ℕ) → MayBecome Allows parts text → text ≡ parts_text maps parts
   parts_by [] text is = is
   parts_by (part ∷ parts) text is = is.4 ∙ (λ i. part_by part is.0 is.2 i ++ parts_by parts is.1 is.3 i)
-
--- a map that is the one under a URL, or the table's own
-beside_is : (own rest stated : Option MapRecord) → MatchOption own (stated ≡ option_or own rest) (λ map. stated ≡ Some map) → stated ≡ option_or own rest
-beside_is None rest stated is = is
-beside_is (Some own) rest stated is = is
 
 -- ---- devices in memory
 
@@ -210,7 +180,7 @@ module _ (options : RewriteOptions) (table : UrlTableSeen) (read written : List 
       }
 
   places_are : (summary : Summary) → options.anywhere ≡ true
-      → RewritesPlacesBy (map_under true table) (place_at (places_of table)) most_text_bytes before after summary
+      → RewritesAnywhereBy (map_under true table) (parts_in (urls_of table)) most_text_bytes before after summary
       → IsRewritten options table read written summary
   unfolding placed_by place_counts_by
   places_are summary anywhere is =
@@ -247,8 +217,7 @@ module _ (options : RewriteOptions) (table : UrlTableSeen) (read written : List 
       )
 
   places_front : (fault : LineFault) → options.anywhere ≡ true
-      → RewritesPlacesFrontOver (λ url stated. MatchOption (value_under url table.words) (stated ≡ map_under true table url) (λ own. stated ≡ Some own))
-      (place_at (places_of table)) most_text_bytes before after fault
+      → RewritesAnywhereFront (λ url stated. stated ≡ map_under true table url) (places_asked table) before after fault
       → IsTooMuch read fault × HasFront options table read written
   unfolding placed_by
   places_front fault anywhere is =
@@ -262,18 +231,16 @@ module _ (options : RewriteOptions) (table : UrlTableSeen) (read written : List 
           later = is.later;
           is_front = front.1;
           made = cond-true options.anywhere (placed_by table is.bytes) (rewritten_by (map_under options.cut table) hide is.bytes) anywhere
-              ∙ sym (parts_by maps (λ url stated. MatchOption (value_under url table.words) (stated ≡ map_under true table url) (λ own. stated ≡ Some own))
-              (λ url stated is. beside_is (value_under url table.words) (option_or (map_of_cut true table url) (map_by_pattern table url)) stated is)
-              (parts_of (place_at (places_of table)) is.bytes) (is.written ++ is.later) is.front)
+              ∙ sym (parts_by maps (λ url stated. stated ≡ map_under true table url) (λ url stated is. is)
+              (parts_in (urls_of table) is.bytes) (is.written ++ is.later) is.front)
               ∙ ap (λ w. w ++ is.later) (sym (all_written is.written is.taken));
         },
       )
 
   -- so it ends
   pub places_end : (result : Result Summary LineFault) → options.anywhere ≡ true
-      → IfOk result (RewritesPlacesBy (map_under true table) (place_at (places_of table)) most_text_bytes before after)
-      → IfErr result (RewritesPlacesFrontOver (λ url stated. MatchOption (value_under url table.words) (stated ≡ map_under true table url)
-      (λ own. stated ≡ Some own)) (place_at (places_of table)) most_text_bytes before after)
+      → IfOk result (RewritesAnywhereBy (map_under true table) (parts_in (urls_of table)) most_text_bytes before after)
+      → IfErr result (RewritesAnywhereFront (λ url stated. stated ≡ map_under true table url) (places_asked table) before after)
       → EndsRewriting options table read written result
   places_end (Ok summary) anywhere whole front = places_are summary anywhere whole
   places_end (Err fault) anywhere whole front = places_front fault anywhere front

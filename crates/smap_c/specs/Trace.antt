@@ -6,9 +6,12 @@ use Rattle.smap_codes.specs.Codes.{number_of}
 use Rattle.smap_codes.specs.declared.code.Code.TheVariants.{X3, X5}
 use Rattle.smap_lines.specs.Limits.{most_text_bytes}
 use Rattle.smap_lines.specs.Lines.{lines_with_ends}
-use Rattle.smap_places.specs.PlaceAt.{MapsSeen, place_at}
-use Rattle.smap_places.specs.Places.{parts_of}
-use Rattle.smap_places.specs.PlacesRewritten.{is_place, is_replaced, parts_text}
+use Rattle.smap_anywhere.specs.Anywhere.{PlacesAsked}
+use Rattle.smap_anywhere.specs.ChunkParts.{parts_in, unknown_in}
+use Rattle.smap_anywhere.specs.MapUrls.{urls_known}
+use Rattle.smap_anywhere.specs.SeemingUrls.{urls_seeming}
+use Rattle.smap_pairs.specs.Known.{UrlsKnown}
+use Rattle.smap_anywhere.specs.Replaced.{is_place, is_replaced, parts_text}
 use Rattle.smap_sequences.specs.Sequences.{without_sequences}
 use Rattle.smap_tables.specs.UrlTable.{UrlTableSeen, locations_of, map_under}
 use Rattle.smap_trace.specs.Hiding.{only_ignored}
@@ -24,19 +27,28 @@ counts_seen counts = record { lines = counts.lines; frames = counts.frames; mapp
 -- ---- by its places anywhere
 
 -- the maps under URLs, and the patterns, among which the URLs of places are sought
-abbrev pub places_of : UrlTableSeen → MapsSeen
-places_of table = record { table = table.words; locations = locations_of table.patterns }
+abbrev pub urls_of : UrlTableSeen → UrlsKnown
+urls_of table = urls_known (record { table = table.words; locations = locations_of table.patterns })
 
 -- a text whose places have the maps of their URLs, with or without a query and a fragment
 unfoldable pub placed_by : UrlTableSeen → (text : List ℕ) → List ℕ
-placed_by table text = parts_text (map_under true table) (parts_of (place_at (places_of table)) text)
+placed_by table text = parts_text (map_under true table) (parts_in (urls_of table) text)
 
 unfoldable pub place_counts_by : UrlTableSeen → (text : List ℕ) → Counts
 place_counts_by table text = record {
   lines = length (lines_with_ends text);
-  frames = length (filter is_place (parts_of (place_at (places_of table)) text));
-  mapped = length (filter (is_replaced (map_under true table)) (parts_of (place_at (places_of table)) text));
+  frames = length (filter is_place (parts_in (urls_of table) text));
+  mapped = length (filter (is_replaced (map_under true table)) (parts_in (urls_of table) text));
   hidden = 0;
+}
+
+-- what is asked of its places
+abbrev pub places_asked : UrlTableSeen → PlacesAsked
+places_asked table = record {
+  parts = parts_in (urls_of table);
+  unknown = unknown_in (urls_of table) urls_seeming;
+  most_bytes = most_text_bytes;
+  is_noted = false;
 }
 
 -- the table has a map for each URL, and `12:30:45` would be a place

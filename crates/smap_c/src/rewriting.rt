@@ -5,13 +5,14 @@ ghost use Rattle.smap_c.specs.Private.Rewriting.{EndsRewriting};
 
 use crate::devices::{Input, Output};
 use crate::trace::RewriteOptions;
+use smap_anywhere::{MapUrls, PlaceNotes, PlaceOptions, rewrite_anywhere};
 use smap_io::ByteSource;
 use smap_lines::MOST_TEXT_BYTES;
-use smap_places::{PlaceFinder, rewrite_places_over};
 use smap_sequences::WithoutSequences;
 use smap_tables::{UrlMaps, UrlTable};
 use smap_trace::{
-    Hiding, RewriteFault, RewriteOptions as FrameOptions, Summary, UrlNotes, rewrite_over,
+    Beside, Hiding, NoPlaces, RewriteFault, RewriteOptions as FrameOptions, Summary, UrlNotes,
+    rewrite_over,
 };
 use std::alloc::Global;
 
@@ -70,11 +71,17 @@ fn rewrite_places<R: ByteSource>(
     ensures { IfSome (R.seen input.old).left (λ read.
         EndsRewriting options.now table.now read output.new.bytes.items result) }
 {
-    let Ok(finder) = PlaceFinder::new(alloc, table.words(), table.locations()) else {
+    let Ok(urls) = MapUrls::new(alloc, table.words(), table.locations()) else {
         return Err(RewriteFault::Memory);
     };
     let mut maps = UrlMaps { table, cut: true };
-    rewrite_places_over(alloc, input, output, &finder, &mut maps, MOST_TEXT_BYTES)
+    let options = PlaceOptions {
+        known: &urls,
+        most_bytes: MOST_TEXT_BYTES,
+        is_noted: false,
+    };
+    let mut notes = PlaceNotes::new(alloc);
+    rewrite_anywhere(alloc, input, output, &mut maps, &options, &mut notes)
 }
 
 // The same by its frames.
@@ -98,6 +105,10 @@ fn rewrite_frames<R: ByteSource>(
     let hiding = Hiding::only_ignored(options.hide_ignored);
     let by_frames = FrameOptions::of_frames(hiding, MOST_TEXT_BYTES);
     let mut notes = UrlNotes::new(alloc);
-    let counts = rewrite_over(alloc, input, output, &mut maps, &by_frames, &mut notes)?;
+    let mut beside = Beside {
+        notes: &mut notes,
+        places: &mut NoPlaces,
+    };
+    let counts = rewrite_over(alloc, input, output, &mut maps, &by_frames, &mut beside)?;
     Ok(counts.summary)
 }

@@ -1,11 +1,11 @@
 -- Worked examples of the definitions: each holds by computing both sides.
-use Rattle.std.proofs.Common.{◌≡◌, ℕ, true, false, List, [], ◌∷◌, Some, None, codes, refl}
+use Rattle.std.proofs.Common.{◌≡◌, true, false, [], ◌∷◌, Some, None, codes, map, refl}
 use Rattle.std.specs.Str.{chars, is_utf8}
 use lib.Utf8.{encode}
 use Rattle.smap_locations.specs.ListLine.{is_rule, pattern_text}
-use Rattle.smap_locations.specs.Locations.{LocationsSeen, key_for, path_for}
+use Rattle.smap_locations.specs.Locations.{LocationsSeen, has_path_as_named, key_for, path_for}
 use Rattle.smap_locations.specs.Named.{Named}
-use Rattle.smap_locations.specs.Patterns.{has_ending, path_by_patterns, pattern_refusal, rest_behind, with_slashes}
+use Rattle.smap_locations.specs.Patterns.{has_ending, has_path_in_text, path_by_patterns, pattern_refusal, rest_behind, with_slashes}
 use Rattle.smap_locations.specs.declared.refusal.LocationRefusal.TheVariants.{NoFolder, Twice}
 
 -- ---- entries
@@ -141,6 +141,24 @@ key_with_query = refl
 path_with_query : path_for places (codes "b:/q?2") ≡ Some (codes "q.map")
 unfolding places
 path_with_query = refl
+
+-- ---- which have one
+
+-- by a file, also without the query; in a folder; by no pattern; and in no other folder than that of the longest prefix
+as_named : map (has_path_as_named places) (codes "a:/f?1" ∷ codes "a:/f?1#2" ∷ codes "a:/d/f.js?v=3" ∷ codes "b:/d/f.js" ∷ codes "a:/d/../f.js" ∷ [])
+    ≡ true ∷ false ∷ true ∷ false ∷ false ∷ []
+unfolding places is_utf8 chars encode
+as_named = refl
+
+-- the longest pattern decides, also where its folder has no file; a `\` stands for `/` behind a text that ends in one
+by_patterns : Named
+by_patterns = ([], codes "all.map") ∷ (codes "a.js", codes "a.map") ∷ (codes "/dist/", codes "maps/") ∷ (codes "dist\\", codes "maps/") ∷ []
+
+in_a_text : map (λ url. has_path_in_text by_patterns url url)
+    (codes "b.js" ∷ codes "x/a.js" ∷ codes "/dist/a.js" ∷ codes "/dist/../a.js" ∷ codes "C:\\dist\\x\\b.js" ∷ codes "C:\\dist\\..\\b.js" ∷ [])
+    ≡ false ∷ true ∷ true ∷ false ∷ true ∷ false ∷ []
+unfolding by_patterns is_utf8 chars encode
+in_a_text = refl
 
 -- ---- what is refused
 

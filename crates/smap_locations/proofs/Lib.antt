@@ -2,5 +2,7 @@ mod FolderLaws
 mod PathLaws
 mod PatternLaws
 mod DecidingLaws
+mod InTextLaws
 mod OrderLaws
+mod SlashLaws
 mod Examples

@@ -1,5 +1,6 @@
 -- Prefixes of a URL that have no folder, and the longest that has one.
-use Rattle.std.proofs.Common.{◌≡◌, ℕ, zero, suc, Bool, true, false, cond, List, [], ◌∷◌, Option, Some, None, is_some, length, take, refl, sym, ap, ◌∙◌}
+use Rattle.std.proofs.Common.{◌≡◌, ℕ, zero, suc, ◌&&◌, ◌++◌, Bool, true, false, cond, List, [], ◌∷◌, Option, Some, None, is_some, option_map, drop, length, take, refl, sym, ap, ◌∙◌}
+use Rattle.std.specs.Prelude.{codes}
 use Rattle.std.specs.List.{list_all}
 use Rattle.std.specs.Str.{bytes_eq}
 use Rattle.std.proofs.lemmas.Bool.{and_parts, both_ways}
@@ -9,6 +10,7 @@ use Rattle.smap_locations.specs.Deciding.{longest_prefix, prefix_within}
 use Rattle.smap_locations.specs.Locations.{folder_path, path_in_folders, path_within}
 use Rattle.smap_by_text.specs.ByText.{value_under}
 use Rattle.smap_locations.specs.Named.{Named}
+use Rattle.smap_locations.specs.Paths.{has_map_path}
 
 another : (text url : List ℕ) → is_folder url ≡ true → is_folder text ≡ false → bytes_eq text url ≡ false
 another text url on off = go (bytes_eq text url) (bytes_eq-Decides text url).0
@@ -24,6 +26,14 @@ no_folder (folder ∷ folders) text all off =
     ap (λ same. cond same (Some folder.1) (value_under text folders)) (another text folder.0 (and_parts _ _ all).0 off)
     ∙ no_folder folders text (and_parts _ _ all).1 off
 
+some_if : (b : Bool) (path : List ℕ) → is_some (cond b (Some path) None) ≡ b
+some_if true path = refl
+some_if false path = refl
+
+pub some_map : {T : Type 0} (see : T → List ℕ) (found : Option T) → is_some (option_map see found) ≡ is_some found
+some_map see None = refl
+some_map see (Some value) = refl
+
 -- ---- the longest prefix that has a folder
 
 module _ (folders : Named) (url : List ℕ) where
@@ -38,6 +48,10 @@ module _ (folders : Named) (url : List ℕ) where
   prefix_shorter bytes end one none =
       ap (prefix_within folders url) one
       ∙ ap (λ some. cond some (suc bytes) (prefix_within folders url bytes)) (ap (λ n. is_some (value_under (take n url) folders)) (sym one) ∙ none)
+
+  some_path : (bytes : ℕ) (found : Option (List ℕ)) → is_some (folder_path url bytes found None) ≡ (is_some found && has_map_path (drop bytes url))
+  some_path bytes None = refl
+  some_path bytes (Some folder) = some_if (has_map_path (drop bytes url)) (folder ++ (drop bytes url ++ codes ".map"))
 
   -- what its folder has is the path of the URL
   module _ (no_empty : value_under [] folders ≡ None) where
@@ -64,3 +78,11 @@ module _ (folders : Named) (url : List ℕ) where
     pub path_is : path_in_folders folders url
         ≡ folder_path url (longest_prefix folders url) (value_under (take (longest_prefix folders url) url) folders) None
     path_is = path_behind (length url)
+
+    -- it has one where that has a folder, and what stands behind it is a plain path
+    pub has_path_from : (bytes : ℕ) (front : List ℕ) (has : Bool) → bytes ≡ longest_prefix folders url → front ≡ take bytes url
+        → is_some (value_under front folders) ≡ has → is_some (path_in_folders folders url) ≡ (has && has_map_path (drop bytes url))
+    has_path_from bytes front has is cut some =
+        ap is_some path_is ∙ some_path (longest_prefix folders url) (value_under (take (longest_prefix folders url) url) folders)
+        ∙ ap (λ n. is_some (value_under (take n url) folders) && has_map_path (drop n url)) (sym is)
+        ∙ ap (λ b. b && has_map_path (drop bytes url)) (ap (λ text. is_some (value_under text folders)) (sym cut) ∙ some)

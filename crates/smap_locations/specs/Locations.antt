@@ -1,12 +1,12 @@
 -- Where the map of a URL is (this project's own): in the file that is named for it, or for it without its query and its
 -- fragment; else in the folder of the longest prefix of the latter; else where a pattern says.
-use Rattle.std.specs.Prelude.{ℕ, zero, suc, ◌||◌, Bool, List, Option, Some, None, is_some, length, take, drop, if◌then◌else◌}
+use Rattle.std.specs.Prelude.{ℕ, zero, suc, ◌||◌, Bool, List, [], Option, Some, None, is_some, length, take, drop, if◌then◌else◌}
 use Rattle.std.specs.List.{list_any}
 use Rattle.smap_locations.specs.ListLine.{is_folder}
 use Rattle.smap_by_text.specs.ByText.{value_under}
 use Rattle.smap_locations.specs.Named.{Named, twice}
 use Rattle.smap_locations.specs.Paths.{map_path, without_query}
-use Rattle.smap_locations.specs.Patterns.{has_in_text, needs_query, path_by_patterns, text_by_patterns}
+use Rattle.smap_locations.specs.Patterns.{has_in_text, has_path_in_text, needs_query, path_by_patterns, text_by_patterns}
 use Rattle.smap_locations.specs.declared.refusal.LocationRefusal.{LocationRefusal}
 use Rattle.smap_locations.specs.declared.refusal.LocationRefusal.TheVariants.{NoFolder}
 
@@ -48,6 +48,14 @@ pattern_for locations url = text_by_patterns locations.patterns url (without_que
 -- a pattern has the URL, and not by an empty text
 abbrev pub has_pattern_in_text : LocationsSeen → (url : List ℕ) → Bool
 has_pattern_in_text locations url = list_any (has_in_text url (without_query url)) locations.patterns
+
+-- what is named for the URL has a path, but for patterns
+abbrev pub has_path_as_named : LocationsSeen → (url : List ℕ) → Bool
+has_path_as_named locations url = is_some (path_for (record locations { patterns = [] }) url)
+
+-- patterns have a path for the URL, and not by an empty text
+abbrev pub has_pattern_path_in_text : LocationsSeen → (url : List ℕ) → Bool
+has_pattern_path_in_text locations url = has_path_in_text locations.patterns url (without_query url)
 
 -- what is named for a URL is so with its query and its fragment
 abbrev pub is_whole : LocationsSeen → (url : List ℕ) → Bool

@@ -24,6 +24,9 @@ is_plain_piece piece = not (length piece == 0) && not (bytes_eq piece (codes "."
 abbrev pub is_plain : List ℕ → Bool
 is_plain rest = list_all is_plain_byte rest && list_all is_plain_piece (slice_split (λ byte. byte == 47) rest)
 
--- the path of the map of a URL that has this behind the folder's prefix; a path is UTF-8
+-- a folder has a path for the map of a URL that has this behind the folder's prefix; a path is UTF-8
+abbrev pub has_map_path : (rest : List ℕ) → Bool
+has_map_path rest = is_utf8 rest && is_plain rest
+
 abbrev pub map_path : (folder rest : List ℕ) → Option (List ℕ)
-map_path folder rest = if is_utf8 rest && is_plain rest then Some (folder ++ (rest ++ codes ".map")) else None
+map_path folder rest = if has_map_path rest then Some (folder ++ (rest ++ codes ".map")) else None

@@ -1,7 +1,7 @@
 -- Patterns of URLs (this project's own): a text that stands behind `*`, with the path of a file or, where that ends in `/`, of a
 -- folder. A file is for the URLs that end with the text, and a folder for those in which it stands; and there a piece of the
 -- URL begins, which `/` or `\` ends. Of a URL's patterns the one with the longest text decides.
-use Rattle.std.specs.Prelude.{ℕ, ◌==◌, ◌||◌, ◌&&◌, ◌-◌, Bool, true, not, nat_lt, List, [], ◌∷◌, Option, Some, None, codes, drop, is_some, length, map, option_map, take}
+use Rattle.std.specs.Prelude.{ℕ, ◌==◌, ◌||◌, ◌&&◌, ◌-◌, Bool, true, not, nat_lt, List, [], ◌∷◌, Option, Some, None, codes, drop, false, filter, is_some, length, map, option_map, take}
 use Rattle.std.specs.Prelude.{if◌then◌else◌}
 use Rattle.std.specs.Bool.{nat_eq}
 use Rattle.std.specs.List.{ends_with, list_any, starts_with}
@@ -62,6 +62,10 @@ rest_behind text url = rest_from text true url
 abbrev pub slash_for : ℕ → ℕ
 slash_for byte = if byte == 92 then 47 else byte
 
+abbrev pub path_byte : (has_backslashes : Bool) → ℕ → ℕ
+path_byte true byte = slash_for byte
+path_byte false byte = byte
+
 abbrev pub with_slashes : (text rest : List ℕ) → List ℕ
 with_slashes text rest = if ends_with nat_eq text (codes "\\") then map slash_for rest else rest
 
@@ -114,9 +118,16 @@ path_by_patterns patterns url short = path_of short (deciding url short None pat
 abbrev pub needs_query : (url short : List ℕ) → (pattern : List ℕ × List ℕ) → Bool
 needs_query url short (text, path) = not (is_folder path) && has_ending text url && not (has_ending text short)
 
--- in a text that is no trace a pattern has the URLs that it has by its own text, which is not empty: `12:30:45` is a time of day
+-- in a text that is no trace a pattern has no URL by an empty text: `12:30:45` is a time of day
+abbrev pub is_for_texts : (pattern : List ℕ × List ℕ) → Bool
+is_for_texts pattern = not (length pattern.0 == 0)
+
 abbrev pub has_in_text : (url short : List ℕ) → (pattern : List ℕ × List ℕ) → Bool
-has_in_text url short pattern = not (length pattern.0 == 0) && has_url pattern url short
+has_in_text url short pattern = is_for_texts pattern && has_url pattern url short
+
+-- the pattern that decides there for a URL gives a path
+abbrev pub has_path_in_text : (patterns : Named) → (url short : List ℕ) → Bool
+has_path_in_text patterns url short = is_some (path_by_patterns (filter is_for_texts patterns) url short)
 
 -- ---- what is added
 

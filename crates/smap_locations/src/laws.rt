@@ -1,8 +1,8 @@
 //! Laws over the definitions, for all texts: a call does nothing, and its contract is the law.
-ghost use Rattle.std.specs.Prelude.{◌≡◌, ℕ, List, [], Some};
+ghost use Rattle.std.specs.Prelude.{◌≡◌, ℕ, List, [], Some, is_some, true};
 ghost use Rattle.smap_locations.specs.ByPattern.{IsByPattern};
 ghost use Rattle.smap_locations.specs.InFolder.{IsInFolder};
-ghost use Rattle.smap_locations.specs.Locations.{LocationsSeen, path_for, path_in_folders};
+ghost use Rattle.smap_locations.specs.Locations.{LocationsSeen, has_path_as_named, has_pattern_path_in_text, path_for, path_in_folders};
 ghost use Rattle.smap_locations.specs.Named.{Named};
 ghost use Rattle.smap_locations.specs.Patterns.{path_by_patterns};
 
@@ -24,4 +24,12 @@ pub fn patterns_come_last()
     ensures { (locations : LocationsSeen) (url path : List ℕ) →
         path_for (record locations { patterns = [] }) url ≡ Some path →
         path_for locations url ≡ Some path }
+{}
+
+/// Where a URL is said to have a path, by what is named for it or by a pattern, it has one.
+pub fn what_has_a_path_is_found()
+    ensures named { (locations : LocationsSeen) (url : List ℕ) →
+        has_path_as_named locations url ≡ true → is_some (path_for locations url) ≡ true }
+    ensures by_pattern { (locations : LocationsSeen) (url : List ℕ) →
+        has_pattern_path_in_text locations url ≡ true → is_some (path_for locations url) ≡ true }
 {}

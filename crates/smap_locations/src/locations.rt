@@ -2,7 +2,7 @@
 ghost use Rattle.std.specs.Prelude.{◌≡◌, ◌≤◌, ◌==◌, ◌++◌, ◌∷◌, [], is_some, not, string_bytes, option_map, MatchOption};
 ghost use Rattle.std.specs.Prelude.{OnErr, OnOk, IfErr, IfOk, IsErrAnd, length, map};
 ghost use Rattle.smap_locations.specs.Deciding.{decided_by, longest_prefix};
-ghost use Rattle.smap_locations.specs.Locations.{has_pattern_in_text, key_for, path_for, path_in_folders, pattern_for, prefix_refusal};
+ghost use Rattle.smap_locations.specs.Locations.{has_path_as_named, has_pattern_in_text, has_pattern_path_in_text, key_for, path_for, path_in_folders, pattern_for, prefix_refusal};
 ghost use Rattle.smap_locations.specs.Patterns.{has_text, pattern_refusal};
 ghost use Rattle.std.specs.List.{list_any};
 ghost use Rattle.smap_by_text.specs.ByText.{IsWith, value_under};
@@ -12,7 +12,7 @@ ghost use Rattle.smap_locations.specs.declared.refusal.LocationRefusal.TheVarian
 
 use crate::list_line::is_folder;
 use crate::named::NamedPaths;
-use crate::paths::{map_path, without_query};
+use crate::paths::{has_map_path, map_path, without_query};
 use crate::patterns::Patterns;
 use crate::refusal::LocationRefusal;
 use std::alloc::{AllocError, Global};
@@ -170,6 +170,23 @@ impl Locations {
         self.patterns.has_in_text(url, without_query(url))
     }
 
+    /// Whether what is named for a URL, but for patterns, has a path: a file that is named for the URL, or for it without its
+    /// query and its fragment; or the folder of the longest prefix. The call takes no memory.
+    pub fn has_path_as_named(&self, url: &[u8]) -> bool
+        ensures { result ≡ has_path_as_named self.now url.now }
+    {
+        let short = without_query(url);
+        self.has_file(url) || self.has_file(short) || self.has_path_in_folders(short)
+    }
+
+    /// Whether the pattern that decides for a URL that stands in a text gives a path, where those with an empty text decide
+    /// for none. The call takes no memory.
+    pub fn has_pattern_path_in_text(&self, url: &[u8]) -> bool
+        ensures { result ≡ has_pattern_path_in_text self.now url.now }
+    {
+        self.patterns.has_path_in_text(url, without_query(url))
+    }
+
     /// The text of the pattern that decides for a URL, where one does. The call takes no memory.
     pub fn pattern_for(&self, url: &[u8]) -> Option<&[u8]>
         ensures { option_map (λ text. text.now) result ≡ pattern_for self.now url.now }
@@ -243,6 +260,14 @@ impl Locations {
             Some(folder) => map_path(alloc, folder, rest),
             None => Ok(None),
         }
+    }
+
+    // Whether the folder of the longest prefix of a URL has a file for it.
+    fn has_path_in_folders(&self, url: &[u8]) -> bool
+        ensures { result ≡ is_some (path_in_folders self.now.folders url.now) }
+    {
+        let (prefix, rest) = url.split_at(self.longest_prefix(url));
+        self.folders.path_under(prefix).is_some() && has_map_path(rest, false)
     }
 
     // How many bytes the longest prefix of a URL has that has a folder, 0 where none has one.

@@ -1,12 +1,12 @@
 //! One pattern of URLs.
-ghost use Rattle.std.specs.Prelude.{◌≡◌, Some, option_map, string_bytes, IfOk};
+ghost use Rattle.std.specs.Prelude.{◌≡◌, Some, is_some, option_map, string_bytes, IfOk};
 ghost use Rattle.smap_locations.specs.Deciding.{pattern_name};
 ghost use Rattle.smap_locations.specs.ListLine.{is_folder};
 ghost use Rattle.smap_locations.specs.PatternSeen.{pattern_seen};
-ghost use Rattle.smap_locations.specs.Patterns.{comes_before, has_in_text, has_text, has_url, needs_query, path_by, with_slashes};
+ghost use Rattle.smap_locations.specs.Patterns.{comes_before, has_in_text, has_text, has_url, is_for_texts, needs_query, path_by, with_slashes};
 
 use crate::list_line::is_folder;
-use crate::paths::map_path;
+use crate::paths::{has_map_path, map_path};
 use crate::pieces::{has_ending, rest_behind, slash_for};
 use std::alloc::{AllocError, Global};
 
@@ -33,7 +33,14 @@ impl Pattern {
     pub fn has_in_text(&self, url: &[u8], short: &[u8]) -> bool
         ensures { result ≡ has_in_text url.now short.now (pattern_seen self.now) }
     {
-        !self.text.is_empty() && self.has_url(url, short)
+        self.is_for_texts() && self.has_url(url, short)
+    }
+
+    /// Whether its text is not empty.
+    pub fn is_for_texts(&self) -> bool
+        ensures { result ≡ is_for_texts (pattern_seen self.now) }
+    {
+        !self.text.is_empty()
     }
 
     /// Whether it is for a URL, and not for what that is without its query and its fragment.
@@ -57,6 +64,19 @@ impl Pattern {
                 map_path(alloc, &self.path, &rest)
             }
             None => Ok(None),
+        }
+    }
+
+    /// Whether it gives a path for a URL without its query and its fragment.
+    pub fn has_path(&self, short: &[u8]) -> bool
+        ensures { result ≡ is_some (path_by (pattern_seen self.now) short.now) }
+    {
+        if !self.is_folder() {
+            return true;
+        }
+        match rest_behind(&self.text, short) {
+            Some(rest) => has_map_path(rest, self.text.ends_with(b"\\")),
+            None => false,
         }
     }
 

@@ -4,7 +4,7 @@ ghost use Rattle.std.specs.Prelude.{OnErr, OnOk, IfErr, IfOk, IsErrAnd};
 ghost use Rattle.std.specs.List.{list_any};
 ghost use Rattle.smap_locations.specs.PatternSeen.{pattern_seen};
 ghost use Rattle.smap_locations.specs.Deciding.{pattern_name};
-ghost use Rattle.smap_locations.specs.Patterns.{deciding, has_in_text, has_text, is_better, needs_query, path_by_patterns, pattern_refusal, text_by_patterns};
+ghost use Rattle.smap_locations.specs.Patterns.{deciding, has_in_text, has_path_in_text, has_text, is_better, needs_query, path_by_patterns, pattern_refusal, text_by_patterns};
 ghost use Rattle.smap_locations.specs.declared.refusal.LocationRefusal.TheVariants.{Memory};
 
 use crate::list_line::is_folder;
@@ -82,6 +82,17 @@ impl Patterns {
         self.all
             .iter()
             .any(|pattern| pattern.has_in_text(url, short))
+    }
+
+    /// Whether the one that decides for a URL gives a path, where those with an empty text decide for none. The URL is `short`
+    /// without its query and its fragment.
+    pub fn has_path_in_text(&self, url: &[u8], short: &[u8]) -> bool
+        ensures { result ≡ has_path_in_text self.now url.now short.now }
+    {
+        match deciding(&self.all, url, short) {
+            Some(pattern) => pattern.is_for_texts() && pattern.has_path(short),
+            None => false,
+        }
     }
 
     /// Whether one is for a URL, and not for what that is without its query and its fragment, which is `short`.

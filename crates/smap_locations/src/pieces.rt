@@ -1,6 +1,6 @@
 //! Where a text stands in a URL.
 ghost use Rattle.std.specs.Prelude.{◌≡◌, option_map};
-ghost use Rattle.smap_locations.specs.Patterns.{begins_piece, begins_with_separator, ends_in_separator, has_ending, is_separator, rest_behind, rest_here, slash_for};
+ghost use Rattle.smap_locations.specs.Patterns.{begins_piece, begins_with_separator, ends_in_separator, has_ending, is_separator, path_byte, rest_behind, rest_here, slash_for};
 
 /// Whether a URL ends with a text, and a piece of it begins there.
 pub fn has_ending(text: &[u8], url: &[u8]) -> bool
@@ -65,6 +65,17 @@ pub fn is_separator(byte: u8) -> bool
     ensures { result ≡ is_separator byte }
 {
     byte == b'/' || byte == b'\\'
+}
+
+/// A byte of a path, where `\` stands for `/` if it has backslashes.
+pub fn path_byte(has_backslashes: bool, byte: u8) -> u8
+    ensures { result ≡ path_byte has_backslashes byte }
+{
+    if has_backslashes {
+        slash_for(byte)
+    } else {
+        byte
+    }
 }
 
 /// A byte of a path, where `\` stands for `/`.

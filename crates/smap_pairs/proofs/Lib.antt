@@ -31,4 +31,11 @@ mod RestLaws
 mod NotingLaws
 mod PairAtLaws
 mod LinePlacesLaws
+pub mod FewLaws
+mod PartedLaws
+mod PairPlaceLaws
+mod FramePlaceLaws
+pub mod SpansLaws
 mod LinePlacesExamples
+mod ChunkLaws
+mod ChunkExamples

@@ -1,5 +1,5 @@
 -- What is seen of a line: its virtual lines stand within it, and which place a pair has.
-use Rattle.std.proofs.Common.{◌≡◌, ◌<◌, ◌≤◌, ◌++◌, ◌∷◌, [], ℕ, List, Option, Some, None, ap, append_assoc, append-nil, arith, length, refl, subst, sym, ◌∙◌}
+use Rattle.std.proofs.Common.{◌≡◌, ◌≤◌, ◌++◌, ◌∷◌, [], ℕ, List, Option, Some, None, ap, append_assoc, append-nil, arith, length, subst, sym, ◌∙◌}
 use Rattle.std.specs.List.{All, cons_option, filter_map, slice_get}
 use Rattle.std.proofs.lemmas.List.Elements.{All-cons, All-nil}
 use Rattle.smap_pairs.specs.Apart.{AreApart}

@@ -1,5 +1,5 @@
 -- The greatest of what numbers below one have.
-use Rattle.std.proofs.Common.{◌≡◌, ◌+◌, ◌<◌, ◌≤◌, ◌⊎◌, ℕ, zero, suc, List, ap, arith, get_or, inl, inr, length, max, sym, take, true, ◌∙◌}
+use Rattle.std.proofs.Common.{◌≡◌, ◌+◌, ◌<◌, ◌≤◌, ◌⊎◌, ℕ, zero, suc, List, ap, arith, get_or, inl, inr, length, sym, take, true, ◌∙◌}
 use Rattle.std.proofs.lemmas.Bool.{cases_lt}
 use Rattle.std.proofs.lemmas.List.{take_all}
 use Rattle.smap_pairs.specs.Greatest.{most_below}

@@ -1,5 +1,5 @@
 -- What is named behind a byte, and how many bytes it has.
-use Rattle.std.proofs.Common.{zero, suc, ◌||◌, ◌∷◌, [], if◌then◌else◌, get_or, subst, ◌≡◌, ◌==◌, ◌<◌, ◌⊎◌, cond, inl, inr, ◌≤◌, ◌+◌, ◌-◌, ◌&&◌, ℕ, Bool, true, false, List, ap, arith, drop, length, length-drop, refl, sym, take, ◌∙◌}
+use Rattle.std.proofs.Common.{zero, suc, ◌||◌, ◌∷◌, [], if◌then◌else◌, get_or, subst, ◌≡◌, ◌==◌, ◌<◌, ◌⊎◌, cond, inl, inr, ◌≤◌, ◌-◌, ◌&&◌, ℕ, Bool, true, false, List, ap, arith, drop, length, length-drop, refl, sym, take, ◌∙◌}
 use Rattle.std.proofs.lemmas.Bool.{cases_lt, eqb-true}
 use Rattle.std.proofs.lemmas.List.{get_or_past, length-map, length-take-le}
 use Rattle.std.specs.List.{slice_range}

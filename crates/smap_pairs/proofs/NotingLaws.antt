@@ -1,6 +1,6 @@
 -- What is noted of what stands before a pair.
 use Rattle.std.proofs.Common.{◌≡◌, ◌&&◌, ◌⊎◌, ◌+◌, ◌-◌, ◌<◌, ◌≤◌, ℕ, zero, suc, Bool, true, false, cond, nat_le, List, [], ◌∷◌, ◌++◌}
-use Rattle.std.proofs.Common.{add-one, ap, append_assoc, arith, drop, get_or, inl, inr, length, refl, slice_index_or, sym, ◌∙◌}
+use Rattle.std.proofs.Common.{add-one, ap, append_assoc, arith, drop, get_or, inl, inr, length, length-append, refl, slice_index_or, sym, ◌∙◌}
 use Rattle.std.proofs.lemmas.Bool.{and_left, and_right, cases_lt, cases_order, le-leb, le-ltb, lt-leb, lt-ltb}
 use Rattle.std.proofs.lemmas.List.{append-nil, drop_all, get_or-map, get_or_append_left, get_or_past, get_or_push, length_push}
 use Rattle.smap_pairs.specs.Behind.{IsBehind, begins_query, fits, fits_at, is_in_folder, is_noted, is_query_at, lowest, queries_below, without_query}
@@ -102,3 +102,9 @@ noting_more before piece behind with rest d is rested within above same_end fold
         ap (λ l. l ++ queries_below before piece rest.at) (append-nil behind.queries.items)
         ∙ ap (λ l. behind.queries.items ++ l)
         (sym (below_more ∙ ap (λ b. cond b (rest.at ∷ queries_below before piece rest.at) (queries_below before piece rest.at)) (sym at_query ∙ off)))
+
+-- of a byte at most one query is noted
+pub queries_few : (old new : List ℕ) (is_one : Bool) (at size : ℕ) → new ≡ old ++ cond is_one (at ∷ []) [] → length old + (at + 1) ≤ size
+    → length new + at ≤ size
+queries_few old new true at size more few = omega (arith, ap length more, length-append old (at ∷ []), few)
+queries_few old new false at size more few = omega (arith, ap length more, length-append old [], few)

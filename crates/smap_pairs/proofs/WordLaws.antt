@@ -37,7 +37,7 @@ further within next at seen before (inl is) (inr (inl few)) = inr (inl (omega (a
 further within next at seen before (inr is) (inr (inl few)) = inr (inr (0, omega arith, omega (arith, is.1, few)))
 further within next at seen before is (inr (inr of)) = inr (inr (suc of.0, omega (arith, of.1), omega (arith, of.2)))
 
-positive : (n : ℕ) → (n == 0) ≡ false → 0 < n
+pub positive : (n : ℕ) → (n == 0) ≡ false → 0 < n
 positive zero is = cc
 positive (suc n) is = omega arith
 

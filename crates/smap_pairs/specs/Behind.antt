@@ -1,6 +1,6 @@
 -- What stands behind a name and before a pair: a query or a fragment of the name; or, behind the prefix of a folder, the path of a
 -- file in that, with or without them.
-use Rattle.std.specs.Prelude.{◌≡◌, ℕ, zero, suc, ◌==◌, ◌||◌, ◌&&◌, ◌-◌, Bool, false, not, nat_le, nat_lt, List, [], ◌∷◌, codes, drop, length, max, slice_index, slice_index_or, take, if◌then◌else◌}
+use Rattle.std.specs.Prelude.{◌≡◌, ℕ, zero, suc, ◌==◌, ◌||◌, ◌&&◌, ◌-◌, ◌≤◌, Bool, false, not, nat_le, nat_lt, List, [], ◌∷◌, codes, drop, length, max, min, slice_index, slice_index_or, take, vec_capacity, if◌then◌else◌}
 use Rattle.std.specs.List.{list_all, list_any, prefix_len}
 use Rattle.smap_pairs.specs.Brackets.{has_paired_brackets}
 use Rattle.smap_pairs.specs.Bytes.{is_control}
@@ -81,3 +81,17 @@ is_noted behind at = nat_lt at behind.end && slice_index_or behind.folders.items
 pub record IsBehind (before : List SeenByte) (piece : ℕ) (behind : Behind) : Type 0 where
   pub folders : (at : ℕ) → is_noted behind at ≡ is_in_folder before piece at
   pub queries : behind.queries.items ≡ queries_of before piece
+
+-- ---- its room
+
+-- so many bytes can be noted, and no memory is asked for
+abbrev pub HasRoom : (bytes : ℕ) → Behind → Type 0
+HasRoom bytes behind = (bytes ≤ vec_capacity behind.folders) × (bytes ≤ vec_capacity behind.queries)
+
+-- how many are noted at most before a pair, in a line of so many bytes
+abbrev pub most_noted : (bytes : ℕ) → ℕ
+most_noted bytes = min bytes 2048
+
+-- it has as much room as it had
+abbrev pub KeepsRoom : (old new : Behind) → Type 0
+KeepsRoom old new = (vec_capacity old.folders ≤ vec_capacity new.folders) × (vec_capacity old.queries ≤ vec_capacity new.queries)

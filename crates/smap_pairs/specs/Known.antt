@@ -1,5 +1,5 @@
 -- Which URLs are known, for whoever seeks places in a text: by an argument, a list, a folder or a pattern.
-use Rattle.std.specs.Prelude.{ℕ, ◌==◌, Bool, List, Option}
+use Rattle.std.specs.Prelude.{◌≤◌, ℕ, ◌==◌, Bool, IfSome, List, Option, length}
 use Rattle.std.specs.List.{list_any}
 use Rattle.smap_pairs.specs.declared.known.NamedBy.{NamedBy}
 
@@ -16,6 +16,10 @@ pub record UrlsKnown : Type 0 where
   pub is_prefix : List ℕ → Bool
   -- a pattern has a file for a URL
   pub has_pattern : List ℕ → Bool
+
+-- the URL of a frame stands within its line
+abbrev pub IsFrameUrlWithin : UrlsKnown → (line : List ℕ) → Type 0
+IsFrameUrlWithin known line = IfSome (known.frame_url line) (λ url. (url.0 ≤ url.1) × (url.1 ≤ length line))
 
 -- a number is among these
 abbrev pub is_among : List ℕ → ℕ → Bool

@@ -7,3 +7,6 @@ pub mod PairBytes
 pub mod PairsWhole
 pub mod LastPair
 pub mod Greatest
+pub mod FirstLine
+pub mod Chunks
+pub mod StayingBytes

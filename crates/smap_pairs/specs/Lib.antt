@@ -25,4 +25,6 @@ pub mod Laws
 pub mod Halved
 pub mod FrameUrl
 pub mod LinePlaces
+pub mod Spans
+pub mod Chunks
 pub mod Private

@@ -1,7 +1,7 @@
 -- The places of a line (this project's own), over URLs that are known. Each pair is in one place at most: that of the frame which the
 -- line is, or the string in it, or the line of that, if this is the frame's pair and its URL has a map; else that of a URL that is
 -- named, or that a pattern has, or that an argument names up to a query.
-use Rattle.std.specs.Prelude.{◌≡◌, ◌≤◌, ℕ, ◌+◌, ◌-◌, ◌==◌, ◌&&◌, ◌||◌, Bool, true, false, nat_lt, not, List, [], ◌∷◌, Option, Some, None, length, if◌then◌else◌, take}
+use Rattle.std.specs.Prelude.{◌≡◌, ◌≤◌, ℕ, ◌+◌, ◌-◌, ◌==◌, ◌&&◌, ◌||◌, Bool, true, false, nat_lt, List, Option, Some, None, length, if◌then◌else◌, take}
 use Rattle.std.specs.List.{All, filter_map, find, slice_get, slice_range}
 use Rattle.smap_pairs.specs.Behind.{is_in_folder, is_query_at}
 use Rattle.smap_pairs.specs.FrameUrl.{is_for_pattern}

@@ -1,6 +1,6 @@
 //! What stands behind a name and before a pair.
-ghost use Rattle.std.specs.Prelude.{◌≡◌, ◌++◌, ◌∷◌, [], ◌+◌, ◌-◌, ◌<◌, ◌≤◌, ◌^◌, ◌&&◌, if◌then◌else◌, IfOk, MatchOption, false, length, not, slice_range, true};
-ghost use Rattle.smap_pairs.specs.Behind.{AreQueries, IsBehind, begins_query, fits, is_barred, is_barred_byte, is_behind_slash, is_in_folder, is_noted, lowest};
+ghost use Rattle.std.specs.Prelude.{◌≡◌, ◌++◌, ◌∷◌, [], ◌+◌, ◌-◌, ◌<◌, ◌≤◌, ◌^◌, ◌&&◌, if◌then◌else◌, IfOk, MatchOption, false, length, not, slice_range, true, vec_capacity, IsOk};
+ghost use Rattle.smap_pairs.specs.Behind.{AreQueries, HasRoom, IsBehind, KeepsRoom, begins_query, fits, is_barred, is_barred_byte, is_behind_slash, is_in_folder, is_noted, lowest, most_noted};
 ghost use Rattle.smap_pairs.specs.FilePaths.{is_file_name};
 ghost use Rattle.smap_pairs.specs.Private.Rest.{IsEnd, IsPiece, IsRest, piece_with, rest_empty, rest_fits};
 ghost use Rattle.smap_pairs.specs.Signs.{text_of};
@@ -31,20 +31,26 @@ pub struct Behind {
 }
 
 impl Behind {
-    /// Of no pair.
-    pub fn new(alloc: Global) -> Behind {
-        Behind {
+    /// Of no pair, with room for those of lines of at most so many bytes.
+    pub fn with_room(alloc: Global, most_bytes: usize) -> Result<Behind, AllocError>
+        ensures { IfOk result (HasRoom (most_noted most_bytes)) }
+    {
+        let most = most_bytes.min(MOST_REST);
+        Ok(Behind {
             end: 0,
-            folders: Vec::new(alloc),
-            queries: Vec::new(alloc),
-        }
+            folders: Vec::with_capacity(alloc, most)?,
+            queries: Vec::with_capacity(alloc, most)?,
+        })
     }
 
     /// Notes what stands before a pair, whose piece begins at byte `piece` of its line: `before` is the line up to it, and
-    /// `text` the bytes of that. It reads at most 2,048 of them, each once, and twice more as one of a piece of a path.
+    /// `text` the bytes of that. It reads at most 2,048 of them, each once, and twice more as one of a piece of a path. Where
+    /// there is room for so many, no memory is asked for.
     pub fn note(&mut self, text: &[u8], before: &[SeenByte], piece: usize) -> Result<(), AllocError>
         requires { text_of before.now ≡ text.now }
-        ensures { IfOk result (λ _. IsBehind before.now piece self.new) }
+        ensures noted { IfOk result (λ _. IsBehind before.now piece self.new) }
+        ensures room { HasRoom (most_noted (length before.now)) self.old → IsOk result }
+        ensures keeps_room { KeepsRoom self.old self.new }
     {
         self.folders.clear();
         self.queries.clear();
@@ -68,6 +74,9 @@ impl Behind {
             self.old.folders.items ++ (rest.is_path && rest_fits rest) ∷ []) }
         ensures queries { IfOk result (λ _. self.new.queries.items ≡
             self.old.queries.items ++ (if begins_query byte && rest_fits rest then rest.at ∷ [] else [])) }
+        ensures room { length self.old.folders.items < vec_capacity self.old.folders →
+            length self.old.queries.items < vec_capacity self.old.queries → IsOk result }
+        ensures keeps_room { KeepsRoom self.old self.new }
     {
         if begins_query(byte) && rest.fits() {
             self.queries.push(rest.at)?;

@@ -1,6 +1,6 @@
 //! Which URLs are known, for whoever seeks places in a text.
 ghost use Rattle.std.specs.Prelude.{◌≡◌, ◌≤◌, IfSome, ℕ, List, length, true};
-ghost use Rattle.smap_pairs.specs.Known.{UrlsKnown, is_among};
+ghost use Rattle.smap_pairs.specs.Known.{IsFrameUrlWithin, UrlsKnown, is_among};
 ghost use Rattle.smap_pairs.specs.declared.known.NamedBy.{NamedBy};
 
 /// By what a file is named for a URL.
@@ -52,4 +52,7 @@ pub trait KnownUrls {
     fn prefix_lengths(&self) -> &[usize]
         ensures { (text : List ℕ) → (known self.now).is_prefix text ≡ true →
             is_among result.now (length text) ≡ true };
+
+    // The URL of a frame stands within its line.
+    ghost within: { (urls : Self) (line : List ℕ) → IsFrameUrlWithin (known urls) line };
 }

@@ -1,8 +1,10 @@
 //! Laws over the definitions, for all texts: a call does nothing, and its contract is the law.
-ghost use Rattle.std.specs.Prelude.{◌≡◌, ◌≤◌, ℕ, IsSomeAnd, List, length, slice_get};
-ghost use Rattle.std.specs.List.{All};
+ghost use Rattle.std.specs.Prelude.{◌≡◌, ◌≤◌, ◌++◌, ℕ, IsSomeAnd, List, length, slice_get};
+ghost use Rattle.std.specs.List.{All, flat_map};
+ghost use Rattle.smap_lines.specs.Lines.{IsWholeLines};
 ghost use Rattle.smap_pairs.specs.Apart.{AreAmong, AreApart, HasNoMark, HasNoQuotationMark};
 ghost use Rattle.smap_pairs.specs.Apart.{HasWhole, IsClearOf, in_turn};
+ghost use Rattle.smap_pairs.specs.Chunks.{IsCutOfLine, cut_bytes, cuts_of};
 ghost use Rattle.smap_pairs.specs.Marks.{marks_of};
 ghost use Rattle.smap_pairs.specs.Pairs.{IsPairOf};
 ghost use Rattle.smap_pairs.specs.Seen.{seen_of};
@@ -48,4 +50,20 @@ pub fn quotation_marks_end_lines()
 pub fn later_bytes_have_later_lines()
     ensures { (lines : List VirtualLine) (first second : ℕ) → first ≤ second →
         line_of_byte lines first ≤ line_of_byte lines second }
+{}
+
+/// The chunks of a text, and the bytes that stay, are the text, one behind the other.
+pub fn chunks_are_the_text()
+    ensures { (text : List ℕ) → flat_map cut_bytes (cuts_of text) ≡ text }
+{}
+
+/// Whole lines are cut as they are without the text behind them, and that as it is without them.
+pub fn lines_are_cut_apart()
+    ensures { (first rest : List ℕ) → IsWholeLines first →
+        cuts_of (first ++ rest) ≡ cuts_of first ++ cuts_of rest }
+{}
+
+/// A chunk stands in one line: it has an LF at most as its last byte, and without that at most 65,536.
+pub fn chunks_are_in_one_line()
+    ensures { (text : List ℕ) → All IsCutOfLine (cuts_of text) }
 {}

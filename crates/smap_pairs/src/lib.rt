@@ -3,7 +3,7 @@
 //! where in that a URL may begin; and, over URLs that are known, the places of the line.
 //!
 //! ```text
-//! let mut places = LinePlaces::new(alloc);
+//! let mut places = LinePlaces::with_room(alloc, 65536)?;
 //! places.find(&known, line)?;
 //! for place in places.places() {
 //!     let url = &line[place.start..place.url_end];
@@ -16,6 +16,7 @@ mod before;
 mod behind;
 mod brackets;
 mod bytes;
+mod chunk;
 mod colours;
 mod escapes;
 mod file_path;
@@ -41,6 +42,7 @@ mod word;
 
 pub use behind::{Behind, each_query_is_noted, lowest};
 pub use bytes::{is_control, is_edge_byte, is_letter_or_digit};
+pub use chunk::{Chunk, first_chunk, staying_bytes};
 pub use file_path::paths_of_files_are_plain;
 pub use frame_url::is_for_pattern;
 pub use known::{KnownUrls, NamedBy};

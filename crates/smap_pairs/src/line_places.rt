@@ -1,8 +1,10 @@
 //! The places of a line.
-ghost use Rattle.std.specs.Prelude.{◌≡◌, ◌≤◌, ◌<◌, IfOk, IfSome, length, option_copied};
+ghost use Rattle.std.specs.Prelude.{◌≡◌, ◌≤◌, ◌<◌, IfOk, IfSome, IsOk, length, option_copied, vec_capacity};
 ghost use Rattle.std.specs.List.{All, slice_get};
+ghost use Rattle.smap_pairs.specs.Behind.{HasRoom, KeepsRoom, most_noted};
 ghost use Rattle.smap_pairs.specs.LinePlaces.{IsLineSeen, IsLineWithin, frame_in, frame_span, has_frame_url, of_pair, or_else, pair_place, places_in, span_of, start_of};
 ghost use Rattle.smap_pairs.specs.Seen.{seen_of};
+ghost use Rattle.smap_pairs.specs.Spans.{AreSpansInOrder, none_found};
 ghost use Rattle.smap_pairs.specs.VirtualLines.{line_of_byte};
 
 use crate::behind::Behind;
@@ -34,6 +36,8 @@ pub struct Span {
 /// The places of a line, and room for what is seen of it, which is kept from line to line.
 #[derive(Drop)]
 pub struct LinePlaces {
+    // How many bytes a line has at most for which there is room in all.
+    most_bytes: usize,
     seen: Vec<SeenByte>,
     marks: Vec<Mark>,
     strings: Vec<VirtualLine>,
@@ -45,34 +49,56 @@ pub struct LinePlaces {
 }
 
 impl Model for LinePlaces {
-    ghost use Rattle.std.specs.Prelude.{List};
-    ghost use Rattle.smap_pairs.specs.declared.line_places.Span.{Span};
+    ghost use Rattle.std.specs.Prelude.{◌≤◌, ◌<◌, vec_capacity};
+    ghost use Rattle.smap_pairs.specs.Behind.{HasRoom, most_noted};
+    ghost use Rattle.smap_pairs.specs.Spans.{FoundPlaces};
 
-    ghost Value = { List Span };
+    ghost Value = { FoundPlaces };
 
-    ghost view = { λ line. line.places.items };
+    ghost view = { λ line. record { places = line.places.items; most_bytes = line.most_bytes } };
+
+    ghost invariant = { λ line. (line.most_bytes ≤ vec_capacity line.seen)
+        × (line.most_bytes ≤ vec_capacity line.marks)
+        × (line.most_bytes < vec_capacity line.strings)
+        × (line.most_bytes < vec_capacity line.lines)
+        × (line.most_bytes ≤ vec_capacity line.pairs)
+        × HasRoom (most_noted line.most_bytes) line.behind
+        × (line.most_bytes ≤ vec_capacity line.halves)
+        × (line.most_bytes ≤ vec_capacity line.places) };
 }
 
 impl LinePlaces {
-    /// Of no line.
-    pub fn new(alloc: Global) -> LinePlaces {
-        LinePlaces {
-            seen: Vec::new(alloc),
-            marks: Vec::new(alloc),
-            strings: Vec::new(alloc),
-            lines: Vec::new(alloc),
-            pairs: Vec::new(alloc),
-            behind: Behind::new(alloc),
-            halves: Vec::new(alloc),
-            places: Vec::new(alloc),
-        }
+    /// Of no line, with room for lines of at most so many bytes.
+    pub fn with_room(alloc: Global, most_bytes: usize) -> Result<LinePlaces, AllocError>
+        ensures { IfOk result (λ line. line ≡ none_found most_bytes) }
+    {
+        let Some(most_lines) = most_bytes.checked_add(1) else {
+            return Err(AllocError);
+        };
+        Ok(LinePlaces {
+            most_bytes,
+            seen: Vec::with_capacity(alloc, most_bytes)?,
+            marks: Vec::with_capacity(alloc, most_bytes)?,
+            strings: Vec::with_capacity(alloc, most_lines)?,
+            lines: Vec::with_capacity(alloc, most_lines)?,
+            pairs: Vec::with_capacity(alloc, most_bytes)?,
+            behind: Behind::with_room(alloc, most_bytes)?,
+            halves: Vec::with_capacity(alloc, most_bytes)?,
+            places: Vec::with_capacity(alloc, most_bytes)?,
+        })
     }
 
     /// Finds the places of a line. Each byte of it is gone through a few times, and those before a pair, at most 2,048 of
-    /// its piece, once for it, but for URLs that are named: there the lengths of these are tried.
+    /// its piece, once for it. Names are looked up at the pair and at each query before it, once for each length that they
+    /// have; prefixes of folders at each byte of the whole piece behind which a URL may begin, once for each length of
+    /// theirs. No memory is asked for where the line has no more bytes than there is room for.
+    #[tactic(auto, using(crate::proofs::FewLaws::few))]
     pub fn find<K: KnownUrls>(&mut self, known: &K, text: &[u8]) -> Result<(), AllocError>
-        ensures { IfOk result (λ _. self.new
+        ensures places { IfOk result (λ _. self.new.places
             ≡ places_in (K.known known.now) text.now (seen_of text.now)) }
+        ensures order { IfOk result (λ _. AreSpansInOrder 0 (length text.now) self.new.places) }
+        ensures room { length text.now ≤ self.old.most_bytes → IsOk result }
+        ensures same_room { self.new.most_bytes ≡ self.old.most_bytes }
     {
         see_into(text, &mut self.seen)?;
         marks_into(&self.seen, &mut self.marks)?;
@@ -91,7 +117,7 @@ impl LinePlaces {
 
     /// The places that were found, in their order.
     pub fn places(&self) -> &[Span]
-        ensures { result.now ≡ self.now }
+        ensures { result.now ≡ self.now.places }
     {
         &self.places
     }
@@ -124,8 +150,14 @@ impl LineSeen<'_> {
         places: &mut Vec<Span>,
     ) -> Result<(), AllocError>
         requires { IsLineSeen self.now }
-        ensures { IfOk result (λ _. places.new.items
+        ensures places { IfOk result (λ _. places.new.items
             ≡ places_in (K.known known.now) self.now.text.now self.now.seen.now) }
+        ensures room { HasRoom (most_noted (length self.now.text.now)) behind.old →
+            length self.now.text.now ≤ vec_capacity halves.old →
+            length self.now.pairs.now ≤ vec_capacity places.old → IsOk result }
+        ensures keeps_room { KeepsRoom behind.old behind.new }
+        ensures halves { vec_capacity halves.old ≤ vec_capacity halves.new }
+        ensures capacity { vec_capacity places.old ≤ vec_capacity places.new }
     {
         places.clear();
         let whole = VirtualLine {
@@ -169,9 +201,11 @@ impl LineSeen<'_> {
         requires seen { IsLineSeen self.now }
         requires piece { pair.now.piece ≤ pair.now.start }
         requires within { pair.now.start ≤ length self.now.text.now }
-        ensures { IfOk result (λ place. place ≡ or_else in_line pair.now (or_else in_string pair.now
+        ensures place { IfOk result (λ place. place ≡ or_else in_line pair.now (or_else in_string pair.now
             (or_else line.place pair.now (pair_place (K.known known.now) self.now.text.now self.now.seen.now
             (start_of (slice_get self.now.lines.now line.index)) pair.now)))) }
+        ensures room { HasRoom (most_noted (length self.now.text.now)) behind.old → IsOk result }
+        ensures keeps_room { KeepsRoom behind.old behind.new }
     {
         match in_line.or(in_string).or(line.place) {
             Some(frame) => Ok(of_pair(frame, pair)),
@@ -196,6 +230,8 @@ impl LineSeen<'_> {
         ensures index { IfOk result (λ framed. framed.index ≡ line_of_byte lines.now byte) }
         ensures frame { IfOk result (λ framed. framed.place ≡ frame_in (K.known known.now)
             self.now.text.now self.now.seen.now self.now.pairs.now (slice_get lines.now framed.index)) }
+        ensures room { length self.now.text.now ≤ vec_capacity halves.old → IsOk result }
+        ensures capacity { vec_capacity halves.old ≤ vec_capacity halves.new }
     {
         let index = line_of_byte(lines, before.index, byte);
         if index == before.index {
@@ -214,8 +250,10 @@ impl LineSeen<'_> {
     ) -> Result<Option<Span>, AllocError>
         requires seen { IsLineSeen self.now }
         requires within { IfSome line (IsLineWithin (length self.now.text.now)) }
-        ensures { IfOk result (λ place. place ≡ frame_in (K.known known.now) self.now.text.now
+        ensures place { IfOk result (λ place. place ≡ frame_in (K.known known.now) self.now.text.now
             self.now.seen.now self.now.pairs.now line) }
+        ensures room { length self.now.text.now ≤ vec_capacity halves.old → IsOk result }
+        ensures capacity { vec_capacity halves.old ≤ vec_capacity halves.new }
     {
         let Some(line) = line else {
             return Ok(None);
@@ -242,8 +280,10 @@ impl LineSeen<'_> {
         requires start { start ≤ pair.now.start }
         requires end { pair.now.start ≤ length self.now.text.now }
         requires seen { pair.now.start ≤ length self.now.seen.now }
-        ensures { IfOk result (λ place. place ≡ frame_span (K.known known.now) self.now.text.now
+        ensures place { IfOk result (λ place. place ≡ frame_span (K.known known.now) self.now.text.now
             self.now.seen.now line pair.now start) }
+        ensures room { length self.now.text.now ≤ vec_capacity halves.old → IsOk result }
+        ensures capacity { vec_capacity halves.old ≤ vec_capacity halves.new }
     {
         let url = &self.text[start..pair.start];
         if 0 < line.unit && has_doubled(url) {
@@ -293,8 +333,10 @@ impl LineSeen<'_> {
         requires seen { IsLineSeen self.now }
         requires piece { pair.now.piece ≤ pair.now.start }
         requires within { pair.now.start ≤ length self.now.text.now }
-        ensures { IfOk result (λ place. place ≡ pair_place (K.known known.now) self.now.text.now
+        ensures place { IfOk result (λ place. place ≡ pair_place (K.known known.now) self.now.text.now
             self.now.seen.now line_start pair.now) }
+        ensures room { HasRoom (most_noted (length self.now.text.now)) behind.old → IsOk result }
+        ensures keeps_room { KeepsRoom behind.old behind.new }
     {
         behind.note(
             &self.text[..pair.start],

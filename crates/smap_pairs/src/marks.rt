@@ -21,6 +21,7 @@ pub struct Mark {
 pub fn marks_into(line: &[SeenByte], marks: &mut Vec<Mark>) -> Result<(), AllocError>
     ensures marks { OnOk result (marks.new.items ≡ marks_of line.now) }
     ensures room { length (marks_of line.now) ≤ vec_capacity marks.old → IsOk result }
+    ensures capacity { vec_capacity marks.old ≤ vec_capacity marks.new }
 {
     marks.clear();
     for (at, seen) in line.iter().enumerate() {

@@ -1,5 +1,5 @@
 //! The pairs of a line: `:`, a line, `:` and a column, behind which numbers do not go on.
-ghost use Rattle.std.specs.Prelude.{◌≡◌, ◌≤◌, ◌<◌, ◌+◌, ◌∷◌, [], ℕ, IfOk, IfSome, MatchOption, drop, is_some, length, true};
+ghost use Rattle.std.specs.Prelude.{◌≡◌, ◌≤◌, ◌<◌, ◌+◌, ◌∷◌, [], ℕ, IfOk, IfSome, IsOk, MatchOption, drop, is_some, length, true, vec_capacity};
 ghost use Rattle.std.specs.List.{All};
 ghost use Rattle.smap_pairs.specs.Pairs.{AreInOrder, HasPairAt, InAddress, IsPairOf};
 ghost use Rattle.smap_pairs.specs.Pairs.{address_length, address_size, goes_on, is_address_byte, pair_numbers, pairs_behind, pairs_of};
@@ -22,7 +22,8 @@ pub struct Pair {
 // How many bytes an address in brackets has at most.
 const MOST_ADDRESS: usize = 64;
 
-/// The pairs of a line, in the place of what stood in `pairs`. If memory runs out, some of them stand there.
+/// The pairs of a line, in the place of what stood in `pairs`. Where there is room for them, no memory is asked for; if
+/// memory runs out, some of them stand there.
 pub fn pairs_in_line(line: &[u8], pairs: &mut Vec<Pair>) -> Result<(), AllocError>
     ensures pairs { IfOk result (λ _. pairs.new.items ≡ pairs_of line.now) }
     ensures order { IfOk result (λ _. AreInOrder 0 (length line.now) pairs.new.items) }
@@ -30,6 +31,8 @@ pub fn pairs_in_line(line: &[u8], pairs: &mut Vec<Pair>) -> Result<(), AllocErro
     ensures all { IfOk result (λ _. (start : ℕ) →
         is_some (pair_numbers (drop start line.now)) ≡ true → ¬ InAddress line.now start →
         HasPairAt start pairs.new.items) }
+    ensures room { length (pairs_of line.now) ≤ vec_capacity pairs.old → IsOk result }
+    ensures capacity { vec_capacity pairs.old ≤ vec_capacity pairs.new }
 {
     pairs.clear();
     let mut piece = 0;

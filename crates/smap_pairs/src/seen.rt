@@ -47,6 +47,7 @@ pub fn see_into(line: &[u8], seen: &mut Vec<SeenByte>) -> Result<(), AllocError>
     ensures stands { IfOk result (λ _. text_of seen.new.items ≡ line.now) }
     ensures one_a_byte { IfOk result (λ _. length seen.new.items ≡ length line.now) }
     ensures room { length line.now ≤ vec_capacity seen.old → IsOk result }
+    ensures capacity { vec_capacity seen.old ≤ vec_capacity seen.new }
 {
     count_into(line, seen)?;
     settle(line, seen);
@@ -59,6 +60,7 @@ fn count_into(line: &[u8], seen: &mut Vec<SeenByte>) -> Result<(), AllocError>
     ensures stands { IfOk result (λ _. text_of seen.new.items ≡ line.now) }
     ensures one_a_byte { IfOk result (λ _. length seen.new.items ≡ length line.now) }
     ensures room { length line.now ≤ vec_capacity seen.old → IsOk result }
+    ensures capacity { vec_capacity seen.old ≤ vec_capacity seen.new }
 {
     seen.clear();
     seen.reserve(line.len())?;

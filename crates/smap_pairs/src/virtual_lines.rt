@@ -28,6 +28,7 @@ pub fn virtual_lines_into(
     requires { marks.now ≡ marks_of line.now }
     ensures lines { OnOk result (lines.new.items ≡ virtual_lines line.now) }
     ensures room { length (virtual_lines line.now) ≤ vec_capacity lines.old → IsOk result }
+    ensures capacity { vec_capacity lines.old ≤ vec_capacity lines.new }
 {
     lines_into(line, marks, false, lines)
 }
@@ -43,6 +44,7 @@ pub fn lines_of_strings_into(
     requires { marks.now ≡ marks_of line.now }
     ensures lines { OnOk result (lines.new.items ≡ lines_of_strings line.now) }
     ensures room { length (lines_of_strings line.now) ≤ vec_capacity lines.old → IsOk result }
+    ensures capacity { vec_capacity lines.old ≤ vec_capacity lines.new }
 {
     lines_into(line, marks, true, lines)
 }
@@ -60,6 +62,7 @@ fn lines_into(
     ensures room { length (lines_between (length line.now) 0 0
         (if is_of_strings then marks_of_strings 0 marks.now else marks.now))
         ≤ vec_capacity lines.old → IsOk result }
+    ensures capacity { vec_capacity lines.old ≤ vec_capacity lines.new }
 {
     lines.clear();
     let mut start = 0;

@@ -4,10 +4,11 @@ use crate::devices::{sink, source};
 use crate::fault::RowFault;
 use crate::maps::map_at;
 use crate::row::Row;
+use smap_anywhere::{MapUrls, PlaceNotes, PlaceOptions, rewrite_anywhere};
 use smap_io::MemorySink;
-use smap_places::rewrite_places;
+use smap_locations::Locations;
 use smap_record::{MapFile, Url};
-use smap_trace::{RewriteFault, Summary, Table, frame, rewrite};
+use smap_trace::{RewriteFault, Summary, Table, TableMaps, frame, rewrite};
 use std::alloc::Global;
 
 // A map without mappings.
@@ -99,6 +100,22 @@ pub(crate) fn places(row: &Row<'_>, answer: &mut Answer) -> Result<(), RowFault>
     let table = table_of(row, 6, row.number(4)?)?;
     let mut input = source(row, 1, 5)?;
     let mut output = sink(row, 2)?;
-    let outcome = rewrite_places(row.alloc(), &mut input, &mut output, &table, most);
+    let locations = Locations::new(row.alloc());
+    let urls = MapUrls::new(row.alloc(), &table, &locations)?;
+    let options = PlaceOptions {
+        known: &urls,
+        most_bytes: most,
+        is_noted: false,
+    };
+    let mut maps = TableMaps(&table);
+    let mut notes = PlaceNotes::new(row.alloc());
+    let outcome = rewrite_anywhere(
+        row.alloc(),
+        &mut input,
+        &mut output,
+        &mut maps,
+        &options,
+        &mut notes,
+    );
     put_outcome(row, answer, outcome, &output)
 }

@@ -6,7 +6,7 @@ use Rattle.smap_lines.specs.Editing.{DevicesSeen}
 use Rattle.smap_lines.specs.declared.fault.LineFault.{LineFault}
 use Rattle.smap_lines.specs.declared.fault.LineFault.TheVariants.{Memory}
 use Rattle.smap_locations.specs.Locations.{key_for, path_for}
-use Rattle.smap_places.specs.Laws.PlacesSeen.{places_front_seen, places_noted_seen, places_seen}
+use Rattle.smap_anywhere.specs.Laws.AnywhereSeen.{anywhere_front_seen, anywhere_seen}
 use Rattle.smap_record.specs.Record.{MapRecord}
 use Rattle.smap_by_text.specs.ByText.{value_under}
 use Rattle.smap_store.specs.Cache.{Kept}
@@ -22,7 +22,7 @@ use Rattle.smap_trace.specs.declared.outcome.RewriteCounts.{RewriteCounts}
 use Rattle.smap_replies.specs.Files.{MayRead}
 use Rattle.smap_text_answers.specs.Loader.{IsSameLoader, LoaderSeen, Loads, MayLoad, loader_seen}
 use Rattle.smap_text_answers.specs.Request.{RequestSeen}
-use Rattle.smap_text_answers.specs.RewriteFrom.{IsStoredRewritten, RewritesPlaces, RewritesText, RewritesTextFront, asked_of, known_of, places_of}
+use Rattle.smap_text_answers.specs.RewriteFrom.{IsStoredRewritten, RewritesPlaces, RewritesText, RewritesTextFront, asked_of, places_asked}
 use Rattle.smap_text_answers.specs.declared.loader.FileLoader.{FileLoader}
 use Rattle.smap_text_answers.specs.declared.sources.MapSources.{MapSources}
 use Rattle.smap_text_answers.proofs.BesideLaws.{when_both}
@@ -121,12 +121,10 @@ module _ {F E : Type 0} (gives : F → MayRead) (seen : E → SinkSeen) where
         places_from : (counts : RewriteCounts) (notes others : NotesSeen) → RewritesPlaces request sources (FindsIn Steps) before after old new counts notes others
             → RewritesPlaces request sources (FindsIn Seen) before after (see old) (see new) counts notes others
         places_from counts notes others is = record {
-          over = places_seen (FindsIn Steps) found_in (FindsIn Seen) found_in see Is finds_so (λ maps url same. refl)
-              (places_of sources) request.limit_bytes before after old new counts.summary at_first is.over;
+          over = anywhere_seen (FindsIn Steps) found_in (FindsIn Seen) found_in see Is finds_so (λ maps url same. refl)
+              (places_asked request sources) before after old new counts.summary notes others at_first is.over;
           long = is.long;
           passed = is.passed;
-          noted = λ on. places_noted_seen (FindsIn Steps) found_in (FindsIn Seen) found_in see Is finds_so (λ maps url same. refl)
-              (places_of sources) request.limit_bytes before after old new counts.summary (known_of sources) notes others at_first (is.noted on);
         }
 
         frames_from : (counts : RewriteCounts) (notes others : NotesSeen)
@@ -146,8 +144,8 @@ module _ {F E : Type 0} (gives : F → MayRead) (seen : E → SinkSeen) where
             when_both request.anywhere _ _ _ _ (places_from counts notes others) (frames_from counts notes others) rewrites
         rewritten_from notes others (Err fault) rewrites front looked = (
           when_both request.anywhere _ _ _ _
-              (places_front_seen (GivesIn May old) (GivesIn MaySeen (see old)) (gives_seen (loader_seen seen) May MaySeen old may_first)
-              (places_of sources) request.limit_bytes before after fault)
+              (anywhere_front_seen (GivesIn May old) (GivesIn MaySeen (see old)) (gives_seen (loader_seen seen) May MaySeen old may_first)
+              (places_asked request sources) before after fault)
               (front_seen (GivesIn May old) (GivesIn MaySeen (see old)) (gives_seen (loader_seen seen) May MaySeen old may_first)
               request.hide request.limit_bytes before after fault) front,
           (looked_from looked).0,

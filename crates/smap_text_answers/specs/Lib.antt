@@ -3,7 +3,6 @@ pub mod Nearest
 pub mod UrlLines
 pub mod Loader
 pub mod Request
-pub mod TextNotes
 pub mod Rewrite
 pub mod RewriteFrom
 pub mod SameBytes

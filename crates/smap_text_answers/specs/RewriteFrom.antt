@@ -11,13 +11,14 @@ use Rattle.smap_lines.specs.Editing.{DevicesSeen, devices_seen}
 use Rattle.smap_lines.specs.RunEnds.{is_read_fault}
 use Rattle.smap_lines.specs.declared.fault.LineFault.{LineFault}
 use Rattle.smap_lines.specs.declared.fault.LineFault.TheVariants as fault
-use Rattle.smap_places.specs.Places.{PlaceUrl}
-use Rattle.smap_places.specs.PlacesBy.{RewritesPlacesBy}
-use Rattle.smap_places.specs.PlacesNoted.{RewritesPlacesNoted}
-use Rattle.smap_places.specs.PlacesRewritten.{places_in}
-use Rattle.smap_places.specs.PlacesOver.{RewritesPlacesFrontOver, RewritesPlacesOver}
-use Rattle.smap_places.specs.PlaceAt.{place_at}
-use Rattle.smap_places.specs.Seeming.{knows}
+use Rattle.smap_anywhere.specs.Anywhere.{PlacesAsked, RewritesAnywhere, RewritesAnywhereFront}
+use Rattle.smap_anywhere.specs.AnywhereBy.{RewritesAnywhereBy}
+use Rattle.smap_anywhere.specs.ChunkParts.{parts_in, unknown_in}
+use Rattle.smap_anywhere.specs.Counted.{others_in}
+use Rattle.smap_anywhere.specs.MapUrls.{urls_known}
+use Rattle.smap_anywhere.specs.Parts.{Part}
+use Rattle.smap_anywhere.specs.SeemingUrls.{urls_seeming}
+use Rattle.smap_pairs.specs.Known.{UrlsKnown}
 use Rattle.smap_record.specs.Record.{MapRecord}
 use Rattle.smap_store.specs.ByPath.{stored_maps}
 use Rattle.smap_store.specs.Cache.{CacheSeen}
@@ -25,6 +26,7 @@ use Rattle.smap_store.specs.Stored.{FindsIn, GivesIn, LoadsMay, LoadsStep, Store
 use Rattle.smap_trace.specs.Hiding.{HidingSeen}
 use Rattle.smap_trace.specs.MapsOf.{MapsByUrl, RewritesBy}
 use Rattle.smap_trace.specs.Noted.{nothing_noted}
+use Rattle.smap_trace.specs.Passed.{PlaceCount}
 use Rattle.smap_trace.specs.UrlNotes.{NotesSeen}
 use Rattle.smap_text_answers.specs.UrlLines.{TellsUrls}
 use Rattle.smap_trace.specs.Rewriting.{Looked, RewriteAsked, RewritesFrontOver, RewritesOver}
@@ -56,35 +58,41 @@ store_start sources cache_bytes errors code = record {
   loader = record { errors = errors; status = 0; code = code; reported = 0; refused = 0; lost = false };
 }
 
--- which place begins a text over them
-abbrev pub places_of : MapSources → (before text : List ℕ) → Option PlaceUrl
-places_of sources = place_at (record { table = sources.words; locations = sources.locations })
-
 -- which URLs an argument or a list has
-abbrev pub known_of : MapSources → (url : List ℕ) → Bool
-known_of sources = knows (record { table = sources.words; locations = sources.locations })
+abbrev pub urls_of : MapSources → UrlsKnown
+urls_of sources = urls_known (record { table = sources.words; locations = sources.locations })
 
 -- ---- a text over a store
 
+-- what is asked of its places: which they are, and which URLs look like one and have no map
+abbrev pub places_asked : RequestSeen → MapSources → PlacesAsked
+places_asked request sources = record {
+  parts = parts_in (urls_of sources);
+  unknown = unknown_in (urls_of sources) urls_seeming;
+  most_bytes = request.limit_bytes;
+  is_noted = request.explain;
+}
+
 -- its places are rewritten, in lines of which none is too long, and none is passed; and these are the notes of what they name, and
--- beside them those of the URLs that look like one and are not known, where that is asked
+-- beside them those of the URLs that look like one and have no map, where that is asked
 pub record RewritesPlaces {L : Type 0} (request : RequestSeen) (sources : MapSources) (Finds : StoredSeen L → (url : List ℕ) → StoredSeen L → Type 0)
     (before after : DevicesSeen) (old new : StoredSeen L) (counts : RewriteCounts) (notes others : NotesSeen) : Type 0 where
-  pub over : RewritesPlacesOver Finds found_in (places_of sources) request.limit_bytes before after old new counts.summary
+  pub over : RewritesAnywhere Finds found_in (places_asked request sources) before after old new counts.summary notes others
   pub long : counts.long ≡ 0
   pub passed : counts.passed ≡ 0
-  pub noted : request.explain ≡ true
-      → RewritesPlacesNoted Finds found_in (places_of sources) (known_of sources) request.limit_bytes before after old new counts.summary notes others
 
--- what is asked of its frames: of its other lines the places, which begin so, are counted up to a number
-abbrev pub asked_of : RequestSeen → MapSources → RewriteAsked
-asked_of request sources = record {
+-- what is asked of its frames: of its other lines the places are counted up to a number
+abbrev pub asked_by : RequestSeen → PlaceCount → RewriteAsked
+asked_by request count = record {
   hide = request.hide;
   most = request.limit_bytes;
   is_noted = request.explain;
-  count = places_in (places_of sources);
+  count = count;
   most_passed = most_passed request;
 }
+
+abbrev pub asked_of : RequestSeen → MapSources → RewriteAsked
+asked_of request sources = asked_by request (others_in (urls_of sources))
 
 -- a text is rewritten over stored maps: its places, or the frames of a trace, and these are the notes of what they name
 abbrev pub RewritesText : {L : Type 0} → RequestSeen → MapSources → (Finds : StoredSeen L → (url : List ℕ) → StoredSeen L → Type 0)
@@ -96,7 +104,7 @@ RewritesText request sources Finds before after old new counts notes others =
 -- or up to a fault
 abbrev pub RewritesTextFront : RequestSeen → MapSources → (Gives : (url : List ℕ) → Option MapRecord → Type 0) → (before after : DevicesSeen) → LineFault → Type 0
 RewritesTextFront request sources Gives before after fault =
-    MatchBool request.anywhere (RewritesPlacesFrontOver Gives (places_of sources) request.limit_bytes before after fault)
+    MatchBool request.anywhere (RewritesAnywhereFront Gives (places_asked request sources) before after fault)
     (RewritesFrontOver Gives request.hide request.limit_bytes before after fault)
 
 -- a text was rewritten over a store of maps that are loaded so to its end, or up to a fault, and the store and the notes stand so
@@ -131,11 +139,11 @@ pub record IsOverStore (Reads : MayRead) (base : Option Parts) (k : ℕ) (reques
   pub lost : end.lost ≡ last.loader.lost
   pub shortages : end.shortages ≡ last.cache.shortages
 
--- a text becomes what the maps make of it that a function gives: its places, which begin so, or the frames of a trace
-abbrev pub RewritesTextBy : (anywhere : Bool) → (maps : MapsByUrl) → (begins : List ℕ → List ℕ → Option PlaceUrl) → (hide : HidingSeen) → (most : ℕ)
+-- a text becomes what the maps make of it that a function gives: its places, by these parts, or the frames of a trace
+abbrev pub RewritesTextBy : (anywhere : Bool) → (maps : MapsByUrl) → (parts : List ℕ → List Part) → (hide : HidingSeen) → (most : ℕ)
     → (before after : DevicesSeen) → RewriteCounts → Type 0
-RewritesTextBy anywhere maps begins hide most before after counts =
-    MatchBool anywhere (RewritesPlacesBy maps begins most before after counts.summary) (RewritesBy maps hide most before after counts)
+RewritesTextBy anywhere maps parts hide most before after counts =
+    MatchBool anywhere (RewritesAnywhereBy maps parts most before after counts.summary) (RewritesBy maps hide most before after counts)
 
 -- where each path gives the same bytes whenever it is read, and nothing was reported of a map, or what fails always fails and no map
 -- was lost, a text becomes what the maps make of it that the files have, however few are kept; the URL of a file that can't be read
@@ -145,7 +153,7 @@ AnswersByPath Reads base k request sources end before after =
     (bytes_at : BytesByPath) → ReadsSame Reads (length request.arguments + 1) bytes_at
     → (counts : RewriteCounts) → end.result ≡ Ok counts
     → AreSettled Reads (length request.arguments + 1) bytes_at end.status end.lost → end.shortages ≡ 0
-    → RewritesTextBy request.anywhere (stored_maps (maps_at request.paths base k bytes_at) sources.words sources.locations) (places_of sources) request.hide request.limit_bytes
+    → RewritesTextBy request.anywhere (stored_maps (maps_at request.paths base k bytes_at) sources.words sources.locations) (parts_in (urls_of sources)) request.hide request.limit_bytes
     (devices_seen before.input before.sinks.output) (devices_seen after.input after.sinks.output) counts
 
 -- ---- what is reported at the end

@@ -13,7 +13,6 @@ mod ending;
 mod lines;
 mod loader;
 mod nearest;
-mod notes;
 mod request;
 mod rewriting;
 mod sources;

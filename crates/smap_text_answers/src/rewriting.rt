@@ -1,28 +1,30 @@
 //! Rewriting the stack trace on standard input over files and folders of maps, which are read when it names them.
-ghost use Rattle.std.specs.Prelude.{◌≡◌, ◌<◌, ◌^◌, false, option_copied};
+ghost use Rattle.std.specs.Prelude.{◌≡◌, ◌<◌, ◌^◌, false, true, option_copied};
 ghost use Rattle.smap_lines.specs.RunEnds.{RunEnds, is_write_fault};
 ghost use Rattle.smap_replies.specs.Outcome.{or_reported};
 ghost use Rattle.smap_replies.specs.Streams.{streams_seen};
 ghost use Rattle.smap_store.specs.Stored.{FindsIn, GivesIn};
 ghost use Rattle.smap_text_answers.specs.Request.{request_seen};
-ghost use Rattle.smap_text_answers.specs.RewriteFrom.{IsOverStore, RewritesFrom, RewritesText, RewritesTextFront, SaysUrls, says_urls, store_of};
+ghost use Rattle.smap_text_answers.specs.RewriteFrom.{IsOverStore, asked_by, RewritesFrom, RewritesText, RewritesTextFront, SaysUrls, says_urls, store_of};
 ghost use Rattle.smap_text_answers.specs.Sources.{GathersSources};
-ghost use Rattle.smap_text_answers.specs.TextNotes.{AreNone};
+ghost use Rattle.smap_anywhere.specs.Anywhere.{AreNone};
 ghost use Rattle.smap_trace.specs.NotesSeen.{notes_seen};
-ghost use Rattle.smap_trace.specs.Rewriting.{Looked};
+ghost use Rattle.smap_trace.specs.Noted.{nothing_noted};
+ghost use Rattle.smap_trace.specs.Rewriting.{Looked, RewritesFrontOver, RewritesOver};
 
 use crate::ending::{finish, hint};
 use crate::loader::FileLoader;
-use crate::notes::TextNotes;
 use crate::request::TextRequest;
 use crate::sources::{MapSources, sources_of};
 use crate::url_lines::tell_urls;
+use smap_anywhere::{LineCounter, MapUrls, PlaceNotes, PlaceOptions, rewrite_anywhere};
 use smap_codes::Code;
 use smap_io::{ByteSink, ByteSource};
-use smap_places::{PlaceFinder, rewrite_places_noting};
 use smap_replies::{DONE, Failure, FileReader, report};
 use smap_store::{MapCache, MapLoader, StoredMaps};
-use smap_trace::{RewriteCounts, RewriteFault, RewriteOptions, Table, rewrite_over};
+use smap_trace::{
+    Beside, Maps, PlaceCounter, RewriteCounts, RewriteFault, RewriteOptions, UrlNotes, rewrite_over,
+};
 use std::alloc::Global;
 
 /// Reads the maps that are words of the command line, and rewrites the text on standard input over them and over those
@@ -52,7 +54,7 @@ pub fn rewrite_from<F: FileReader, R: ByteSource, W: ByteSink, E: ByteSink>(
                 request,
                 sources: &sources,
             };
-            let mut notes = TextNotes::new(alloc);
+            let mut notes = PlaceNotes::new(alloc);
             let end = over_store(&run, &mut notes, input, output, errors, first);
             let ended = finish(alloc, request, &end, output, errors, first);
             let said = say_urls(&run, &end, &notes, errors);
@@ -116,7 +118,7 @@ pub struct StoreEnd {
 // Rewrites the trace over the maps of words and of what its frames name.
 fn over_store<F: FileReader, R: ByteSource, W: ByteSink, E: ByteSink>(
     run: &StoreRun<'_, '_, '_, F>,
-    notes: &mut TextNotes,
+    notes: &mut PlaceNotes,
     input: &mut R,
     output: &mut W,
     errors: &mut E,
@@ -167,7 +169,7 @@ fn rewrite_text<F: FileReader, L: MapLoader, R: ByteSource, W: ByteSink>(
     run: &StoreRun<'_, '_, '_, F>,
     cache: &mut MapCache,
     loader: &mut L,
-    notes: &mut TextNotes,
+    notes: &mut PlaceNotes,
     input: &mut R,
     output: &mut W,
 ) -> Result<RewriteCounts, RewriteFault>
@@ -187,57 +189,134 @@ fn rewrite_text<F: FileReader, L: MapLoader, R: ByteSource, W: ByteSink>(
         (store_of run.now.sources.now cache.old loader.old)
         (store_of run.now.sources.now cache.new loader.new) }
 {
-    let (alloc, request) = (run.alloc, run.request);
+    if run.request.options.anywhere {
+        rewrite_places(run, cache, loader, notes, input, output)
+    } else {
+        rewrite_frames(run, cache, loader, notes, input, output)
+    }
+}
+
+// Its frames, beside which places are counted.
+fn rewrite_frames<F: FileReader, L: MapLoader, R: ByteSource, W: ByteSink>(
+    run: &StoreRun<'_, '_, '_, F>,
+    cache: &mut MapCache,
+    loader: &mut L,
+    notes: &mut PlaceNotes,
+    input: &mut R,
+    output: &mut W,
+) -> Result<RewriteCounts, RewriteFault>
+    requires frames { run.now.request.now.options.now.anywhere ≡ false }
+    requires unnoted { AreNone notes.old }
+    requires input_works { (R.seen input.old).failed ≡ false }
+    requires output_works { (W.seen output.old).failed ≡ false }
+    requires limit { (request_seen run.now.request.now).limit_bytes < 2 ^ 63 }
+    ensures ends { RunEnds R.seen W.seen input.old input.new output.old output.new
+        (λ before after counts. RewritesText (request_seen run.now.request.now)
+        run.now.sources.now (FindsIn L.Loads) before after
+        (store_of run.now.sources.now cache.old loader.old)
+        (store_of run.now.sources.now cache.new loader.new) counts
+        (notes_seen notes.new.named) (notes_seen notes.new.others))
+        (RewritesTextFront (request_seen run.now.request.now) run.now.sources.now
+        (GivesIn L.MayLoad (store_of run.now.sources.now cache.old loader.old))) result }
+    ensures looked { Looked (FindsIn L.Loads)
+        (store_of run.now.sources.now cache.old loader.old)
+        (store_of run.now.sources.now cache.new loader.new) }
+{
+    let alloc = run.alloc;
     let MapSources { words, locations } = run.sources;
-    let Ok(finder) = PlaceFinder::new(alloc, words, locations) else {
+    let Ok(urls) = MapUrls::new(alloc, words, locations) else {
         return Err(RewriteFault::Memory);
     };
-    let (anywhere, explain) = (request.options.anywhere, request.options.explain);
-    let most = request.limit_bytes();
-    if !anywhere {
-        let mut stored = StoredMaps {
-            alloc,
-            words,
-            locations,
-            cache,
-            loader,
-        };
-        let options = RewriteOptions {
-            hiding: request.hiding(),
-            most,
-            is_noted: explain,
-            places: &finder,
-            most_passed: request.most_passed(),
-        };
-        return rewrite_over(
-            alloc,
-            input,
-            output,
-            &mut stored,
-            &options,
-            &mut notes.named,
-        );
-    }
-    // Those of words come with the places.
-    let none = Table::new(alloc);
-    let mut beside = StoredMaps {
+    let Ok(mut places) = LineCounter::new(alloc, &urls) else {
+        return Err(RewriteFault::Memory);
+    };
+    let mut stored = StoredMaps {
         alloc,
-        words: &none,
+        words,
         locations,
         cache,
         loader,
     };
-    match rewrite_places_noting(
+    let named = &mut notes.named;
+    frames_over(run, &mut stored, &mut places, named, input, output)
+}
+
+// The frames of a text over any maps, beside which places are counted.
+fn frames_over<F: FileReader, M: Maps, P: PlaceCounter, R: ByteSource, W: ByteSink>(
+    run: &StoreRun<'_, '_, '_, F>,
+    maps: &mut M,
+    places: &mut P,
+    notes: &mut UrlNotes,
+    input: &mut R,
+    output: &mut W,
+) -> Result<RewriteCounts, RewriteFault>
+    requires unnoted { notes_seen notes.old ≡ nothing_noted }
+    requires input_works { (R.seen input.old).failed ≡ false }
+    requires output_works { (W.seen output.old).failed ≡ false }
+    requires limit { (request_seen run.now.request.now).limit_bytes < 2 ^ 63 }
+    ensures ends { RunEnds R.seen W.seen input.old input.new output.old output.new
+        (λ before after counts. RewritesOver M.Finds M.found
+        (asked_by (request_seen run.now.request.now) (P.count places.old)) before after
+        maps.old maps.new counts (notes_seen notes.new))
+        (RewritesFrontOver (M.Gives maps.old) (request_seen run.now.request.now).hide
+        (request_seen run.now.request.now).limit_bytes) result }
+    ensures looked { Looked M.Finds maps.old maps.new }
+{
+    let request = run.request;
+    let options = RewriteOptions {
+        hiding: request.hiding(),
+        most: request.limit_bytes(),
+        is_noted: request.options.explain,
+        most_passed: request.most_passed(),
+    };
+    let mut beside = Beside { notes, places };
+    rewrite_over(run.alloc, input, output, maps, &options, &mut beside)
+}
+
+// Its places anywhere.
+fn rewrite_places<F: FileReader, L: MapLoader, R: ByteSource, W: ByteSink>(
+    run: &StoreRun<'_, '_, '_, F>,
+    cache: &mut MapCache,
+    loader: &mut L,
+    notes: &mut PlaceNotes,
+    input: &mut R,
+    output: &mut W,
+) -> Result<RewriteCounts, RewriteFault>
+    requires anywhere { run.now.request.now.options.now.anywhere ≡ true }
+    requires unnoted { AreNone notes.old }
+    requires input_works { (R.seen input.old).failed ≡ false }
+    requires output_works { (W.seen output.old).failed ≡ false }
+    requires limit { (request_seen run.now.request.now).limit_bytes < 2 ^ 63 }
+    ensures ends { RunEnds R.seen W.seen input.old input.new output.old output.new
+        (λ before after counts. RewritesText (request_seen run.now.request.now)
+        run.now.sources.now (FindsIn L.Loads) before after
+        (store_of run.now.sources.now cache.old loader.old)
+        (store_of run.now.sources.now cache.new loader.new) counts
+        (notes_seen notes.new.named) (notes_seen notes.new.others))
+        (RewritesTextFront (request_seen run.now.request.now) run.now.sources.now
+        (GivesIn L.MayLoad (store_of run.now.sources.now cache.old loader.old))) result }
+    ensures looked { Looked (FindsIn L.Loads)
+        (store_of run.now.sources.now cache.old loader.old)
+        (store_of run.now.sources.now cache.new loader.new) }
+{
+    let (alloc, request) = (run.alloc, run.request);
+    let MapSources { words, locations } = run.sources;
+    let Ok(urls) = MapUrls::new(alloc, words, locations) else {
+        return Err(RewriteFault::Memory);
+    };
+    let mut stored = StoredMaps {
         alloc,
-        input,
-        output,
-        &finder,
-        &mut beside,
-        most,
-        explain,
-        &mut notes.named,
-        &mut notes.others,
-    ) {
+        words,
+        locations,
+        cache,
+        loader,
+    };
+    let options = PlaceOptions {
+        known: &urls,
+        most_bytes: request.limit_bytes(),
+        is_noted: request.options.explain,
+    };
+    match rewrite_anywhere(alloc, input, output, &mut stored, &options, notes) {
         Ok(summary) => Ok(RewriteCounts {
             summary,
             long: 0,
@@ -251,7 +330,7 @@ fn rewrite_text<F: FileReader, L: MapLoader, R: ByteSource, W: ByteSink>(
 fn say_urls<F: FileReader, E: ByteSink>(
     run: &StoreRun<'_, '_, '_, F>,
     end: &StoreEnd,
-    notes: &TextNotes,
+    notes: &PlaceNotes,
     errors: &mut E,
 ) -> u8
     ensures { SaysUrls (F.gives run.now.request.now.maps.now.files.now)

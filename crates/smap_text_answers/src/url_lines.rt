@@ -9,9 +9,9 @@ ghost use Rattle.smap_trace.specs.NotesSeen.{note_seen, notes_seen};
 mod ends;
 
 use crate::loader::FileLoader;
-use crate::notes::TextNotes;
 use crate::rewriting::StoreRun;
 use crate::url_lines::ends::end_of;
+use smap_anywhere::PlaceNotes;
 use smap_io::ByteSink;
 use smap_locations::Locations;
 use smap_replies::{DONE, FAILED, FileReader, NO_MEMORY, print_error};
@@ -32,7 +32,7 @@ const NO_PLACE: &str =
 /// Reports what became of the URLs that were noted, or that memory ran out, and gives the status of that.
 pub fn tell_urls<F: FileReader, E: ByteSink>(
     run: &StoreRun<'_, '_, '_, F>,
-    notes: &TextNotes,
+    notes: &PlaceNotes,
     errors: &mut E,
 ) -> u8
     ensures { let request = run.now.request.now in
@@ -58,7 +58,7 @@ pub fn tell_urls<F: FileReader, E: ByteSink>(
 // The lines of all URLs that were noted, or that there is none, where memory was enough.
 fn lines_of<F: FileReader, E: ByteSink>(
     run: &StoreRun<'_, '_, '_, F>,
-    notes: &TextNotes,
+    notes: &PlaceNotes,
     errors: &mut E,
 ) -> Result<Vec<u8>, AllocError>
     ensures same { errors.new ≡ errors.old }

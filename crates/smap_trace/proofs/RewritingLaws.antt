@@ -10,6 +10,7 @@ use Rattle.smap_lines.specs.declared.counts.LineCounts.{LineCounts}
 use Rattle.smap_record.specs.Record.{MapRecord}
 use Rattle.smap_trace.specs.Frame.{FrameParts}
 use Rattle.smap_trace.specs.FrameOf.{frame_of}
+use Rattle.smap_trace.specs.Hiding.{hiding_seen}
 use Rattle.smap_trace.specs.Noted.{AreNotesIf, AreNotesOf, namings_in, nothing_noted}
 use Rattle.smap_trace.specs.NotesSeen.{notes_seen}
 use Rattle.smap_trace.specs.Passed.{PlaceCount, passed_in}
@@ -96,7 +97,7 @@ none_noted false notes none = none
 module _ {M P : Type 0} (Finds : M → (url : List ℕ) → M → Type 0) (found : M → (url : List ℕ) → Option MapRecord) (count : P → PlaceCount) (asked : RewriteAsked) where
   -- it stands as this says
   pub record Keeps (rewriter : FrameRewriter M P) (now : TraceNow M) : Type 0 where
-    pub asks : asked_seen count rewriter.options.now ≡ asked
+    pub asks : asked_seen (count rewriter.places.now) rewriter.options.now ≡ asked
     pub maps : now.maps ≡ rewriter.maps.now
     pub frames : now.frames ≡ rewriter.frames
     pub mapped : now.mapped ≡ rewriter.mapped
@@ -121,7 +122,7 @@ module _ {M P : Type 0} (Finds : M → (url : List ℕ) → M → Type 0) (found
     record {
       met = steps.met;
       step = subst (λ a. FateStep Finds found a.hide now.maps (frame_of line.bytes) steps.met new.maps.now) keeps.asks
-          (subst (λ m. FateStep Finds found (asked_seen count old.options.now).hide m (frame_of line.bytes) steps.met new.maps.now) (sym keeps.maps) steps.step);
+          (subst (λ m. FateStep Finds found (hiding_seen old.options.now.hiding) m (frame_of line.bytes) steps.met new.maps.now) (sym keeps.maps) steps.step);
       text_is = steps.text_is;
       frames = steps.frames ∙ ap (λ n. n + cond (is_frame_line line) 1 0) (sym keeps.frames);
       mapped = steps.mapped ∙ ap (λ n. n + cond (is_mapped steps.met) 1 0) (sym keeps.mapped);
@@ -130,7 +131,7 @@ module _ {M P : Type 0} (Finds : M → (url : List ℕ) → M → Type 0) (found
       named = refl;
     },
     record {
-      asks = ap (λ o. asked_seen count o.now) steps.options ∙ keeps.asks;
+      asks = (λ i. asked_seen (steps.counter i) (steps.options i).now) ∙ keeps.asks;
       maps = refl;
       frames = refl;
       mapped = refl;

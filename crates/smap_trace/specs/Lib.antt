@@ -11,6 +11,7 @@ pub mod UrlNotes
 pub mod NotesSeen
 pub mod Noted
 pub mod Passed
+pub mod Beside
 pub mod MapsOf
 pub mod Codes
 pub mod Private

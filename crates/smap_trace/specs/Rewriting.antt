@@ -43,12 +43,12 @@ pub record RewriteAsked : Type 0 where
   pub count : PlaceCount
   pub most_passed : ℕ
 
-abbrev pub asked_seen : {P : Type 0} → (count : P → PlaceCount) → RewriteOptions P → RewriteAsked
+abbrev pub asked_seen : (count : PlaceCount) → RewriteOptions → RewriteAsked
 asked_seen count options = record {
   hide = hiding_seen options.hiding;
   most = options.most;
   is_noted = options.is_noted;
-  count = count options.places.now;
+  count = count;
   most_passed = options.most_passed;
 }
 

@@ -28,20 +28,21 @@ use std::alloc::Global;
 
 /// Rewrites the frames among the lines of a trace, counts and notes them, and counts the places that are passed over.
 #[derive(Drop)]
-pub struct FrameRewriter<'m, 'r, 'o, 'h, 'n, M: Maps, P: PlaceCounter> {
+pub struct FrameRewriter<'m, 'r, 'o, 'h, 'n, 'p, M: Maps, P: PlaceCounter> {
     pub alloc: Global,
     pub maps: &'m mut M,
     /// What was answered before, over maps that are still found.
     pub remembered: &'r mut Remembered,
-    pub options: &'o RewriteOptions<'h, P>,
+    pub options: &'o RewriteOptions<'h>,
     pub notes: &'n mut UrlNotes,
+    pub places: &'p mut P,
     pub frames: u64,
     pub mapped: u64,
     pub hidden: u64,
     pub passed: u64,
 }
 
-impl<M: Maps, P: PlaceCounter> LineEditor for FrameRewriter<'_, '_, '_, '_, '_, M, P> {
+impl<M: Maps, P: PlaceCounter> LineEditor for FrameRewriter<'_, '_, '_, '_, '_, '_, M, P> {
     ghost use Rattle.smap_trace.specs.Private.FrameRewriter.{RewriterBecomes, RewriterReaches, RewriterSteps, room_of};
     ghost use Rattle.smap_trace.specs.Laws.Rewriter.{became_frame, room_after, same_frame, some_frame};
     ghost use Rattle.smap_trace.specs.Laws.Rewriter.{rewriter_goes_on, rewriter_stays};
@@ -50,7 +51,7 @@ impl<M: Maps, P: PlaceCounter> LineEditor for FrameRewriter<'_, '_, '_, '_, '_, 
 
     ghost Steps = { RewriterSteps M.Finds M.found P.count };
 
-    ghost Reaches = { RewriterReaches M.Finds };
+    ghost Reaches = { RewriterReaches M.Finds P.count };
 
     ghost room = { room_of M.found };
 
@@ -62,7 +63,7 @@ impl<M: Maps, P: PlaceCounter> LineEditor for FrameRewriter<'_, '_, '_, '_, '_, 
     ) -> Result<(), DeviceFault> {
         let Some(frame) = frame_of_line(line) else {
             output.put_line(line, is_ended)?;
-            self.passed = passed_after(self.options, self.passed, None, false, line);
+            self.passed = passed_after(self.options, self.places, self.passed, None, false, line);
             return Ok(());
         };
         find_map(self.maps, self.remembered, frame.url);
@@ -72,7 +73,14 @@ impl<M: Maps, P: PlaceCounter> LineEditor for FrameRewriter<'_, '_, '_, '_, '_, 
         self.frames += 1;
         self.mapped += u64::from(sight.is_mapped());
         self.hidden += u64::from(sight.is_hidden());
-        self.passed = passed_after(self.options, self.passed, Some(frame.url), has_map, line);
+        self.passed = passed_after(
+            self.options,
+            self.places,
+            self.passed,
+            Some(frame.url),
+            has_map,
+            line,
+        );
         note_if(self.options.is_noted, self.notes, &frame, has_map, &sight);
         Ok(())
     }
@@ -83,9 +91,9 @@ impl<M: Maps, P: PlaceCounter> LineEditor for FrameRewriter<'_, '_, '_, '_, '_, 
 
     ghost same = { same_frame M.Gives M.Finds M.found P.count M.same };
 
-    ghost stays = { rewriter_stays M.Finds };
+    ghost stays = { rewriter_stays M.Finds P.count };
 
-    ghost goes_on = { rewriter_goes_on M.Finds };
+    ghost goes_on = { rewriter_goes_on M.Finds P.count };
 
     ghost room_for_one = { room_after M.Gives M.Finds M.found P.count };
 }

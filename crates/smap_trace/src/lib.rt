@@ -10,6 +10,7 @@
 //! ```
 #![tactic(auto)]
 
+mod beside;
 mod cuts;
 mod end_number;
 mod frame_rewriter;
@@ -29,6 +30,7 @@ mod sight;
 mod table;
 mod url_notes;
 
+pub use beside::Beside;
 pub use cuts::cut_at_last;
 pub use frames::frame;
 pub use hiding::Hiding;

@@ -1,17 +1,19 @@
 //! Rewriting a trace.
 ghost use Rattle.std.specs.Prelude.{◌≡◌, ◌<◌, ◌^◌, false};
 ghost use Rattle.smap_lines.specs.RunEnds.{RunEnds};
+ghost use Rattle.smap_trace.specs.Beside.{IsSameBeside};
 ghost use Rattle.smap_trace.specs.Hiding.{hiding_seen};
 ghost use Rattle.smap_trace.specs.Noted.{nothing_noted};
 ghost use Rattle.smap_trace.specs.NotesSeen.{notes_seen};
 ghost use Rattle.smap_trace.specs.Rewriting.{Looked, Rewrites, RewritesFront, RewritesFrontOver, RewritesOver, asked_seen};
 
+use crate::beside::Beside;
 use crate::frame_rewriter::FrameRewriter;
 use crate::hiding::Hiding;
 use crate::maps::{Maps, TableMaps};
 use crate::options::RewriteOptions;
 use crate::outcome::{RewriteCounts, RewriteFault, Summary};
-use crate::passed::PlaceCounter;
+use crate::passed::{NoPlaces, PlaceCounter};
 use crate::remembered::Remembered;
 use crate::table::Table;
 use crate::url_notes::UrlNotes;
@@ -43,31 +45,39 @@ pub fn rewrite<R: ByteSource, W: ByteSink>(
     let mut maps = TableMaps(table);
     let options = RewriteOptions::of_frames(Hiding::only_ignored(hide_ignored), MOST_TEXT_BYTES);
     let mut notes = UrlNotes::new(alloc);
-    let counts = rewrite_over(alloc, input, output, &mut maps, &options, &mut notes)?;
+    let mut beside = Beside {
+        notes: &mut notes,
+        places: &mut NoPlaces,
+    };
+    let counts = rewrite_over(alloc, input, output, &mut maps, &options, &mut beside)?;
     Ok(counts.summary)
 }
 
 /// The same over maps that are looked for when a frame names them. Where that is asked, it is noted what became of the first
 /// 100 different URLs that frames name; and the places that are passed over in lines of up to 65,536 bytes are counted, as
-/// far as a number. The caller gives devices that have not failed, and notes without any. The output is not flushed.
+/// far as a number. The caller gives devices that have not failed, and notes without any. What the counter counts stays the
+/// same. The output is not flushed.
 pub fn rewrite_over<R: ByteSource, W: ByteSink, M: Maps, P: PlaceCounter>(
     alloc: Global,
     input: &mut R,
     output: &mut W,
     maps: &mut M,
-    options: &RewriteOptions<'_, P>,
-    notes: &mut UrlNotes,
+    options: &RewriteOptions<'_>,
+    beside: &mut Beside<'_, '_, P>,
 ) -> Result<RewriteCounts, RewriteFault>
     requires input_works { (R.seen input.old).failed ≡ false }
     requires output_works { (W.seen output.old).failed ≡ false }
     requires most { options.now.most < 2 ^ 63 }
-    requires unnoted { notes_seen notes.old ≡ nothing_noted }
+    requires unnoted { notes_seen beside.old.notes.now ≡ nothing_noted }
     ensures ends { RunEnds R.seen W.seen input.old input.new output.old output.new
-        (λ before after counts. RewritesOver M.Finds M.found (asked_seen P.count options.now)
-        before after maps.old maps.new counts (notes_seen notes.new))
+        (λ before after counts. RewritesOver M.Finds M.found
+        (asked_seen (P.count beside.old.places.now) options.now)
+        before after maps.old maps.new counts (notes_seen beside.new.notes.now))
         (RewritesFrontOver (M.Gives maps.old) (hiding_seen options.now.hiding)
         options.now.most) result }
     ensures looked { Looked M.Finds maps.old maps.new }
+    ensures counter { P.count beside.new.places.now ≡ P.count beside.old.places.now }
+    ensures same { IsSameBeside beside.old beside.new }
 {
     let mut remembered = Remembered::new(alloc);
     let mut rewriter = FrameRewriter {
@@ -75,7 +85,8 @@ pub fn rewrite_over<R: ByteSource, W: ByteSink, M: Maps, P: PlaceCounter>(
         maps,
         remembered: &mut remembered,
         options,
-        notes,
+        notes: beside.notes,
+        places: beside.places,
         frames: 0,
         mapped: 0,
         hidden: 0,

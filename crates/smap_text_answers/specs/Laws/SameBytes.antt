@@ -5,10 +5,10 @@ use Rattle.std.proofs.Common.{ap, arith, inl, inr, refl, subst, sym, ◌∙◌}
 use Rattle.url.specs.Parts.{Parts}
 use Rattle.smap_lines.specs.Editing.{DevicesSeen, devices_seen}
 use Rattle.smap_lines.specs.declared.fault.LineFault.{LineFault}
-use Rattle.smap_places.specs.Places.{PlaceUrl}
-use Rattle.smap_places.specs.PlacesBy.{RewritesPlacesBy}
-use Rattle.smap_places.specs.Laws.PlacesBy.{places_by}
-use Rattle.smap_places.specs.PlacesOver.{RewritesPlacesOver}
+use Rattle.smap_anywhere.specs.Anywhere.{PlacesAsked, RewritesAnywhere}
+use Rattle.smap_anywhere.specs.AnywhereBy.{RewritesAnywhereBy}
+use Rattle.smap_anywhere.specs.ChunkParts.{parts_in}
+use Rattle.smap_anywhere.specs.Laws.AnywhereBy.{anywhere_by}
 use Rattle.smap_record.specs.Record.{MapRecord}
 use Rattle.smap_record.specs.declared.refusal.MapRefusal.{MapRefusal}
 use Rattle.smap_store.specs.ByPath.{IsGood, IsRight, MapsByPath, stored_maps}
@@ -29,7 +29,7 @@ use Rattle.smap_replies.specs.Standing.{IsRefusedFor}
 use Rattle.smap_text_answers.specs.Loader.{FailsBy, FailsWith, LoaderSeen, Loads, MayLoad, is_lost, is_of_url}
 use Rattle.smap_replies.specs.Outcome.{Report}
 use Rattle.smap_text_answers.specs.Request.{RequestSeen}
-use Rattle.smap_text_answers.specs.RewriteFrom.{AnswersByPath, IsOverStore, IsStoredRewritten, RewritesPlaces, RewritesTextBy, asked_of, places_of, store_start}
+use Rattle.smap_text_answers.specs.RewriteFrom.{AnswersByPath, IsOverStore, IsStoredRewritten, RewritesPlaces, RewritesTextBy, asked_of, places_asked, store_start, urls_of}
 use Rattle.smap_text_answers.specs.SameBytes.{AreSettled, BytesByPath, FailsSame, ReadsSame, maps_at, stated_by, stated_in}
 use Rattle.smap_text_answers.specs.Standing.{record_loaded}
 use Rattle.smap_replies.specs.Streams.{Streams}
@@ -52,13 +52,13 @@ module _ {L : Type 0} (Steps : LoadsStep L) (Good : L → Type 0) (load : MapsBy
       good (right_start load old empty)
 
   -- and rewriting places
-  pub places_same : (begins : List ℕ → List ℕ → Option PlaceUrl) (most : ℕ) (before after : DevicesSeen) (old new : StoredSeen L) (summary : Summary)
-      → RewritesPlacesOver (FindsIn Steps) found_in begins most before after old new summary → old.cache.kept ≡ [] → IsGood Good new
-      → RewritesPlacesBy (stored_maps load old.words old.locations) begins most before after summary
-  places_same begins most before after old new summary all empty good =
-      places_by (FindsIn Steps) found_in (stored_maps load old.words old.locations) (IsGood Good) (IsRight load old.words old.locations)
-      (good_before Steps Good load loads_right) (right_after Steps Good load loads_right old.words old.locations) begins most before after old new summary all
-      good (right_start load old empty)
+  places_same : (asked : PlacesAsked) (before after : DevicesSeen) (old new : StoredSeen L) (summary : Summary) (named others : NotesSeen)
+      → RewritesAnywhere (FindsIn Steps) found_in asked before after old new summary named others → old.cache.kept ≡ [] → IsGood Good new
+      → RewritesAnywhereBy (stored_maps load old.words old.locations) asked.parts asked.most_bytes before after summary
+  places_same asked before after old new summary named others all empty good =
+      anywhere_by (FindsIn Steps) found_in (stored_maps load old.words old.locations) (IsGood Good) (IsRight load old.words old.locations)
+      (good_before Steps Good load loads_right) (right_after Steps Good load loads_right old.words old.locations) asked before after old new summary named
+      others all good (right_start load old empty)
 
 -- ---- where the maps are settled
 
@@ -113,9 +113,9 @@ module _ (Reads : MayRead) (paths : Bool) (base : Option Parts) (k number : ℕ)
       (RewritesOver (FindsIn (Loads Reads paths base k number)) found_in (asked_of request sources) before after old new counts notes
       × (others ≡ nothing_noted))
       → old.cache.kept ≡ [] → Settled new.loader → new.cache.shortages ≡ 0
-      → RewritesTextBy anywhere (stored_maps load old.words old.locations) (places_of sources) request.hide request.limit_bytes before after counts
+      → RewritesTextBy anywhere (stored_maps load old.words old.locations) (parts_in (urls_of sources)) request.hide request.limit_bytes before after counts
   same_settled request sources before after old new counts notes others true all empty settled enough =
-      places_same (Loads Reads paths base k number) Settled load loads_settled (places_of sources) request.limit_bytes before after old new counts.summary
+      places_same (Loads Reads paths base k number) Settled load loads_settled (places_asked request sources) before after old new counts.summary notes others
       all.over empty (settled, enough)
   same_settled request sources before after old new counts notes others false all empty settled enough =
       rewrites_same (Loads Reads paths base k number) Settled load loads_settled (asked_of request sources) before after old new counts notes all.0 empty

@@ -81,11 +81,14 @@ module _ {M P : Type 0} (Gives : M → (url : List ℕ) → Option MapRecord →
       may.2,
     )
 
-module _ {M P : Type 0} (Finds : M → (url : List ℕ) → M → Type 0) where
-  pub rewriter_stays : (rewriter : FrameRewriter M P) → RewriterReaches Finds rewriter rewriter
-  rewriter_stays rewriter = (looked_none Finds rewriter.maps.now, refl, refl)
+module _ {M P : Type 0} (Finds : M → (url : List ℕ) → M → Type 0) (count : P → PlaceCount) where
+  pub rewriter_stays : (rewriter : FrameRewriter M P) → RewriterReaches Finds count rewriter rewriter
+  rewriter_stays rewriter = (looked_none Finds rewriter.maps.now, refl, (refl, refl, refl))
 
-  pub rewriter_goes_on : (rewriter mid later : FrameRewriter M P) → RewriterReaches Finds rewriter mid → RewriterReaches Finds mid later
-      → RewriterReaches Finds rewriter later
-  rewriter_goes_on rewriter mid later one two =
-      (looked_both Finds rewriter.maps.now mid.maps.now later.maps.now one.0 two.0, two.1 ∙ one.1, two.2 ∙ one.2)
+  pub rewriter_goes_on : (rewriter mid later : FrameRewriter M P) → RewriterReaches Finds count rewriter mid → RewriterReaches Finds count mid later
+      → RewriterReaches Finds count rewriter later
+  rewriter_goes_on rewriter mid later one two = (
+    looked_both Finds rewriter.maps.now mid.maps.now later.maps.now one.0 two.0,
+    two.1 ∙ one.1,
+    (two.2.0 ∙ one.2.0, two.2.1 ∙ one.2.1, two.2.2 ∙ one.2.2),
+  )

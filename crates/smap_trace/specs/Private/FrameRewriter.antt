@@ -33,6 +33,11 @@ module _ {M P : Type 0} where
   abbrev pub is_sound : (found : M → (url : List ℕ) → Option MapRecord) → FrameRewriter M P → Bool
   is_sound found rewriter = is_right (found rewriter.maps.now) rewriter.remembered.now
 
+  -- it stays over the same maps, notes and counter
+  abbrev pub IsSameRewriter : (old new : FrameRewriter M P) → Type 0
+  IsSameRewriter old new =
+      (new.maps.ghost_name ≡ old.maps.ghost_name) × (new.notes.ghost_name ≡ old.notes.ghost_name) × (new.places.ghost_name ≡ old.places.ghost_name)
+
   -- what it became, and the editor after it
   pub record RewriterSteps (Finds : M → (url : List ℕ) → M → Type 0) (found : M → (url : List ℕ) → Option MapRecord) (count : P → PlaceCount)
       (old : FrameRewriter M P) (line : Line) (text : List ℕ) (new : FrameRewriter M P) : Type 0 where
@@ -42,16 +47,17 @@ module _ {M P : Type 0} where
     pub frames : new.frames ≡ old.frames + cond (is_frame_line line) 1 0
     pub mapped : new.mapped ≡ old.mapped + cond (is_mapped met) 1 0
     pub hiding : new.hidden ≡ old.hidden + cond (is_hidden met) 1 0
-    pub passed : new.passed ≡ passed_after old.options.now.most_passed old.passed (passed_in (count old.options.now.places.now) (found new.maps.now) line)
-    pub noted : IsLineNoted (asked_seen count old.options.now) (found new.maps.now) (frame_of line.bytes) (notes_seen old.notes.now) (notes_seen new.notes.now)
+    pub passed : new.passed ≡ passed_after old.options.now.most_passed old.passed (passed_in (count old.places.now) (found new.maps.now) line)
+    pub noted : IsLineNoted (asked_seen (count old.places.now) old.options.now) (found new.maps.now) (frame_of line.bytes) (notes_seen old.notes.now) (notes_seen new.notes.now)
     pub options : new.options ≡ old.options
-    pub same : (new.maps.ghost_name ≡ old.maps.ghost_name) × (new.notes.ghost_name ≡ old.notes.ghost_name)
+    pub counter : count new.places.now ≡ count old.places.now
+    pub same : IsSameRewriter old new
     pub sound : is_sound found old ≡ true → is_sound found new ≡ true
 
   -- how it may stand later
-  abbrev pub RewriterReaches : (Finds : M → (url : List ℕ) → M → Type 0) → FrameRewriter M P → (later : FrameRewriter M P) → Type 0
-  RewriterReaches Finds old later =
-      Looked Finds old.maps.now later.maps.now × (later.maps.ghost_name ≡ old.maps.ghost_name) × (later.notes.ghost_name ≡ old.notes.ghost_name)
+  abbrev pub RewriterReaches : (Finds : M → (url : List ℕ) → M → Type 0) → (count : P → PlaceCount) → FrameRewriter M P → (later : FrameRewriter M P) → Type 0
+  RewriterReaches Finds count old later =
+      Looked Finds old.maps.now later.maps.now × (count later.places.now ≡ count old.places.now) × IsSameRewriter old later
 
   -- how many lines it can take, each of which adds one to a count at most: none, if it remembers anything else
   abbrev pub room_of : (found : M → (url : List ℕ) → Option MapRecord) → FrameRewriter M P → ℕ

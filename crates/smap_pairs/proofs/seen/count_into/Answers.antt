@@ -19,7 +19,7 @@ loop-byte-preserved-then-is_by_itself c =
         c.in-Some.ensures.cases.1,
         c.loop-byte.invariant.one_a_byte,
       );
-      room = λ enough. omega (arith, c.loop-byte.invariant.room enough, c.in_ok-push.ensures.capacity);
+      capacity = omega (arith, c.loop-byte.invariant.capacity, c.in_ok-push.ensures.capacity);
     }
 
 pub loop-byte-preserved : goal.loop-byte-preserved
@@ -32,7 +32,7 @@ loop-byte-preserved c =
       stands = token_line c.loop-byte.seen.items c.push_token.new.seen.items c.loop-byte.rest.now c.split_at.result.1.now c.args.line.now c.token_of-token.result
           c.token_size.result c.in_ok-push_token.ensures.added token.some token.within c.token_size.ensures c.split_at.ensures.back c.loop-byte.invariant.stands;
       one_a_byte = omega (arith, c.in_ok-push_token.ensures.size, c.split_at.ensures.back_len, c.token_size.ensures, c.loop-byte.invariant.one_a_byte);
-      room = λ enough. omega (arith, c.loop-byte.invariant.room enough, c.in_ok-push_token.ensures.capacity);
+      capacity = omega (arith, c.loop-byte.invariant.capacity, c.in_ok-push_token.ensures.capacity);
     }
 
 pub returns-clause-counted : goal.returns-clause-counted

@@ -9,7 +9,7 @@ invariant-loop-byte l = record {
   counted : l.seen.items ++ counted_from 0 l.rest ≡ counted_from 0 l.line;
   stands : text_of l.seen.items ++ l.rest ≡ l.line;
   one_a_byte : length l.seen.items + length l.rest ≡ length l.line;
-  room : length l.line ≤ vec_capacity l.fn.seen → length l.line ≤ vec_capacity l.seen;
+  capacity : vec_capacity l.fn.seen ≤ vec_capacity l.seen;
 }
 
 abbrev pub decreases-loop-byte : goal.decreases-loop-byte

@@ -6,7 +6,7 @@ use Rattle.smap_trace.proofs.rewriting.rewrite_over.Goals as goal
 
 pub returns-clause-ends : goal.returns-clause-ends
 returns-clause-ends g c =
-    let asked = asked_seen g.P.PlaceCounter.count c.args.options.now in
+    let asked = asked_seen (g.P.PlaceCounter.count c.args.beside.now.places.now) c.args.options.now in
     let over = rewrites_kept g.M.Maps.Finds g.M.Maps.found g.P.PlaceCounter.count asked _ _ _ c.edit_lines.new.editor _
     (record {
       asks = refl;
@@ -18,5 +18,4 @@ returns-clause-ends g c =
       noted = none_noted asked.is_noted _ c.requires.unnoted;
     }) c.in_ok-lines.ensures.ends.whole in
     let maps : c.maps-2-1.given.0 ≡ c.edit_lines.new.editor.maps.now = search rules in
-    let notes : c.notes-2-1.given.0 ≡ c.edit_lines.new.editor.notes.now = search rules in
-    rw (maps, notes) (ends_done c.in_ok-lines.ensures.ends over)
+    rw maps (ends_done c.in_ok-lines.ensures.ends over)

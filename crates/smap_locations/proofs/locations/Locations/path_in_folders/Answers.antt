@@ -1,4 +1,4 @@
-use Rattle.std.proofs.Common.{◌≡◌, [], None, Option, Some, drop, string_bytes, option_map, take, ap, refl, subst, sym, ◌∙◌}
+use Rattle.std.proofs.Common.{◌≡◌, [], None, Some, drop, string_bytes, option_map, take, ap, refl, sym, ◌∙◌}
 use Rattle.std.proofs.lemmas.Result.{IfOk-weaker}
 use Rattle.smap_by_text.specs.ByText.{value_under}
 use Rattle.smap_locations.specs.Deciding.{longest_prefix}

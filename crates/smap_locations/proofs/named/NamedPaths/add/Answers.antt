@@ -1,4 +1,4 @@
-use Rattle.std.proofs.Common.{◌≡◌, ℕ, List, None, string_bytes, sym, ap, subst, ◌∙◌}
+use Rattle.std.proofs.Common.{◌≡◌, None, string_bytes, sym, ap, subst, ◌∙◌}
 use Rattle.smap_by_text.specs.ByText.{IsWith, all_seen, value_under}
 use Rattle.smap_by_text.specs.Laws.ByText.{none_found, none_under, with_seen}
 use Rattle.smap_locations.proofs.named.NamedPaths.add.Goals as goal

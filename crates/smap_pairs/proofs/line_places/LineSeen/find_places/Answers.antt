@@ -1,4 +1,4 @@
-use Rattle.std.proofs.Common.{◌≡◌, ◌≤◌, ◌++◌, ◌∷◌, [], ℕ, List, Option, Some, None, ap, arith, length, subst, sym, ◌∙◌}
+use Rattle.std.proofs.Common.{◌≡◌, ◌++◌, ◌∷◌, [], List, ap, arith, length, length-append, subst, sym, ◌∙◌}
 use Rattle.std.specs.List.{filter_map}
 use Rattle.smap_pairs.specs.LinePlaces.{place_of, places_in}
 use Rattle.smap_pairs.specs.declared.pairs.Pair.{Pair}
@@ -13,8 +13,9 @@ loop-pair-preserved-in_ok-push g c =
     let later : List Pair = c.in-Some.later.now in
     let is = c.in-Some.ensures.cases.0 in
     let place = placed known self.text.now self.seen.now self.pairs.now pair self.strings.now self.lines.now c.requires.strings c.requires.lines
-    _ _ _ _ _ _ c.in_ok-in_line.ensures c.in_ok-string.ensures.index c.in_ok-string.ensures.frame c.in_ok-line.ensures.index c.in_ok-line.ensures.frame
-    c.in_ok-place.ensures in
+    _ _ _ _ _ _ c.in_ok-in_line.ensures.place c.in_ok-string.ensures.index c.in_ok-string.ensures.frame c.in_ok-line.ensures.index c.in_ok-line.ensures.frame
+    c.in_ok-place.ensures.place in
+    let was = c.loop-pair.invariant in
     record {
       places = subst (λ l. filter_map (place_of known self.text.now self.seen.now self.pairs.now) self.pairs.now
           ≡ l ++ filter_map (place_of known self.text.now self.seen.now self.pairs.now) later) (sym c.in_ok-push.ensures.items)
@@ -24,6 +25,10 @@ loop-pair-preserved-in_ok-push g c =
           c.in_ok-string.string.index c.in_ok-line.line.index c.loop-pair.invariant.order is c.in_ok-string.ensures.index c.in_ok-line.ensures.index;
       string = c.in_ok-string.ensures.frame;
       line = c.in_ok-line.ensures.frame;
+      few = omega (arith, was.few, ap length is, ap length c.in_ok-push.ensures.items, length-append c.loop-pair.places.items (c.in-Some-2.place ∷ []));
+      keeps_room = (omega (arith, was.keeps_room.0, c.place_of.ensures.keeps_room.0), omega (arith, was.keeps_room.1, c.place_of.ensures.keeps_room.1));
+      halves = omega (arith, was.halves, c.frame_with.ensures.capacity, c.frame_with-in-Some.ensures.capacity);
+      capacity = omega (arith, was.capacity, c.push.ensures.capacity);
     }
 
 pub loop-pair-preserved : goal.loop-pair-preserved
@@ -34,8 +39,9 @@ loop-pair-preserved g c =
     let later : List Pair = c.in-Some.later.now in
     let is = c.in-Some.ensures.cases.0 in
     let place = placed known self.text.now self.seen.now self.pairs.now pair self.strings.now self.lines.now c.requires.strings c.requires.lines
-    _ _ _ _ _ _ c.in_ok-in_line.ensures c.in_ok-string.ensures.index c.in_ok-string.ensures.frame c.in_ok-line.ensures.index c.in_ok-line.ensures.frame
-    c.in_ok-place.ensures in
+    _ _ _ _ _ _ c.in_ok-in_line.ensures.place c.in_ok-string.ensures.index c.in_ok-string.ensures.frame c.in_ok-line.ensures.index c.in_ok-line.ensures.frame
+    c.in_ok-place.ensures.place in
+    let was = c.loop-pair.invariant in
     record {
       places = with_none (place_of known self.text.now self.seen.now self.pairs.now) self.pairs.now c.loop-pair.places.items pair later c.loop-pair.rest.now
           c.loop-pair.invariant.places is (place ∙ c.in_default-2.is);
@@ -43,11 +49,15 @@ loop-pair-preserved g c =
           c.in_ok-string.string.index c.in_ok-line.line.index c.loop-pair.invariant.order is c.in_ok-string.ensures.index c.in_ok-line.ensures.index;
       string = c.in_ok-string.ensures.frame;
       line = c.in_ok-line.ensures.frame;
+      few = omega (arith, was.few, ap length is);
+      keeps_room = (omega (arith, was.keeps_room.0, c.place_of.ensures.keeps_room.0), omega (arith, was.keeps_room.1, c.place_of.ensures.keeps_room.1));
+      halves = omega (arith, was.halves, c.frame_with.ensures.capacity, c.frame_with-in-Some.ensures.capacity);
+      capacity = was.capacity;
     }
 
-pub returns : goal.returns
+pub returns-clause-places : goal.returns-clause-places
 unfolding places_in
-returns g c =
+returns-clause-places g c =
     let self = c.args.self.now in
     let known = g.K.KnownUrls.known c.args.known.now in
     none_left (place_of known self.text.now self.seen.now self.pairs.now) self.pairs.now c.loop-pair.places.items c.loop-pair.rest.now

@@ -1,4 +1,4 @@
-use Rattle.std.proofs.Common.{◌≡◌, ap, sym, take, ◌∙◌}
+use Rattle.std.proofs.Common.{ap, sym, take, ◌∙◌}
 use Rattle.std.proofs.lemmas.List.{take-map}
 use Rattle.smap_pairs.specs.declared.seen.SeenByte.{SeenByte}
 use Rattle.smap_pairs.proofs.line_places.LineSeen.pair_place.Goals as goal

@@ -1,6 +1,6 @@
-use Rattle.std.proofs.Common.{◌≡◌, ◌<◌, ◌≤◌, ◌⊎◌, ℕ, arith, get_or, length, take, true, ◌∙◌}
+use Rattle.std.proofs.Common.{◌≡◌, ◌≤◌, arith, get_or, length, take, ◌∙◌}
 use Rattle.std.proofs.lemmas.List.{length-take-le}
-use Rattle.smap_pairs.specs.Behind.{is_query_at, queries_of}
+use Rattle.smap_pairs.specs.Behind.{is_query_at}
 use Rattle.smap_pairs.specs.Greatest.{most_below}
 use Rattle.smap_pairs.specs.Named.{cut_bytes}
 use Rattle.smap_pairs.proofs.MostLaws.{most_above, most_found, none_more}

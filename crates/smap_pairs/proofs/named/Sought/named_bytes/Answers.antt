@@ -1,4 +1,4 @@
-use Rattle.std.proofs.Common.{◌≡◌, ◌≤◌, ◌-◌, ap, arith, sym, ◌∙◌}
+use Rattle.std.proofs.Common.{◌≡◌, ◌-◌, ap, arith, sym, ◌∙◌}
 use Rattle.std.specs.List.{slice_range}
 use Rattle.smap_pairs.specs.Known.{is_among}
 use Rattle.smap_pairs.specs.Named.{is_named_before, may_begin_name}

@@ -1,7 +1,7 @@
-use Rattle.std.proofs.Common.{◌≡◌, ◌==◌, ◌+◌, ◌⊎◌, inl, inr, subst, ◌≤◌, ◌<◌, ℕ, ap, arith, false, get_or, length, sym, take, true, ◌∙◌}
+use Rattle.std.proofs.Common.{◌≡◌, ◌==◌, ◌+◌, ◌⊎◌, inr, subst, ℕ, ap, arith, false, length, sym, take, true, ◌∙◌}
 use Rattle.std.proofs.lemmas.Bool.{false_from_ne_true}
 use Rattle.std.proofs.lemmas.List.{length-take-le, take_all}
-use Rattle.smap_pairs.specs.Behind.{is_query_at, queries_of}
+use Rattle.smap_pairs.specs.Behind.{is_query_at}
 use Rattle.smap_pairs.specs.Known.{is_among}
 use Rattle.smap_pairs.specs.Named.{cut_bytes}
 use Rattle.smap_pairs.specs.Laws.Greatest.{NoneGreater, greater_found, greatest_is, none_greater}

@@ -1,0 +1,111 @@
+-- A chunk that is put: its places are those of its line.
+use Rattle.std.proofs.Common.{◌≡◌, ◌≤◌, ℕ, List, [], length, map, Bool, true, not, Option, Some, None, is_some, Result, Ok, Err, sym, ap, subst, ◌∙◌}
+use Rattle.std.specs.Prelude.{MatchOption, OnErr, OnOk}
+use Rattle.std.specs.List.{filter_map}
+use Rattle.smap_io.specs.Device.{SinkSeen}
+use Rattle.smap_io.specs.declared.device.DeviceFault.{DeviceFault}
+use Rattle.smap_lines.specs.LineOutput.{FailsToPut, IsPut, Puts}
+use Rattle.smap_lines.specs.declared.line_output.LineOutput.{LineOutput}
+use Rattle.smap_pairs.specs.Known.{UrlsKnown}
+use Rattle.smap_pairs.specs.LinePlaces.{place_of, places_in}
+use Rattle.smap_pairs.specs.Pairs.{pairs_of}
+use Rattle.smap_pairs.specs.Seen.{seen_of}
+use Rattle.smap_pairs.specs.Spans.{AreSpansInOrder}
+use Rattle.smap_pairs.specs.declared.line_places.Span.{Span}
+use Rattle.smap_record.specs.Record.{MapRecord}
+use Rattle.smap_trace.specs.NotesSeen.{notes_seen}
+use Rattle.smap_trace.specs.UrlNotes.{NamingSeen}
+use Rattle.smap_anywhere.specs.Parts.{Part, other}
+use Rattle.smap_anywhere.specs.PartSteps.{MayBecome}
+use Rattle.smap_anywhere.specs.ChunkParts.{chunk_parts, line_of, parts_by_spans, spans_of, unknown_among}
+use Rattle.smap_anywhere.specs.SeemingUrls.{urls_seeming}
+use Rattle.smap_anywhere.specs.Private.ChunkWriter.{FailsToPutParts, PutsParts}
+use Rattle.smap_anywhere.specs.Private.PartsWriter.{AreNoted, Becomes}
+use Rattle.smap_anywhere.specs.declared.chunk_writer.ChunkWriter.{ChunkWriter}
+use Rattle.smap_anywhere.specs.declared.parts_writer.PartsWriter.{PartsWriter}
+use Rattle.smap_anywhere.proofs.LineOfLaws.{spans_in_more}
+use Rattle.smap_anywhere.proofs.PassingLaws.{becomes_others, may_others}
+use Rattle.smap_anywhere.proofs.PutLaws.{noted_none}
+
+-- ---- the places of a chunk
+
+pub spans_are : (known : UrlsKnown) (text line : List ℕ) (spans : List Span) → line ≡ line_of text → spans ≡ places_in known line (seen_of line)
+    → spans ≡ spans_of known text
+spans_are known text line spans line_is is = is ∙ ap (λ l. places_in known l (seen_of l)) line_is
+
+pub parts_are : (known : UrlsKnown) (text line : List ℕ) (spans : List Span) → line ≡ line_of text → spans ≡ places_in known line (seen_of line)
+    → parts_by_spans text 0 spans ≡ chunk_parts known text
+unfolding chunk_parts
+parts_are known text line spans line_is is = ap (parts_by_spans text 0) (spans_are known text line spans line_is is)
+
+pub spans_in_text : (text line : List ℕ) (spans found : List Span) → length line ≤ length text → found ≡ spans → AreSpansInOrder 0 (length line) spans
+    → AreSpansInOrder 0 (length text) found
+spans_in_text text line spans found within is order =
+    subst (AreSpansInOrder 0 (length text)) (sym is) (spans_in_more 0 (length line) (length text) spans within order)
+
+-- a line without a pair has none
+no_spans : (known : UrlsKnown) (text line : List ℕ) → line ≡ line_of text → pairs_of line ≡ [] → spans_of known text ≡ []
+unfolding places_in
+no_spans known text line line_is none =
+    let here : pairs_of (line_of text) ≡ [] = ap pairs_of (sym line_is) ∙ none in
+    ap (λ pairs. filter_map (place_of known (line_of text) (seen_of (line_of text)) pairs) pairs) here
+
+plain_parts : (known : UrlsKnown) (text : List ℕ) → spans_of known text ≡ [] → chunk_parts known text ≡ map other text
+unfolding chunk_parts
+plain_parts known text none = ap (parts_by_spans text 0) none
+
+-- ---- one without places
+
+module _ {W : Type 0} (seen : W → SinkSeen) (known : UrlsKnown) (text line : List ℕ) (before after : LineOutput W) (line_is : line ≡ line_of text)
+    (none : pairs_of line ≡ []) where
+  module _ {M K : Type 0} (Finds : M → (url : List ℕ) → M → Type 0) (under : M → (url : List ℕ) → Option MapRecord) (old : ChunkWriter M K) where
+    plain_put : Puts seen before after text → PutsParts Finds under seen old old before after (chunk_parts known text)
+        (unknown_among known text (spans_of urls_seeming text))
+    plain_put puts = record {
+      text = text;
+      become = subst (λ parts. Becomes Finds under old.writer old.writer parts text) (sym (plain_parts known text (no_spans known text line line_is none)))
+          (becomes_others Finds under old.writer text);
+      others = subst (λ spans. AreNoted old.writer.is_noted (unknown_among known text spans) (notes_seen old.others.now) (notes_seen old.others.now))
+          (sym (no_spans urls_seeming text line line_is none)) (noted_none old.writer.is_noted (notes_seen old.others.now));
+      puts = puts;
+    }
+
+    pub plain_puts : {T : Type 0} (result : Result T DeviceFault) → IsPut seen before after text result →
+        OnOk result (PutsParts Finds under seen old old before after (chunk_parts known text) (unknown_among known text (spans_of urls_seeming text)))
+    plain_puts (Ok done) puts = plain_put puts
+    plain_puts (Err fault) fails = tt
+
+  pub plain_fails : {T : Type 0} (Allows : (url : List ℕ) → Option MapRecord → Type 0) (result : Result T DeviceFault) → IsPut seen before after text result →
+      OnErr result (FailsToPutParts Allows seen before after (chunk_parts known text))
+  plain_fails Allows (Ok done) puts = tt
+  plain_fails Allows (Err fault) fails = record {
+    text = text;
+    may = subst (λ parts. MayBecome Allows parts text) (sym (plain_parts known text (no_spans known text line line_is none))) (may_others Allows text);
+    fails = fails;
+  }
+
+-- there is none
+pub none_here : {X : Type 0} (o : Option X) (A : Type 0) (B : X → Type 0) (b : Bool) → MatchOption o A B → is_some o ≡ not b → b ≡ true → A
+none_here None A B b is none here = is
+none_here (Some x) A B b is none here = absurd (cc (none, ap not here))
+
+-- ---- one with places
+
+module _ {W : Type 0} (seen : W → SinkSeen) (known : UrlsKnown) (text : List ℕ) (before after : LineOutput W) (parts : List Part)
+    (is : parts ≡ chunk_parts known text) where
+  module _ {M K : Type 0} (Finds : M → (url : List ℕ) → M → Type 0) (under : M → (url : List ℕ) → Option MapRecord) where
+    pub chunk_puts : (old new : ChunkWriter M K) (mid : PartsWriter M) (unknown : List NamingSeen)
+        → (put : List ℕ) × Becomes Finds under old.writer mid parts put × Puts seen before after put
+        → mid.is_noted ≡ old.writer.is_noted → new.writer ≡ mid → AreNoted mid.is_noted unknown (notes_seen old.others.now) (notes_seen new.others.now)
+        → PutsParts Finds under seen old new before after (chunk_parts known text) unknown
+    chunk_puts old new mid unknown put same writer noted = record {
+      text = put.0;
+      become = subst (λ l. Becomes Finds under old.writer new.writer l put.0) is
+          (subst (λ (w : PartsWriter M). Becomes Finds under old.writer w parts put.0) (sym writer) put.1);
+      others = subst (λ on. AreNoted on unknown (notes_seen old.others.now) (notes_seen new.others.now)) same noted;
+      puts = put.2;
+    }
+
+  pub chunk_fails : (Allows : (url : List ℕ) → Option MapRecord → Type 0) → (put : List ℕ) × MayBecome Allows parts put × FailsToPut seen before after put
+      → FailsToPutParts Allows seen before after (chunk_parts known text)
+  chunk_fails Allows put = record { text = put.0; may = subst (λ l. MayBecome Allows l put.0) is put.1; fails = put.2 }

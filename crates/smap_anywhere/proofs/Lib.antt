@@ -1,0 +1,14 @@
+pub mod LengthLaws
+pub mod MapUrlsLaws
+pub mod MapUrlsExamples
+pub mod SeemingUrlsExamples
+pub mod CountLaws
+pub mod PartStepLaws
+pub mod PutLaws
+pub mod LineOfLaws
+pub mod CutLaws
+pub mod PassingLaws
+pub mod ChunkPutLaws
+pub mod ThroughLaws
+pub mod RewritingLaws
+pub mod TextPartsLaws

@@ -1,0 +1,3 @@
+pub mod FrameUrl
+pub mod AnywhereBy
+pub mod AnywhereSeen

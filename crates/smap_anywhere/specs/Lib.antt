@@ -1,0 +1,14 @@
+pub mod MapsSeen
+pub mod FrameUrl
+pub mod MapUrls
+pub mod SeemingUrls
+pub mod Parts
+pub mod Replaced
+pub mod PartSteps
+pub mod ChunkParts
+pub mod Counted
+pub mod Anywhere
+pub mod AnywhereBy
+pub mod Asked
+pub mod Private
+pub mod Laws

@@ -1,2 +1,0 @@
-pub mod PlacesBy
-pub mod PlacesSeen
