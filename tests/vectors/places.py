@@ -502,8 +502,33 @@ def is_printed_anywhere(name: bytes) -> bool:
     return is_printed_in_frames(name) and not set(b'"\\') & set(name)
 
 
+def chunks(line: bytes) -> Iterator[Tuple[bytes, bool]]:
+    """The parts of a line, and whether their places are found: those of one of more than 65,536 bytes end before the last `"` among
+    so many and its backslashes, or else the last blank; without either, what follows stays up to the next."""
+    at = 0
+    while len(line) - at > MOST_LINE:
+        front = line[at:at + MOST_LINE]
+        end = len(front[:max(front.rfind(b'"'), 0)].rstrip(b"\\")) or front.rfind(b" ")
+        is_broken = end <= 0
+        if is_broken:
+            end = len(front.rstrip(DIGITS + b":-")) or 1
+        yield front[:end], True
+        at += end
+        if is_broken:
+            fresh = re.compile(rb'[" ]').search(line, at)
+            end = fresh.start() if fresh else len(line)
+            yield line[at:end], False
+            at = end
+    yield line[at:], True
+
+
 def rewrite_line(text: bytes, maps: Maps) -> bytes:
     """What a line becomes."""
+    return b"".join(rewrite_chunk(chunk, maps) if is_found else chunk for chunk, is_found in chunks(text))
+
+
+def rewrite_chunk(text: bytes, maps: Maps) -> bytes:
+    """What a part of it becomes whose places are found."""
     out, at = [], 0
     for place in places_of(text, maps):
         new = printed(place, maps, is_printed_anywhere)
