@@ -791,7 +791,10 @@ function cutByChance() {
     let text = '';
     for (let count = below([3, 20, 200][round % 3]); count > 0; count--) {
       const [before, behind] = pick(around);
-      text += `${before}${place()}${behind}${options.anywhere && chance() < 0.4 ? '' : '\n'}`;
+      // A line that is a frame, whose URL is named as it stands, has no other place: so it stands alone.
+      const isFrame = /@$|at /.test(before);
+      if (isFrame && text !== '' && !text.endsWith('\n')) text += '\n';
+      text += `${before}${place()}${behind}${options.anywhere && !isFrame && chance() < 0.4 ? '' : '\n'}`;
     }
     const loading = new smap.Table({}, { load: (url) => maps[url] });
     same(String(smap.rewrite(loading, text, options)), String(smap.rewrite(exact, text, options)));

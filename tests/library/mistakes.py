@@ -521,7 +521,11 @@ def cut_by_chance():
             for _ in range(chance.randrange(chance.choice([3, 20, 200]))):
                 before, behind = chance.choice(around)
                 url = chance.choice(urls + ["https://e.test/no.js?v=1", "q"])
-                end = "" if "anywhere" in options and chance.random() < 0.4 else "\n"
+                # A line that is a frame, whose URL is named as it stands, has no other place: so it stands alone.
+                is_frame = before.endswith("@") or "at " in before
+                if is_frame and text and not text.endswith("\n"):
+                    text += "\n"
+                end = "" if "anywhere" in options and not is_frame and chance.random() < 0.4 else "\n"
                 text += f"{before}{url}:{chance.randint(1, 3)}:{chance.choice([1, 5, 11, 12])}{behind}{end}"
             with Rewriter({}, load=maps.get) as rewriter:
                 same(rewriter.rewrite(text, **options), exact.rewrite(text, **options))

@@ -153,7 +153,7 @@ const TAKING = [
     memory: 'memory',
   },
   { call: 'verdicts refusal_text', answer: 'M14 Text 0 F10 SourceIndex line 1 byte 0', memory: 'memory' },
-  { call: 'verdicts refusal_line', answer: `${REFUSAL}/`, memory: 'memory' },
+  { call: 'verdicts refusal_of', answer: `${REFUSAL}/`, memory: 'memory' },
   { call: 'verdicts fault_text', answer: 'F10 SourceIndex line 1 byte 0', memory: 'memory' },
   { call: 'verdicts nearest_text', answer: NEAREST, memory: 'memory' },
   { call: 'verdicts counts_text', answer: COUNTS, memory: 'memory' },
