@@ -3,11 +3,14 @@
  * Lines, columns, sources, names, sections and bytes count from 0, columns in UTF-16 code units. Texts are UTF-8, as a
  * pointer and a length, without a byte 0 at the end.
  *
- * A handle holds a map, a table, inner maps, originals or bytes, or is empty. One set to {0}, or in C++ to {}, is empty. A call that fills a
- * handle wants it empty: what it held before is not freed. A call that takes one from a handle wants it full, unless it says
+ * A handle holds a map, a table, inner maps, originals, a finder of URLs or bytes, or is empty. One set to {0}, or in C++ to {},
+ * is empty. A call that fills a handle wants it empty: what it held before is not freed. A call that takes one from a handle wants it full, unless it says
  * so. The pointer in a handle does not show whether it is empty: after it was freed, or a call took from it, the old one
- * stays there. Each handle is used by one call at a time; two threads may use two handles, each its own. A handle that is
- * `const` in each of several calls may be used by all of them at once: they read what it leads to and change nothing.
+ * stays there.
+ *
+ * Calls may run at once where no handle is given to two of them, not even one that is `const` in both. A handle may go to another
+ * thread by what orders the two: a lock, or the start or the end of a thread. Threads that ask one map take a handle each by
+ * smap_map_share: nothing is copied, what one holds never changes by another, and the map is freed with the last that holds it.
  *
  * No pointer is null: of no bytes, give a pointer to anything and the length 0. Two pointers of a call lead to different
  * places. Set what a call writes to before: to {0} or {}, or to SMAP_TEXT and SMAP_SOURCE.
@@ -35,11 +38,12 @@ extern "C" {
 #define SMAP_REFUSED 1
 #define SMAP_NO_MEMORY 3
 
-/* Handles, freed by smap_map_free, smap_table_free, smap_inners_free, smap_originals_free and smap_bytes_free. */
+/* Handles, freed by smap_map_free, smap_table_free, smap_inners_free, smap_originals_free, smap_url_finder_free and smap_bytes_free. */
 typedef struct smap_map { void *at; } smap_map;
 typedef struct smap_table { void *at; } smap_table;
 typedef struct smap_inners { void *at; } smap_inners;
 typedef struct smap_originals { void *at; } smap_originals;
+typedef struct smap_url_finder { void *at; } smap_url_finder;
 typedef struct smap_bytes { void *at; } smap_bytes;
 
 /* A text that is lent. It stays until the next call with the handle that lent it in which that is not `const`. */
@@ -162,6 +166,10 @@ typedef struct smap_rewrite_refusal { uint32_t number; uint64_t lines; } smap_re
  * trace ends. */
 typedef struct smap_frame_url { size_t start, length, next; } smap_frame_url;
 
+/* Where the URL of a place stands in a text, how many bytes it has there, and where the place ends, behind its line and its column.
+ * `halved` is 1 where it stands in a string: of each two backslashes one is of the URL. */
+typedef struct smap_place_url { size_t start, length, next; uint32_t halved; } smap_place_url;
+
 /* Reads the bytes of a map file into the handle `map`. `base` is the URL at which the file stands, against which its
  * sources are resolved, or of length 0 for none. The index has a checkpoint at every `interval`-th segment of a line; 64
  * is usual, and 1 to 4096 are taken. Where it returns 1, `refusal` says why. The bytes are not kept. */
@@ -178,10 +186,13 @@ uint32_t smap_map_read_within(const uint8_t *bytes, size_t length, const uint8_t
  * `/`, or with a letter, `:` and `/` or `\`. Each source whose name is a relative path, as the map gives it, gets the path that
  * goes on from the folder of the URL, and no `..` leads above its root: at "/srv/app/dist/util/x.js" "../../src/x.ts" becomes
  * "/srv/app/src/x.ts", as node prints it. Behind a drive's `:\` its pieces stand between `\`. Other names, and all names at other
- * URLs, stay. For it a map is read without a base. */
+ * URLs, stay. For it a map is read without a base. Returns 1 where another handle, a table or a place holds the map, too. */
 uint32_t smap_map_use_paths(smap_map *map, const uint8_t *url, size_t length);
 
-/* Frees the map, and leaves its handle empty. */
+/* Makes `other` another handle of the same map. Each is freed by itself, in any order. */
+uint32_t smap_map_share(smap_map *map, smap_map *other);
+
+/* Leaves the handle empty, and frees the map where nothing else holds it. */
 void smap_map_free(smap_map *map);
 
 /* Writes what the program prints on this refusal of a map file behind the file's path, as "M2 NotJson", with no line end.
@@ -265,7 +276,7 @@ uint32_t smap_source_lines(const smap_map *map, uint32_t source, uint32_t line, 
 uint32_t smap_map_write(smap_map *map, smap_bytes *bytes);
 
 /* Composes two maps, the inner one being of source `source` of the outer one, and writes the map that they come to. They are
- * two handles: to compose a map with itself, write it and read what was written.
+ * two handles: to compose a map with itself, share it.
  * Where it returns 1, `refusal` is 1 where the outer map has no such source, and 2 where the composed map would be too
  * large. The bytes are freed by smap_bytes_free. */
 uint32_t smap_compose(smap_map *outer, uint32_t source, smap_map *inner, smap_bytes *bytes, uint32_t *refusal);
@@ -302,7 +313,7 @@ uint32_t smap_inners_name(smap_map *outer, smap_inners *inners, uint32_t source,
 uint32_t smap_compose_all(smap_map *outer, smap_inners *inners, const smap_compose_options *options, smap_bytes *bytes,
                           uint32_t *refusal);
 
-/* Frees the places with the maps in them, and leaves their handle empty. */
+/* Frees the places, with those of the maps in them that nothing else holds, and leaves their handle empty. */
 void smap_inners_free(smap_inners *inners);
 
 /* Lends what the program prints on this refusal of smap_compose and smap_compose_all, "C1 SourceIndex" or "C2 TooLarge", and
@@ -333,6 +344,9 @@ uint32_t smap_table_new(smap_table *table);
  * such URL gets, the map is freed, and its handle is empty. */
 uint32_t smap_table_add(smap_table *table, const uint8_t *url, size_t url_length, smap_map *map, uint32_t *refusal);
 
+/* The same, where the table holds the map with the handle, which stays as it is. */
+uint32_t smap_table_add_shared(smap_table *table, const uint8_t *url, size_t url_length, smap_map *map, uint32_t *refusal);
+
 /* Lends what the program prints on this refusal of smap_table_add, "A1 BadUrl" or "A2 Twice". Returns 1 for another number. */
 uint32_t smap_table_refusal_text(uint32_t refusal, smap_text *text);
 
@@ -344,7 +358,7 @@ uint32_t smap_table_look_up(const smap_table *table, const uint8_t *url, size_t 
 /* Lends a URL without its query and its fragment: what stands before its first `?` or `#`. It stays as long as the URL. Returns 0. */
 uint32_t smap_cut_url(const uint8_t *url, size_t length, smap_text *cut);
 
-/* Frees the table with its maps, and leaves its handle empty. */
+/* Frees the table, with those of its maps that nothing else holds, and leaves its handle empty. */
 void smap_table_free(smap_table *table);
 
 /* Rewrites a trace: each frame whose URL has a map in the table and whose place has an original gets it in its place, and every
@@ -377,6 +391,19 @@ uint32_t smap_rewrite_refusal_text(uint32_t refusal, smap_text *text);
 /* Finds the URL of the next frame of a trace, from byte `from` on, at which a line begins: 0, or `next` of the frame
  * before. Returns 1 where no frame follows. With it the maps of a trace can be read once frames name them. */
 uint32_t smap_next_frame_url(const uint8_t *trace, size_t length, size_t from, smap_frame_url *found);
+
+/* Makes a finder of URLs, with room for the places of any text: no more memory is taken to find them. */
+uint32_t smap_url_finder_new(smap_url_finder *finder);
+
+/* Finds the URL of the next place of a text, wherever it stands, as smap_rewrite_anywhere finds those of a pattern for what looks like
+ * a URL: it holds `://`, ends with `.js`, `.mjs`, `.cjs` or `.bundle`, or begins with `/`, `\` or a drive. With it the maps of a text
+ * can be read once places name them. `from` is 0, another byte at which a line begins, or `next` of the place that the finder found
+ * last, in the same text: it keeps where it is in a line, so each byte is read once. Returns 1 where no place follows: the finder has
+ * read the text then. */
+uint32_t smap_next_place_url(smap_url_finder *finder, const uint8_t *text, size_t length, size_t from, smap_place_url *found);
+
+/* Frees the finder, and leaves its handle empty. */
+void smap_url_finder_free(smap_url_finder *finder);
 
 #ifdef __cplusplus
 }

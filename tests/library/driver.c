@@ -13,6 +13,7 @@
  *   rewrite URL MAP                the trace on standard input, rewritten
  *   load URL MAP                   the same, where the map is read once a frame names it
  *   anywhere URL MAP               the text on standard input, with its places rewritten
+ *   urls -                         where what looks like a URL stands in the text on standard input, as tests/vectors/place_urls.py has it
  *   again MAP COUNT                reads and frees the map so often, and prints how much memory is held more at the end
  *   threads MAP MAP                two threads with a map each
  *   mistakes MAP                   each refusal that no file has
@@ -317,6 +318,18 @@ static void add_named(smap_table *table, const uint8_t *trace, size_t length, co
     }
 }
 
+static void urls(void) {
+    size_t length;
+    uint8_t *text = whole(stdin, &length);
+    smap_url_finder finder = {0};
+    smap_place_url found = {0};
+    if (smap_url_finder_new(&finder) != SMAP_DONE) fail("no finder");
+    while (smap_next_place_url(&finder, text, length, found.next, &found) == SMAP_DONE)
+        printf("%zu %zu %zu %u\n", found.start, found.length, found.next, (unsigned)found.halved);
+    smap_url_finder_free(&finder);
+    free(text);
+}
+
 static void rewritten(const char *command, const char *url, const char *path) {
     size_t length;
     uint8_t *trace = whole(stdin, &length);
@@ -524,6 +537,8 @@ int main(int count, char **words) {
         composed_in_steps(words[2], words[3], words[4]);
     } else if (!strcmp(command, "rewrite") || !strcmp(command, "load") || !strcmp(command, "anywhere")) {
         rewritten(command, words[2], words[3]);
+    } else if (!strcmp(command, "urls")) {
+        urls();
     } else if (!strcmp(command, "again")) {
         again(words[2], atol(words[3]));
     } else if (!strcmp(command, "threads")) {

@@ -184,6 +184,14 @@ static void traces(void) {
     insist(smap_next_frame_url(zeros, 0, 0, &found) == SMAP_REFUSED, "no frame in no trace");
     insist(smap_next_frame_url(zeros, 5, SIZE_MAX, &found) == SMAP_REFUSED, "no frame past the end");
     insist(found.start == 9 && found.length == 9 && found.next == 9, "nothing found");
+    smap_url_finder finder = {0};
+    smap_place_url place = {9, 9, 9, 9};
+    insist(smap_url_finder_new(&finder) == SMAP_DONE, "a finder");
+    insist(smap_next_place_url(&finder, zeros, most_trace_bytes, 0, &place) == SMAP_REFUSED, "no place");
+    insist(smap_next_place_url(&finder, zeros, 0, 0, &place) == SMAP_REFUSED, "no place in no text");
+    insist(smap_next_place_url(&finder, zeros, 5, SIZE_MAX, &place) == SMAP_REFUSED, "no place past the end");
+    insist(place.start == 9 && place.length == 9 && place.next == 9 && place.halved == 9, "no place found");
+    smap_url_finder_free(&finder);
     smap_table_free(&table);
 }
 

@@ -80,6 +80,7 @@ static const uint8_t trace[] = "Error: x\n    at f (https://e.test/a.min.js:65:8
 static smap_map outer, inner, made;
 static smap_table table, made_table;
 static smap_inners inners, made_inners;
+static smap_url_finder made_finder;
 static smap_bytes bytes;
 static smap_refusal refusal;
 static smap_reason reason;
@@ -104,6 +105,7 @@ static uint32_t explain_call(void) {
     const smap_refusal fault = {14, 10, 0, 0, 0, 0};
     return smap_refusal_explain((const uint8_t *)file, sizeof file - 1, &fault, &reason, &bytes);
 }
+static uint32_t share_call(void) { return smap_map_share(&outer, &made); }
 static uint32_t write_call(void) { return smap_map_write(&outer, &bytes); }
 static uint32_t mappings_call(void) { return smap_map_mappings(&outer, &bytes); }
 static uint32_t encode_call(void) {
@@ -126,7 +128,9 @@ static uint32_t all_call(void) {
     return smap_compose_all(&outer, &inners, &options, &bytes, &why);
 }
 static uint32_t new_call(void) { return smap_table_new(&made_table); }
+static uint32_t finder_call(void) { return smap_url_finder_new(&made_finder); }
 static uint32_t add_call(void) { return smap_table_add(&table, url, sizeof url - 1, &made, &why); }
+static uint32_t add_shared_call(void) { return smap_table_add_shared(&table, url, sizeof url - 1, &inner, &why); }
 static uint32_t pattern_call(void) { return smap_table_add(&table, (const uint8_t *)"*a.min.js", 9, &made, &why); }
 static uint32_t twice_call(void) { return smap_table_add(&table, base, sizeof base - 1, &made, &why); }
 static uint32_t rewrite_call(void) { return smap_rewrite(&table, trace, sizeof trace - 1, false, &bytes, &count); }
@@ -137,7 +141,7 @@ static uint32_t with_call(void) {
 }
 
 /* Which handle a call fills, if it fills one; or it takes the map from `made`, and gives it back where it refuses. */
-enum handle { FILLS_MAP, FILLS_TABLE, FILLS_INNERS, FILLS_BYTES, FILLS_NONE, TAKES_MAP };
+enum handle { FILLS_MAP, FILLS_TABLE, FILLS_INNERS, FILLS_FINDER, FILLS_BYTES, FILLS_NONE, TAKES_MAP };
 
 static const struct call {
     const char *name;
@@ -147,6 +151,7 @@ static const struct call {
 } calls[] = {
     {"smap_map_read", read_call, SMAP_DONE, FILLS_MAP},
     {"smap_map_read of what is refused", refuse_call, SMAP_REFUSED, FILLS_MAP},
+    {"smap_map_share", share_call, SMAP_DONE, FILLS_MAP},
     {"smap_refusal_text", line_call, SMAP_DONE, FILLS_BYTES},
     {"smap_refusal_explain", explain_call, SMAP_DONE, FILLS_BYTES},
     {"smap_map_write", write_call, SMAP_DONE, FILLS_BYTES},
@@ -159,9 +164,11 @@ static const struct call {
     {"smap_inners_next", next_call, SMAP_DONE, FILLS_NONE},
     {"smap_compose_all", all_call, SMAP_DONE, FILLS_BYTES},
     {"smap_table_new", new_call, SMAP_DONE, FILLS_TABLE},
+    {"smap_url_finder_new", finder_call, SMAP_DONE, FILLS_FINDER},
     {"smap_table_add", add_call, SMAP_DONE, TAKES_MAP},
     {"smap_table_add of a pattern", pattern_call, SMAP_DONE, TAKES_MAP},
     {"smap_table_add of what is refused", twice_call, SMAP_REFUSED, TAKES_MAP},
+    {"smap_table_add_shared", add_shared_call, SMAP_DONE, FILLS_NONE},
     {"smap_rewrite", rewrite_call, SMAP_DONE, FILLS_BYTES},
     {"smap_rewrite_anywhere", anywhere_call, SMAP_DONE, FILLS_BYTES},
     {"smap_rewrite_with", with_call, SMAP_DONE, FILLS_BYTES},
@@ -201,6 +208,16 @@ static void report_inners(smap_inners *from, struct text *into) {
     report(&written, into);
 }
 
+/* The URLs that a finder finds in a trace. */
+static void report_finder(smap_url_finder *from, struct text *into) {
+    smap_place_url found = {0};
+    while (smap_next_place_url(from, trace, sizeof trace - 1, found.next, &found) == SMAP_DONE) {
+        memcpy(into->bytes + into->length, trace + found.start, found.length);
+        into->length += found.length;
+    }
+    if (into->length != 45) fail("a finder", "finds other URLs");
+}
+
 /* What the call has given, which is freed. A map that was refused is one that was given back. */
 static void report_answer(const struct call *call, struct text *into) {
     into->length = 0;
@@ -212,6 +229,9 @@ static void report_answer(const struct call *call, struct text *into) {
     } else if (call->handle == FILLS_INNERS) {
         report_inners(&made_inners, into);
         smap_inners_free(&made_inners);
+    } else if (call->handle == FILLS_FINDER) {
+        report_finder(&made_finder, into);
+        smap_url_finder_free(&made_finder);
     } else if ((call->handle == FILLS_MAP) == (call->wanted == SMAP_DONE)) {
         report_map(&made, into);
     }
@@ -226,7 +246,7 @@ static bool made_without(const struct call *call, long number) {
     if (read_map(&outer, &outer_file) || read_map(&inner, &inner_file) || smap_table_new(&table)) fail(call->name, "is not prepared");
     smap_map mapped = {0};
     if (read_map(&mapped, &inner_file) || smap_table_add(&table, base, sizeof base - 1, &mapped, &why)) fail(call->name, "has no table");
-    bool adds = call->make == add_call || call->make == pattern_call;
+    bool adds = call->make == add_call || call->make == add_shared_call || call->make == pattern_call;
     bool rewrites = call->make == rewrite_call || call->make == anywhere_call;
     if (rewrites && (read_map(&mapped, &outer_file) || smap_table_add(&table, url, sizeof url - 1, &mapped, &why)))
         fail(call->name, "has no map");
@@ -238,6 +258,7 @@ static bool made_without(const struct call *call, long number) {
     made = (smap_map){0};
     made_table = (smap_table){0};
     made_inners = (smap_inners){0};
+    made_finder = (smap_url_finder){0};
     bytes = (smap_bytes){0};
     if (call->handle == TAKES_MAP && read_map(&made, &outer_file)) fail(call->name, "has no map");
     static struct text before, after;
@@ -257,7 +278,7 @@ static bool made_without(const struct call *call, long number) {
     report_table(&table, &after);
     if (status == SMAP_NO_MEMORY) {
         if (!was_refused) fail(call->name, "is out of memory where none was refused");
-        if ((call->handle != TAKES_MAP && made.at) || made_table.at || made_inners.at || bytes.at) fail(call->name, "has filled a handle");
+        if ((call->handle != TAKES_MAP && made.at) || made_table.at || made_inners.at || made_finder.at || bytes.at) fail(call->name, "has filled a handle");
         if (why != 77 || refusal.number != 77 || encode_refusal.number != 77 || reason.value != 77 || reason.has_column != 77) fail(call->name, "reports a refusal");
         if (by_source[0] != 77 || unmapped != 77) fail(call->name, "counts bytes");
         if (!alike(&before, &after)) fail(call->name, "has changed the table");
@@ -290,7 +311,7 @@ static bool made_without(const struct call *call, long number) {
 
 /* The calls that take no memory, while every growth is refused. */
 static void free_calls(void) {
-    if (read_map(&outer, &outer_file) || smap_map_write(&outer, &bytes) || smap_table_new(&table) || smap_inners_new(&outer, &inners) || read_map(&inner, &inner_file)) fail("free calls", "not prepared");
+    if (read_map(&outer, &outer_file) || smap_map_write(&outer, &bytes) || smap_table_new(&table) || smap_inners_new(&outer, &inners) || read_map(&inner, &inner_file) || smap_url_finder_new(&made_finder)) fail("free calls", "not prepared");
     const smap_position position = {0, 0};
     smap_found found = {0};
     smap_count counts = {0};
@@ -309,6 +330,9 @@ static void free_calls(void) {
     uint32_t lines = smap_source_lines(&outer, 0, 0, 0, 0, &line, 1, &range);
     uint32_t place = smap_table_look_up(&table, url, sizeof url - 1, 0, 0, &options, &found, &source, &text);
     uint32_t file = smap_file(&outer, &text);
+    smap_place_url found_url = {0};
+    statuses |= smap_next_place_url(&made_finder, trace, sizeof trace - 1, 0, &found_url);
+    smap_url_finder_free(&made_finder);
     uint32_t source_asked = 77;
     statuses |= smap_inners_next(&outer, &inners, &source_asked, &why) | smap_inners_name(&outer, &inners, source_asked, &text);
     statuses |= smap_inners_put(&inners, 0, &inner) | smap_inners_take(&inners, 0, &inner) | smap_inners_put(&inners, 0, &inner);

@@ -1,4 +1,4 @@
-/* What threads share, and look-ups over a table, lines around one, sizes, cut URLs and control sequences in C: shared. */
+/* Maps that several hold, in threads too, and look-ups over a table, lines around one, sizes, cut URLs and control sequences in C: shared. */
 #include <pthread.h>
 #include <smap.h>
 #include <stdio.h>
@@ -153,52 +153,134 @@ static void sequences(void) {
     smap_table_free(&table);
 }
 
-#define THREADS 4
-#define ROUNDS 200000
+/* A map that a handle, another one, a table and a place hold: who is left has it, in whatever order they are freed. */
+enum holder { HANDLE, OTHER, TABLE, PLACE, HOLDERS };
 
-struct shared { const smap_map *map; const smap_table *table; uint32_t seed; bool same; };
+struct holders { smap_map handle, other, outer; smap_table table; smap_inners inners; };
+
+static struct holders held_by_all(void) {
+    struct holders by = {.handle = read_map(small, sizeof small - 1), .outer = read_map(small, sizeof small - 1)};
+    smap_map place = {0};
+    uint32_t refusal = 0;
+    insist(smap_map_share(&by.handle, &by.other) == SMAP_DONE && smap_map_share(&by.other, &place) == SMAP_DONE, "shares");
+    insist(smap_table_new(&by.table) == SMAP_DONE, "a table");
+    insist(smap_table_add_shared(&by.table, BYTES("*o.js"), &by.handle, &refusal) == SMAP_DONE, "a share in it");
+    insist(smap_table_add_shared(&by.table, BYTES("*o.js"), &by.handle, &refusal) == SMAP_REFUSED && refusal == 2, "a share that is refused");
+    insist(smap_inners_new(&by.outer, &by.inners) == SMAP_DONE && smap_inners_put(&by.inners, 0, &place) == SMAP_DONE, "a share in its place");
+    return by;
+}
+
+static bool has(struct holders *by, enum holder holder) {
+    smap_found found = {0};
+    smap_source_text source = SMAP_SOURCE;
+    smap_text name = SMAP_TEXT;
+    const smap_table_options options = {0};
+    smap_map taken = {0};
+    smap_map *map = holder == OTHER ? &by->other : &by->handle;
+    if (holder == TABLE)
+        return smap_table_look_up(&by->table, BYTES("https://e.test/o.js"), 0, 9, &options, &found, &source, &name) == SMAP_DONE && found.kind == 2 &&
+               is(source.name, "a.js") && is(name, "n");
+    if (holder == PLACE && smap_inners_take(&by->inners, 0, &taken) != SMAP_DONE) return false;
+    if (holder == PLACE) map = &taken;
+    bool right = smap_look_up(map, 0, 9, &found) == SMAP_DONE && found.kind == 2 && smap_source(map, found.source, &source) == SMAP_DONE && is(source.name, "a.js");
+    return right && (holder != PLACE || smap_inners_put(&by->inners, 0, &taken) == SMAP_DONE);
+}
+
+static void give_up(struct holders *by, enum holder holder) {
+    if (holder == HANDLE) smap_map_free(&by->handle);
+    if (holder == OTHER) smap_map_free(&by->other);
+    if (holder == TABLE) smap_table_free(&by->table);
+    if (holder == PLACE) smap_inners_free(&by->inners);
+}
+
+static void in_any_order(void) {
+    for (int order = 0; order < HOLDERS * HOLDERS * HOLDERS * HOLDERS; order++) {
+        int asked = 0, digits[HOLDERS], rest = order;
+        for (int i = 0; i < HOLDERS; i++, rest /= HOLDERS) asked |= 1 << (digits[i] = rest % HOLDERS);
+        if (asked != (1 << HOLDERS) - 1) continue;
+        struct holders by = held_by_all();
+        for (int i = 0; i < HOLDERS; i++) {
+            for (int j = i; j < HOLDERS; j++) insist(has(&by, (enum holder)digits[j]), "who is left has the map");
+            give_up(&by, (enum holder)digits[i]);
+        }
+        smap_map_free(&by.outer);
+    }
+}
+
+/* The sources of a map get no other names while something else holds it. */
+static void renamed_alone(void) {
+    static const char path[] = "{\"version\":3,\"sources\":[\"../a.js\"],\"names\":[],\"mappings\":\"AAAA\"}";
+    for (int holder = 0; holder < 2; holder++) {
+        smap_map map = read_map(path, sizeof path - 1), other = {0};
+        smap_table table = {0};
+        smap_source_text source = SMAP_SOURCE;
+        uint32_t refusal = 0;
+        if (holder == 0) insist(smap_map_share(&map, &other) == SMAP_DONE, "a share");
+        else insist(smap_table_new(&table) == SMAP_DONE && smap_table_add_shared(&table, BYTES("o.js"), &map, &refusal) == SMAP_DONE, "a share in a table");
+        insist(smap_map_use_paths(&map, BYTES("/x/out/o.js")) == SMAP_REFUSED, "a map that is held twice is not renamed");
+        insist(smap_source(&map, 0, &source) == SMAP_DONE && is(source.name, "../a.js"), "its source");
+        if (holder == 0) smap_map_free(&other);
+        else smap_table_free(&table);
+        insist(smap_map_use_paths(&map, BYTES("/x/out/o.js")) == SMAP_DONE, "it is renamed where it is held once");
+        insist(smap_source(&map, 0, &source) == SMAP_DONE && is(source.name, "/x/a.js"), "its source then");
+        smap_map_free(&map);
+    }
+}
+
+#define THREADS 8
+
+/* What a thread has: a handle of the map, and a table that holds it. It frees them when it has done its rounds. */
+struct shared { smap_map map; smap_table table; uint32_t seed; long rounds; bool same; };
 
 static void *look_up(void *given) {
     struct shared *shared = given;
     shared->same = true;
-    for (uint32_t i = 0, seed = shared->seed; i < ROUNDS; i++) {
+    uint32_t seed = shared->seed;
+    for (long i = 0; i < shared->rounds; i++) {
         seed = seed * 1664525 + 1013904223;
         uint32_t line = seed >> 30, column = seed >> 20 & 15;
         smap_found found = {0}, over = {0};
         smap_source_text source = SMAP_SOURCE;
         smap_text name = SMAP_TEXT;
         const smap_table_options options = {0};
-        smap_look_up(shared->map, line, column, &found);
-        uint32_t status = smap_table_look_up(shared->table, BYTES("https://e.test/o.js"), line, column, &options, &over, &source, &name);
+        smap_map another = {0};
+        bool right = smap_map_share(&shared->map, &another) == SMAP_DONE;
+        smap_look_up(&another, line, column, &found);
+        uint32_t status = smap_table_look_up(&shared->table, BYTES("https://e.test/o.js"), line, column, &options, &over, &source, &name);
         uint32_t kind = line < 1 || (line == 1 && column >= 4) ? 2 : 0, wanted = line == 1 ? 1 : column >= 2;
-        bool right = status == SMAP_DONE && !memcmp(&found, &over, sizeof found) && found.kind == kind;
+        right = right && status == SMAP_DONE && !memcmp(&found, &over, sizeof found) && found.kind == kind;
         if (kind == 2) right = right && found.line == wanted && is(source.name, line ? "b.js" : "a.js");
         smap_line_bytes at = {0};
         smap_line_range range = {0};
-        right = right && smap_source_lines(shared->map, 0, line, 0, 0, &at, 1, &range) == SMAP_DONE && range.first == line;
+        right = right && smap_source_lines(&another, 0, line, 0, 0, &at, 1, &range) == SMAP_DONE && range.first == line;
+        smap_map_free(&another);
         shared->same = shared->same && right;
     }
+    smap_map_free(&shared->map);
+    smap_table_free(&shared->table);
     return NULL;
 }
 
-static void threads(void) {
+static void threads(long rounds) {
     smap_map map = read_map(small, sizeof small - 1);
-    smap_table table = table_of();
     pthread_t thread[THREADS];
-    struct shared shared[THREADS];
+    static struct shared shared[THREADS];
     for (uint32_t i = 0; i < THREADS; i++) {
-        shared[i] = (struct shared){&map, &table, i, false};
+        uint32_t refusal = 0;
+        shared[i] = (struct shared){.seed = i, .rounds = rounds / (1 + i % 3)};
+        insist(smap_map_share(&map, &shared[i].map) == SMAP_DONE && smap_table_new(&shared[i].table) == SMAP_DONE, "a thread's own");
+        insist(smap_table_add_shared(&shared[i].table, BYTES("https://e.test/o.js"), &map, &refusal) == SMAP_DONE, "the map in its table");
         insist(pthread_create(&thread[i], NULL, look_up, &shared[i]) == 0, "a thread");
     }
+    smap_map_free(&map);
     for (uint32_t i = 0; i < THREADS; i++) {
         pthread_join(thread[i], NULL);
-        insist(shared[i].same, "what four threads find in one map");
+        insist(shared[i].same, "what each of eight threads finds in one map");
     }
-    smap_map_free(&map);
-    smap_table_free(&table);
 }
 
-int main(void) {
+/* The rounds of a thread may be given. */
+int main(int argc, char **argv) {
     sizes();
     lines();
     long_line(65536, 0, 65536, 0);
@@ -209,7 +291,9 @@ int main(void) {
     tables();
     cut_urls();
     sequences();
-    threads();
+    in_any_order();
+    renamed_alone();
+    threads(argc > 1 ? atol(argv[1]) : 100000);
     printf("shared %d\n", reported);
     return 0;
 }

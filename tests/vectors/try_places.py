@@ -269,13 +269,23 @@ def broken_law(line: bytes, found: List[Place], maps: Maps) -> Optional[str]:
     if b"".join([*rest, line[at:]]) != became:
         return "something else moves"
     framed = places.frame_span(line)
-    if not framed or [place.start for place in found] != [framed[0]]:
-        for string in STRING.finditer(line):
-            shift, behind = ([0] + [by for end, by in moved if end <= at][-1:] for at in string.span())
-            new = became[string.start() + shift[-1]:string.end() + behind[-1]]
-            if not STRING.fullmatch(new):
-                return f"a string of JSON is none: {string[0]!r} {new!r}"
+    if any(b'"' in line[place.start:place.end] for place in found) and (not framed or [place.start for place in found] != [framed[0]]):
+        return "a place has a quotation mark"
+    for string in strings_in(line, found):
+        shift, behind = ([0] + [by for end, by in moved if end <= at][-1:] for at in string.span())
+        new = became[string.start() + shift[-1]:string.end() + behind[-1]]
+        if not STRING.fullmatch(new):
+            return f"a string of JSON is none: {string[0]!r} {new!r}"
     return broken_frame(line, maps, became)
+
+
+def strings_in(line: bytes, found: List[Place]) -> Iterator["re.Match[bytes]"]:
+    """What may be strings of JSON: between any two quotation marks of a line that are in no place."""
+    taken = {at for place in found for at in range(place.start, place.end)}
+    for mark in re.finditer(b'"', line):
+        string = STRING.match(line, mark.start())
+        if string and not taken & {string.start(), string.end() - 1}:
+            yield string
 
 
 def broken_frame(line: bytes, maps: Maps, became: bytes) -> Optional[str]:

@@ -44,7 +44,7 @@ spans_in_text text line spans found within is order =
     subst (AreSpansInOrder 0 (length text)) (sym is) (spans_in_more 0 (length line) (length text) spans within order)
 
 -- a line without a pair has none
-no_spans : (known : UrlsKnown) (text line : List ℕ) → line ≡ line_of text → pairs_of line ≡ [] → spans_of known text ≡ []
+pub no_spans : (known : UrlsKnown) (text line : List ℕ) → line ≡ line_of text → pairs_of line ≡ [] → spans_of known text ≡ []
 unfolding places_in
 no_spans known text line line_is none =
     let here : pairs_of (line_of text) ≡ [] = ap pairs_of (sym line_is) ∙ none in

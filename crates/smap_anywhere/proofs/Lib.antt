@@ -12,3 +12,15 @@ pub mod ChunkPutLaws
 pub mod ThroughLaws
 pub mod RewritingLaws
 pub mod TextPartsLaws
+pub mod ChunkBegins
+pub mod PrintedLaws
+pub mod PartStates
+pub mod StringParts
+pub mod MarkLaws
+pub mod KnownStrings
+pub mod StaysLaws
+pub mod FramePlacesLaws
+pub mod FrameTextLaws
+pub mod FrameFileLaws
+pub mod FramePlacesExamples
+pub mod FoundUrlLaws

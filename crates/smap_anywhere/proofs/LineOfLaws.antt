@@ -24,9 +24,6 @@ line_of_ended line one =
     sym (ap (λ n. take n (line ++ 10 ∷ [])) (ended_bytes line one) ∙ take-append-le (length line) line (10 ∷ []) (omega arith)
     ∙ take_all (length line) line (omega arith))
 
-pub few_of_ended : (line : List ℕ) → IsInOneLine (line ++ 10 ∷ []) → length line ≤ 65536
-few_of_ended line one = omega (arith, one.few, ended_bytes line one)
-
 -- ---- without
 
 last_is_end : (line : List ℕ) (byte : ℕ) → line_bytes (line ++ byte ∷ []) ≡ length line → (byte == 10) ≡ true

@@ -1,7 +1,7 @@
 -- Laws of the parts of a text: they are the text, and a text that is cut after line ends has those of its parts.
-use Rattle.std.specs.Prelude.{◌≡◌, ◌≤◌, ◌++◌, ℕ, List, [], ◌∷◌, drop, length, map, take}
+use Rattle.std.specs.Prelude.{◌≡◌, ◌≤◌, ◌++◌, ℕ, List, [], ◌∷◌, drop, length, map}
 use Rattle.std.specs.List.{flat_map, slice_range}
-use Rattle.std.proofs.Common.{ap, append_assoc, arith, refl, sym, ◌∙◌}
+use Rattle.std.proofs.Common.{ap, arith, refl, sym, ◌∙◌}
 use Rattle.std.proofs.lemmas.Grind.{flat_map-append}
 use Rattle.std.proofs.lemmas.List.{length-take}
 use Rattle.std.proofs.lemmas.List.Folds.{drop_split}
@@ -44,7 +44,7 @@ spans_whole text from (span ∷ spans) order =
     ∙ sym (drop_split text from span.start order.0)
 
 module _ (known : UrlsKnown) (within : (line : List ℕ) → IsFrameUrlWithin known line) where
-  cut_whole : (cut : Cut) → flat_map part_bytes (cut_parts known cut) ≡ cut_bytes cut
+  pub cut_whole : (cut : Cut) → flat_map part_bytes (cut_parts known cut) ≡ cut_bytes cut
   unfolding chunk_parts
   cut_whole (stays byte) = refl
   cut_whole (chunk text) =
@@ -52,7 +52,7 @@ module _ (known : UrlsKnown) (within : (line : List ℕ) → IsFrameUrlWithin kn
       spans_whole text 0 (spans_of known text) (spans_in_more 0 (length (line_of text)) (length text) (spans_of known text) few
       (spans_in_order known (line_of text) within))
 
-  cuts_whole_by : (cuts : List Cut) → flat_map part_bytes (flat_map (cut_parts known) cuts) ≡ flat_map cut_bytes cuts
+  pub cuts_whole_by : (cuts : List Cut) → flat_map part_bytes (flat_map (cut_parts known) cuts) ≡ flat_map cut_bytes cuts
   cuts_whole_by [] = refl
   cuts_whole_by (cut ∷ cuts) =
       flat_map-append part_bytes (cut_parts known cut) (flat_map (cut_parts known) cuts)

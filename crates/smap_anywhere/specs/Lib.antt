@@ -4,10 +4,13 @@ pub mod MapUrls
 pub mod SeemingUrls
 pub mod Parts
 pub mod Replaced
+pub mod FramePlaces
 pub mod PartSteps
 pub mod ChunkParts
+pub mod FoundUrls
 pub mod Counted
 pub mod Anywhere
+pub mod JsonParts
 pub mod AnywhereBy
 pub mod Asked
 pub mod Private

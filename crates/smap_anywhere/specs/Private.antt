@@ -5,3 +5,4 @@ pub mod PlaceText
 pub mod PartsWriter
 pub mod ChunkWriter
 pub mod Passage
+pub mod UrlFinder

@@ -8,12 +8,12 @@ ghost use Rattle.smap_anywhere.specs.SeemingUrls.{urls_seeming};
 ghost use Rattle.smap_lines.specs.Limits.{most_line_bytes};
 ghost use Rattle.smap_lines.specs.LineOutput.{IsSameOutput};
 ghost use Rattle.smap_pairs.specs.Chunks.{IsInOneLine};
-ghost use Rattle.smap_pairs.specs.LinePlaces.{places_in, span_url};
-ghost use Rattle.smap_pairs.specs.Seen.{seen_of};
+ghost use Rattle.smap_pairs.specs.LinePlaces.{span_url};
 ghost use Rattle.smap_pairs.specs.Spans.{AreSpansInOrder};
 ghost use Rattle.smap_trace.specs.NotesSeen.{notes_seen};
 ghost use Rattle.smap_trace.specs.Rewriting.{Looked};
 
+use crate::chunk_line::{find, line_of};
 use crate::parts_writer::{PartsWriter, url_of};
 use crate::seeming_urls::SeemingUrls;
 use smap_io::{ByteSink, DeviceFault};
@@ -35,8 +35,8 @@ pub struct ChunkWriter<'k, 'r, 'm, 'n, 'o, M: Maps, K: KnownUrls> {
 }
 
 impl<M: Maps, K: KnownUrls> ChunkWriter<'_, '_, '_, '_, '_, M, K> {
-    /// Writes what becomes of a text as far as it is decided, and counts the bytes of it: up to its last LF at least, and all
-    /// but 65,536 bytes; and all, where nothing follows it. Nothing waits then.
+    /// Writes what becomes of a text as far as it is decided, and counts the bytes of it: up to its last LF at least, and
+    /// all but 65,536 bytes; and all, where nothing follows it. Nothing waits then.
     pub fn write_decided<W: ByteSink>(
         &mut self,
         text: &[u8],
@@ -50,7 +50,8 @@ impl<M: Maps, K: KnownUrls> ChunkWriter<'_, '_, '_, '_, '_, M, K> {
         ensures same_output { IsSameOutput output.old output.new }
         ensures looked { Looked M.Finds self.old.writer.maps.now self.new.writer.maps.now }
         ensures writes { IfOk result (λ count. Writes M.Finds M.found W.seen
-            (K.known self.old.known.now) self.old self.new output.old output.new is_last text.now count) }
+            (K.known self.old.known.now) self.old self.new output.old output.new
+            is_last text.now count) }
         ensures undecided { IfOk result (λ count. IsUndecided is_last (drop count text.now)) }
         ensures none { OnOk result (output.new.gathered.now ≡ []) }
         ensures no_failure { OnOk result
@@ -72,8 +73,8 @@ impl<M: Maps, K: KnownUrls> ChunkWriter<'_, '_, '_, '_, '_, M, K> {
         Ok(done)
     }
 
-    // Puts what becomes of the first chunk of a text, or of the bytes of it that stay, and counts its bytes, none where these
-    // are not decided.
+    // Puts what becomes of the first chunk of a text, or of the bytes of it that stay, and counts its bytes, none where
+    // these are not decided.
     fn put_next<W: ByteSink>(
         &mut self,
         text: &[u8],
@@ -86,7 +87,8 @@ impl<M: Maps, K: KnownUrls> ChunkWriter<'_, '_, '_, '_, '_, M, K> {
         ensures same { IsSameChunkWriter self.old self.new }
         ensures looked { Looked M.Finds self.old.writer.maps.now self.new.writer.maps.now }
         ensures passes { IfOk result (λ count. Passes M.Finds M.found W.seen
-            (K.known self.old.known.now) self.old self.new output.old output.new is_last text.now count) }
+            (K.known self.old.known.now) self.old self.new output.old output.new
+            is_last text.now count) }
         ensures undecided { IfOk result (λ count. count ≡ 0 → IsUndecided is_last text.now) }
 
         ensures fails { OnErr result (FailsToPutParts (M.Gives self.old.writer.maps.now) W.seen
@@ -124,7 +126,8 @@ impl<M: Maps, K: KnownUrls> ChunkWriter<'_, '_, '_, '_, '_, M, K> {
         ensures looked { Looked M.Finds self.old.writer.maps.now self.new.writer.maps.now }
         ensures puts { OnOk result (PutsParts M.Finds M.found W.seen self.old self.new
             output.old output.new (chunk_parts (K.known self.old.known.now) text.now)
-            (unknown_among (K.known self.old.known.now) text.now (spans_of urls_seeming text.now))) }
+            (unknown_among (K.known self.old.known.now) text.now
+            (spans_of urls_seeming text.now))) }
         ensures few_places { OnOk result
             (self.new.writer.places ≤ self.old.writer.places + length text.now) }
         ensures few_mapped { OnOk result
@@ -171,32 +174,6 @@ impl<M: Maps, K: KnownUrls> ChunkWriter<'_, '_, '_, '_, '_, M, K> {
             self.others,
         );
     }
-}
-
-// Finds the places of a line, for which there is room.
-fn find<K: KnownUrls>(places: &mut LinePlaces, known: &K, line: &[u8])
-    requires { length line.now ≤ places.old.most_bytes }
-    ensures places { places.new.places ≡ places_in (K.known known.now) line.now (seen_of line.now) }
-    ensures order { AreSpansInOrder 0 (length line.now) places.new.places }
-    ensures same_room { places.new.most_bytes ≡ places.old.most_bytes }
-{
-    match places.find(known, line) {
-        Ok(()) => {}
-        Err(_) => unreachable!(),
-    }
-}
-
-// A chunk without the LF at its end.
-fn line_of(text: &[u8]) -> &[u8]
-    requires { IsInOneLine text.now }
-    ensures line { result.now ≡ line_of text.now }
-    ensures few { length result.now ≤ most_line_bytes }
-    ensures within { length result.now ≤ length text.now }
-{
-    let Some((byte, line)) = text.split_last() else {
-        return text;
-    };
-    if *byte == b'\n' { line } else { text }
 }
 
 // Notes those of the places of a chunk whose URLs have no map.

@@ -1,11 +1,23 @@
 //! Laws over the definitions, for all texts: a call does nothing, and its contract is the law.
-ghost use Rattle.std.specs.Prelude.{◌≡◌, ◌++◌, ℕ, List, Option};
+ghost use Rattle.std.specs.Prelude.{◌≡◌, ◌+◌, ◌++◌, ◌∷◌, ℕ, IsTrue, List, Option, Some, false, length, true};
 ghost use Rattle.std.specs.List.{flat_map};
-ghost use Rattle.smap_lines.specs.Lines.{IsWholeLines};
+ghost use Rattle.smap_lines.specs.Lines.{IsWholeLines, Line, line_text};
+ghost use Rattle.smap_pairs.specs.Json.{is_string_inside};
 ghost use Rattle.smap_pairs.specs.Known.{IsFrameUrlWithin, UrlsKnown};
+ghost use Rattle.smap_pairs.specs.StringPlaces.{AreForStrings};
 ghost use Rattle.smap_record.specs.Record.{MapRecord};
+ghost use Rattle.smap_trace.specs.Frame.{FrameParts};
+ghost use Rattle.smap_trace.specs.FrameOf.{frame_of};
+ghost use Rattle.smap_trace.specs.Hiding.{only_ignored};
+ghost use Rattle.smap_trace.specs.MapsOf.{MapsByUrl, line_by};
+ghost use Rattle.smap_trace.specs.Rewritten.{original_in};
 ghost use Rattle.smap_anywhere.specs.ChunkParts.{parts_in};
-ghost use Rattle.smap_anywhere.specs.Parts.{part_bytes};
+ghost use Rattle.smap_anywhere.specs.FramePlaces.{IsLeftToPatterns, has_file, is_from_quotable};
+ghost use Rattle.smap_anywhere.specs.JsonParts.{AnyMap, IsOutsideQuotedFrames, StaysString, with_marks};
+ghost use Rattle.smap_anywhere.specs.MapUrls.{urls_known};
+ghost use Rattle.smap_anywhere.specs.MapsSeen.{MapsSeen};
+ghost use Rattle.smap_anywhere.specs.PartSteps.{MayBecome};
+ghost use Rattle.smap_anywhere.specs.Parts.{Part, other, part_bytes};
 ghost use Rattle.smap_anywhere.specs.Replaced.{parts_text};
 
 /// A text that is cut after line ends may be rewritten in parts, whose texts are joined: each part alone is what it is in
@@ -20,4 +32,35 @@ pub fn parts_are_rewritten_apart()
 pub fn parts_are_the_text()
     ensures { (known : UrlsKnown) → ((line : List ℕ) → IsFrameUrlWithin known line) →
         (text : List ℕ) → flat_map part_bytes (parts_in known text) ≡ text }
+{}
+
+/// JSON stays JSON: if what stands between two quotation marks of a text is the inside of a string of JSON, what it becomes
+/// is one too, whatever maps the URLs have. Exempt are a frame that is a line as a whole, and one that is a chunk as a whole
+/// of a line of more than 65,536 bytes: its URL may have one of the quotation marks.
+pub fn json_stays_json()
+    ensures strings { (known : UrlsKnown) → AreForStrings known →
+        (maps : List ℕ → Option MapRecord) (before inside behind : List ℕ) →
+        IsTrue (is_string_inside inside) → let text = with_marks before inside behind in
+        IsOutsideQuotedFrames known text (length before) →
+        IsOutsideQuotedFrames known text (length before + 1 + length inside) →
+        StaysString known maps before inside behind }
+    ensures parts { (known : UrlsKnown) → AreForStrings known →
+        (text became : List ℕ) (before inside behind : List Part) →
+        parts_in known text ≡ before ++ other 34 ∷ (inside ++ other 34 ∷ behind) →
+        IsTrue (is_string_inside (flat_map part_bytes inside)) → MayBecome AnyMap inside became →
+        IsTrue (is_string_inside became) }
+    ensures known { (maps : MapsSeen) → AreForStrings (urls_known maps) }
+{}
+
+/// A frame whose URL has a file by an argument, a list or a folder, or by a pattern where it is one URL and no more, becomes
+/// anywhere what `rewrite` makes of it over the same maps, unless the name that comes in has a `"` or a `\`. For any other
+/// frame at most a pattern has a file. Longer lines are no frames.
+pub fn frames_are_rewritten_alike()
+    ensures alike { (maps : MapsSeen) (found : MapsByUrl) (line : Line) (parts : FrameParts) →
+        frame_of line.bytes ≡ Some parts → has_file (urls_known maps) line.bytes parts ≡ true →
+        is_from_quotable (original_in parts (found parts.url)) ≡ true →
+        parts_text found (parts_in (urls_known maps) (line_text line))
+        ≡ line_by found (only_ignored false) line }
+    ensures others { (maps : MapsSeen) (line : List ℕ) (parts : FrameParts) →
+        has_file (urls_known maps) line parts ≡ false → IsLeftToPatterns maps line parts }
 {}

@@ -1,6 +1,7 @@
 //! Places of a generated program wherever they stand in a text, as `URL:line:column`, and not only in the frames of a
 //! stack trace: one whose URL has a map and whose place has an original gets it in its stead, and every other byte
 //! stays. Lines and columns count from 1. A text is cut into lines, and long lines into chunks, so they may have any length.
+//! A `UrlFinder` finds the places over what looks like a URL one after another, for whoever has maps read once they are named.
 //!
 //! ```text
 //! let urls = MapUrls::new(alloc, &table, &locations)?;
@@ -9,6 +10,7 @@
 //! ```
 #![tactic(auto)]
 
+mod chunk_line;
 mod chunk_writer;
 mod counting;
 mod frame_url;
@@ -21,6 +23,7 @@ mod parts_writer;
 mod replacement;
 mod rewriting;
 mod seeming_urls;
+mod url_finder;
 mod window;
 
 pub use counting::LineCounter;
@@ -28,3 +31,4 @@ pub use map_urls::MapUrls;
 pub use notes::PlaceNotes;
 pub use rewriting::{PlaceOptions, rewrite_anywhere};
 pub use seeming_urls::SeemingUrls;
+pub use url_finder::{FoundUrl, UrlFinder};

@@ -3,7 +3,7 @@ ghost use Rattle.std.specs.Prelude.{◌≡◌, IfOk};
 ghost use Rattle.smap_anywhere.specs.MapUrls.{has_folder, has_quotation_mark, is_argument, is_name, is_name_by, is_without_query};
 
 use crate::frame_url::frame_url;
-use crate::lengths::Lengths;
+use crate::lengths::each_length;
 use smap_locations::{Locations, without_query};
 use smap_pairs::{KnownUrls, NamedBy};
 use smap_trace::Table;
@@ -46,9 +46,9 @@ impl<'t> MapUrls<'t> {
         let mut all = table.url_lengths(alloc)?;
         let files = locations.url_lengths(alloc)?;
         all.extend_from_slice(&files)?;
-        let names = Lengths::new(alloc, &all)?.each;
+        let names = each_length(alloc, &all)?;
         let folders = locations.prefix_lengths(alloc)?;
-        let prefixes = Lengths::new(alloc, &folders)?.each;
+        let prefixes = each_length(alloc, &folders)?;
         Ok(MapUrls {
             table,
             locations,

@@ -1,6 +1,7 @@
 -- The handles, as the walks take them.
 use Rattle.std.proofs.Common.{refl}
-use Rattle.smap_record.specs.contracts.map_file.MapFile as map_file
+use Rattle.smap_shared.specs.contracts.shared_map.SharedMap as shared_map
+use Rattle.smap_anywhere.specs.contracts.url_finder.UrlFinder as url_finder
 use Rattle.smap_originals.specs.contracts.originals.Originals as originals_index
 use Rattle.smap_tables.specs.contracts.url_table.UrlTable as url_table
 use Rattle.smap_c.specs.contracts.bytes.Bytes as handed
@@ -10,16 +11,18 @@ use Rattle.smap_c.specs.declared.handles.TableHandle.{TableHandle}
 use Rattle.smap_c.specs.declared.handles.InnersHandle.{InnersHandle}
 use Rattle.smap_c.specs.declared.handles.BytesHandle.{BytesHandle}
 use Rattle.smap_c.specs.declared.handles.OriginalsHandle.{OriginalsHandle}
+use Rattle.smap_c.specs.declared.handles.UrlFinderHandle.{UrlFinderHandle}
 use Rattle.smap_c.specs.contracts.handles.MapHandle as map_handle
 use Rattle.smap_c.specs.contracts.handles.TableHandle as table_handle
 use Rattle.smap_c.specs.contracts.handles.InnersHandle as inners_handle
 use Rattle.smap_c.specs.contracts.handles.BytesHandle as bytes_handle
 use Rattle.smap_c.specs.contracts.handles.OriginalsHandle as originals_handle
+use Rattle.smap_c.specs.contracts.handles.UrlFinderHandle as url_finder_handle
 use Rattle.smap_c.proofs.Walks.{Kind}
 
 abbrev pub map : Kind
 map = record {
-  R = map_file.the_row;
+  R = shared_map.the_row;
   name = map_handle.the_type.name;
   D = MapHandle;
   at = λ h. h.at;
@@ -85,4 +88,18 @@ originals = record {
   at_made = λ p o. refl;
   held_made = λ p o. refl;
   codes = originals_handle.the_codes;
+}
+
+abbrev pub finder : Kind
+finder = record {
+  R = url_finder.the_row;
+  name = url_finder_handle.the_type.name;
+  D = UrlFinderHandle;
+  at = λ h. h.at;
+  held = λ h. h.held;
+  make = λ p o. record { at = p; held = o };
+  eta = λ h. refl;
+  at_made = λ p o. refl;
+  held_made = λ p o. refl;
+  codes = url_finder_handle.the_codes;
 }

@@ -5,6 +5,7 @@ pub mod Holders
 pub mod LineLaws
 pub mod Refusals
 pub mod RewriteLaws
+pub mod Sending
 pub mod SizeLaws
 pub mod StepLaws
 pub mod TableLaws

@@ -83,10 +83,10 @@ module _ (N : Kind) where
     beta = λ v g i. (at_made v.0 g.0 i, tt);
   }
 
-  abbrev the_type : Owning
+  abbrev pub the_type : Owning
   the_type = owning struct N.codes (λ d. owns_held R (at d) (held d))
 
-  abbrev B : RattleType
+  abbrev pub B : RattleType
   B = row the_type
 
   abbrev pub of_ended : Ended

@@ -9,6 +9,7 @@ pub mod Look
 pub mod Many
 pub mod Mappings
 pub mod Originals
+pub mod PlaceUrls
 pub mod Owned
 pub mod Private
 pub mod Read

@@ -39,7 +39,7 @@ pub extern "C" fn smap_inners_new(
         × (result ≢ 0 → inners.new.held ≡ inners.old.held) }
     ensures status { (result ≡ 0) ⊎ (result ≡ 3) }
 {
-    let Ok(sources) = u32::try_from(outer.lend().sources()) else {
+    let Ok(sources) = u32::try_from(outer.lend().map().sources()) else {
         return NO_MEMORY;
     };
     let Ok(made) = Inners::new(alloc, sources) else {
@@ -140,7 +140,7 @@ pub extern "C" fn smap_compose_all(
     ensures status { (result ≡ 0) ⊎ (result ≡ 1) ⊎ (result ≡ 3) }
 {
     let places = inners.lend();
-    match all_composed_text(alloc, places.whole_of(outer.lend()), places, options) {
+    match all_composed_text(alloc, places.whole_of(outer.lend().map()), places, options) {
         Ok(text) => hand_out(alloc, text, bytes),
         Err(why) => not_composed(why, refusal),
     }

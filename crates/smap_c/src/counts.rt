@@ -26,7 +26,7 @@ pub extern "C" fn smap_counts(map: &mut MapHandle, counts: &mut Counts) -> u32
     ensures stays { map.new.held ≡ map.old.held }
     ensures status { result ≡ 0 }
 {
-    let file = map.lend();
+    let file = map.lend().map();
     *counts = Counts {
         sections: file.sections(),
         sources: file.sources(),

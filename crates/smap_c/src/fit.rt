@@ -58,7 +58,7 @@ pub extern "C" fn smap_fit(
         *refusal = 1;
         return REFUSED;
     };
-    let Ok(fit) = fit_of(alloc, map.lend(), text) else {
+    let Ok(fit) = fit_of(alloc, map.lend().map(), text) else {
         return NO_MEMORY;
     };
     *counts = counts_of_fit(fit);

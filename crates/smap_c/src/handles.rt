@@ -1,10 +1,12 @@
-//! What C holds: handles, each a pointer that owns a map, a table, inner maps, originals or bytes.
+//! What C holds: handles, each a pointer that owns a map, a table, inner maps, originals, a finder of URLs or bytes.
 ghost use Rattle.std.specs.Prelude.{◌≡◌, List, ℕ, Option, Some, IfErr, IfOk};
 ghost use Rattle.std.specs.Coded.{coded_option};
 ghost use Rattle.smap_record.specs.MapFile.{Map};
+ghost use Rattle.smap_anywhere.specs.FoundUrls.{FinderSeen};
+ghost use Rattle.smap_anywhere.specs.contracts.url_finder.UrlFinder as url_finder;
 ghost use Rattle.smap_originals.specs.contracts.originals.Originals as originals_index;
 ghost use Rattle.smap_originals.specs.declared.place.GeneratedPlace.{GeneratedPlace};
-ghost use Rattle.smap_record.specs.contracts.map_file.MapFile as map_file;
+ghost use Rattle.smap_shared.specs.contracts.shared_map.SharedMap as shared_map;
 ghost use Rattle.smap_tables.specs.UrlTable.{UrlTableSeen};
 ghost use Rattle.smap_tables.specs.contracts.url_table.UrlTable as url_table;
 ghost use Rattle.smap_c.specs.contracts.bytes.Bytes as handed;
@@ -18,27 +20,30 @@ mod making;
 use crate::bytes::Bytes;
 use crate::inners::Inners;
 use crate::loose::Loose;
+use smap_anywhere::UrlFinder;
 use smap_originals::Originals;
-use smap_record::MapFile;
+use smap_shared::SharedMap;
 use smap_tables::UrlTable;
 use std::alloc::Global;
-use std::marker::Model;
+use std::marker::{Model, Send};
 
 /// A handle of a map, or an empty one.
 #[repr(C)]
 #[derive(Drop)]
 pub struct MapHandle {
     at: *mut u8,
-    pub ghost held: { Option Map } by { coded_option map_file.the_row.coded },
+    pub ghost held: { Option Map } by { coded_option shared_map.the_row.coded },
 }
 
 impl Model for MapHandle {
-    ghost also_owns = { λ handle. owns_held map_file.the_row handle.at handle.held };
+    ghost also_owns = { λ handle. owns_held shared_map.the_row handle.at handle.held };
 }
+
+unsafe impl Send for MapHandle {}
 
 impl MapHandle {
     // The handle of this map.
-    fn of(loose: Loose<MapFile, Global>) -> MapHandle
+    fn of(loose: Loose<SharedMap, Global>) -> MapHandle
         ensures { result.held ≡ Some loose.value }
     {
         let Loose { at, alloc: _ } = loose;
@@ -57,6 +62,8 @@ pub struct TableHandle {
 impl Model for TableHandle {
     ghost also_owns = { λ handle. owns_held url_table.the_row handle.at handle.held };
 }
+
+unsafe impl Send for TableHandle {}
 
 impl TableHandle {
     // The handle of this table.
@@ -124,6 +131,8 @@ impl Model for OriginalsHandle {
     ghost also_owns = { λ handle. owns_held originals_index.the_row handle.at handle.held };
 }
 
+unsafe impl Send for OriginalsHandle {}
+
 impl OriginalsHandle {
     // The handle of these originals.
     fn of(loose: Loose<Originals, Global>) -> OriginalsHandle
@@ -131,5 +140,29 @@ impl OriginalsHandle {
     {
         let Loose { at, alloc: _ } = loose;
         OriginalsHandle { at: at as *mut u8 }
+    }
+}
+
+/// A handle of a finder of URLs, or an empty one.
+#[repr(C)]
+#[derive(Drop)]
+pub struct UrlFinderHandle {
+    at: *mut u8,
+    pub ghost held: { Option FinderSeen } by { coded_option url_finder.the_row.coded },
+}
+
+impl Model for UrlFinderHandle {
+    ghost also_owns = { λ handle. owns_held url_finder.the_row handle.at handle.held };
+}
+
+unsafe impl Send for UrlFinderHandle {}
+
+impl UrlFinderHandle {
+    // The handle of this finder.
+    fn of(loose: Loose<UrlFinder, Global>) -> UrlFinderHandle
+        ensures { result.held ≡ Some loose.value }
+    {
+        let Loose { at, alloc: _ } = loose;
+        UrlFinderHandle { at: at as *mut u8 }
     }
 }

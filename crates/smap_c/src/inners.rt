@@ -4,6 +4,7 @@ ghost use Rattle.smap_compose.specs.Inners.{stated_inners};
 ghost use Rattle.smap_c.specs.Inners.{is_free, map_at, no_maps, stated_maps, whole_of};
 
 use smap_record::MapFile;
+use smap_shared::SharedMap;
 use std::alloc::{AllocError, Global};
 use std::marker::Model;
 
@@ -11,13 +12,13 @@ use std::marker::Model;
 #[derive(Drop)]
 pub struct Inners {
     /// What the outer map was composed to, if it was.
-    pub(crate) whole: Option<Box<MapFile>>,
+    pub(crate) whole: Option<Box<SharedMap>>,
     /// By its source, the source whose map that one comes from, where it comes from one.
     pub(crate) leads: Vec<Option<u32>>,
     /// The sources before this one were asked for.
     pub(crate) asked: u32,
     /// At place `s` the map of source `s`, where it has one.
-    pub(crate) maps: Vec<Option<Box<MapFile>>>,
+    pub(crate) maps: Vec<Option<Box<SharedMap>>>,
 }
 
 impl Model for Inners {
@@ -55,7 +56,7 @@ impl Inners {
         ensures { result.now ≡ whole_of outer.now self.now }
     {
         match &self.whole {
-            Some(whole) => &**whole,
+            Some(whole) => whole.map(),
             None => outer,
         }
     }
@@ -75,7 +76,7 @@ impl Inners {
     }
 
     /// Puts the map of this source in its place.
-    pub(crate) fn put(&mut self, source: u32, map: Box<MapFile>)
+    pub(crate) fn put(&mut self, source: u32, map: Box<SharedMap>)
         requires { IsTrue (is_free self.old.maps source) }
         ensures { self.new ≡ record self.old {
           maps = slice_set self.old.maps source (Some map.value);
@@ -92,7 +93,7 @@ impl Inners {
     }
 
     /// Takes the map of this source, which has one, out of its place.
-    pub(crate) fn take(&mut self, source: u32) -> Option<Box<MapFile>>
+    pub(crate) fn take(&mut self, source: u32) -> Option<Box<SharedMap>>
         requires { IsSome (map_at self.old.maps source) }
         ensures map { option_map (λ map. map.value) result ≡ map_at self.old.maps source }
         ensures left { self.new ≡ record self.old { maps = slice_set self.old.maps source None } }
@@ -107,7 +108,7 @@ impl Inners {
         let mut maps = Vec::with_capacity(alloc, self.maps.len())?;
         for place in &self.maps {
             maps.push(match place {
-                Some(map) => Some(&**map),
+                Some(map) => Some(map.map()),
                 None => None,
             })?;
         }

@@ -1,7 +1,7 @@
 //! Source maps for C, and for what calls C: maps are read, explained where they are refused, looked up, counted, written and
 //! composed, mappings encoded, and stack traces rewritten, by the calls of the crates below. What is decided here is which
-//! map a composition in steps asks for next. A map, a table of maps, the inner maps of a map, its originals and bytes that
-//! are handed out stand behind handles, each a pointer that owns what it leads to.
+//! map a composition in steps asks for next. A map, a table of maps, the inner maps of a map, its originals, a finder of URLs
+//! and bytes that are handed out stand behind handles, each a pointer that owns what it leads to.
 //!
 //! ```text
 //! if smap_map_read(alloc, bytes, base, 64, &mut map, &mut refusal) == 0 {
@@ -30,12 +30,14 @@ mod many;
 mod mappings;
 mod originals;
 mod paths;
+mod place_urls;
 mod read;
 mod reason;
 mod refusal;
 mod report;
 mod rewriting;
 mod shares;
+mod sharing;
 mod size;
 mod status;
 mod steps;

@@ -55,7 +55,7 @@ pub extern "C" fn smap_source_lines(
         × AreLines found.content found.range lines.old lines.new)) }
     ensures stays { map.new.held ≡ map.old.held }
 {
-    lines_around(map.lend(), source, line, before, after, lines, range)
+    lines_around(map.lend().map(), source, line, before, after, lines, range)
 }
 
 fn lines_around(

@@ -32,7 +32,7 @@ pub extern "C" fn smap_look_up_many(
     ensures stays { map.new.held ≡ map.old.held }
     ensures status { result ≡ 0 }
 {
-    look_up_all(alloc, map.lend(), positions, found);
+    look_up_all(alloc, map.lend().map(), positions, found);
     DONE
 }
 

@@ -28,7 +28,7 @@ pub extern "C" fn smap_map_mappings(
     ensures stays { (map.new.held ≡ map.old.held) × (result ≢ 0 → bytes.new.held ≡ bytes.old.held) }
     ensures status { (result ≡ 0) ⊎ (result ≡ 3) }
 {
-    match mapping_bytes(alloc, map.lend()) {
+    match mapping_bytes(alloc, map.lend().map()) {
         Ok(all) => hand_out(alloc, all, bytes),
         Err(AllocError) => NO_MEMORY,
     }

@@ -33,7 +33,7 @@ pub extern "C" fn smap_originals_new(
         × (result ≢ 0 → originals.new.held ≡ originals.old.held) }
     ensures status { (result ≡ 0) ⊎ (result ≡ 3) }
 {
-    let Ok(made) = Originals::new(alloc, map.lend()) else {
+    let Ok(made) = Originals::new(alloc, map.lend().map()) else {
         return NO_MEMORY;
     };
     match OriginalsHandle::new(alloc, made) {

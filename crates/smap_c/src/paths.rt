@@ -3,20 +3,24 @@ ghost use Rattle.std.specs.Prelude.{◌≡◌, ◌≢◌, ◌⊎◌, IsSome, opt
 ghost use Rattle.smap_names.specs.ByPath.{map_by_path};
 
 use crate::handles::MapHandle;
-use crate::status::{DONE, NO_MEMORY};
+use crate::status::{DONE, NO_MEMORY, REFUSED};
 use smap_names::name_sources_by_path;
 use std::alloc::Global;
 
 /// Names the sources of a map by the URL at which it stands, where that is a path from a root: each whose name is kept as it
-/// stands in the map, and a relative path, gets the one that goes on from the folder of the URL.
+/// stands in the map, and a relative path, gets the one that goes on from the folder of the URL. A map that something else
+/// holds, too, is refused: what another holds never changes.
 #[unsafe(no_mangle)]
 pub extern "C" fn smap_map_use_paths(alloc: Global, map: &mut MapHandle, url: &[u8]) -> u32
     requires { IsSome map.old.held }
     ensures named { result ≡ 0 → map.new.held ≡ option_map (map_by_path url.now) map.old.held }
     ensures stays { result ≢ 0 → map.new.held ≡ map.old.held }
-    ensures status { (result ≡ 0) ⊎ (result ≡ 3) }
+    ensures status { (result ≡ 0) ⊎ (result ≡ 1) ⊎ (result ≡ 3) }
 {
-    match name_sources_by_path(alloc, map.lend(), url) {
+    let Some(only) = map.lend().only() else {
+        return REFUSED;
+    };
+    match name_sources_by_path(alloc, only, url) {
         Ok(()) => DONE,
         Err(_no_memory) => NO_MEMORY,
     }

@@ -43,7 +43,7 @@ pub extern "C" fn smap_bytes_by_source(
         *refusal = 1;
         return REFUSED;
     };
-    let Ok(counted) = bytes_by_source(alloc, map.lend(), text) else {
+    let Ok(counted) = bytes_by_source(alloc, map.lend().map(), text) else {
         return NO_MEMORY;
     };
     sources.copy_from_slice(&counted.sources);

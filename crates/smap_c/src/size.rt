@@ -27,7 +27,7 @@ pub extern "C" fn smap_map_size(map: &mut MapHandle, size: &mut u64) -> u32
     ensures stays { map.new.held ≡ map.old.held }
     ensures status { result ≡ 0 }
 {
-    *size = map_size(map.lend());
+    *size = map_size(map.lend().map());
     DONE
 }
 

@@ -15,6 +15,7 @@ use crate::texts::Text;
 use crate::written::not_composed;
 use smap_compose::ComposeRefusal;
 use smap_record::{MapFile, source_name};
+use smap_shared::SharedMap;
 use std::alloc::{AllocError, Global};
 
 // How many segments stand between the checkpoints of a map that others came to.
@@ -48,7 +49,7 @@ pub extern "C" fn smap_inners_next(
         × (result ≢ 0 → (result ≢ 1) ⊎ (refusal.new ≢ 0) → inners.new.held ≡ inners.old.held) }
     ensures status { (result ≡ 0) ⊎ (result ≡ 1) ⊎ (result ≡ 3) }
 {
-    match inners.lend().next(alloc, outer.lend()) {
+    match inners.lend().next(alloc, outer.lend().map()) {
         Ok(Some(asked)) => {
             *source = asked;
             DONE
@@ -76,7 +77,7 @@ pub extern "C" fn smap_inners_name<'a>(
         ((result ≡ 1) × (name.new ≡ name.old))
         (λ text. (result ≡ 0) × (name.new.text.now ≡ text)))) }
 {
-    match name_of(inners.lend().whole_of(outer.lend()), source) {
+    match name_of(inners.lend().whole_of(outer.lend().map()), source) {
         Some(text) => {
             name.text = text.as_bytes();
             DONE
@@ -166,10 +167,7 @@ impl Inners {
         let mut next = Inners::new(alloc, sources)?;
         next.leads = self.further_leads(alloc)?;
         next.asked = self.places();
-        let Ok(whole) = Box::new(alloc, whole) else {
-            return Err(ComposeRefusal::Memory);
-        };
-        next.whole = Some(whole);
+        next.whole = Some(boxed(alloc, whole)?);
         *self = next;
         Ok(())
     }
@@ -183,6 +181,13 @@ impl Inners {
         push_leads(&self.maps, &mut leads)?;
         Ok(leads)
     }
+}
+
+// A map that nothing else holds, in its box.
+fn boxed(alloc: Global, map: MapFile) -> Result<Box<SharedMap>, AllocError>
+    ensures { IfOk result (λ held. held.value ≡ map) }
+{
+    Ok(Box::new(alloc, SharedMap::new(alloc, map)?)?)
 }
 
 // Whether one of the sources that lead to this one has this name.
@@ -213,7 +218,7 @@ fn lead_of(leads: &[Option<u32>], source: u32) -> Option<u32>
 }
 
 // Whether one of these places has a map.
-fn is_any_map(places: &[Option<Box<MapFile>>]) -> bool
+fn is_any_map(places: &[Option<Box<SharedMap>>]) -> bool
     ensures { result ≡ list_any is_some (maps_held places.now) }
 {
     for place in places {
@@ -226,7 +231,7 @@ fn is_any_map(places: &[Option<Box<MapFile>>]) -> bool
 
 // Pushes, for each source of the maps in these places, the source whose place the map is in.
 fn push_leads(
-    places: &[Option<Box<MapFile>>],
+    places: &[Option<Box<SharedMap>>],
     leads: &mut Vec<Option<u32>>,
 ) -> Result<(), AllocError>
     requires { length places.now < 2 ^ 32 }
@@ -235,7 +240,7 @@ fn push_leads(
 {
     for (source, place) in places.iter().enumerate() {
         if let Some(map) = place {
-            push_times(Some(source as u32), map.sources(), leads)?;
+            push_times(Some(source as u32), map.map().sources(), leads)?;
         }
     }
     Ok(())

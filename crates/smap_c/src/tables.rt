@@ -46,6 +46,32 @@ pub extern "C" fn smap_table_add(
     ensures stays { result ≢ 0 → table.new.held ≡ table.old.held }
     ensures status { (result ≡ 0) ⊎ (result ≡ 1) ⊎ (result ≡ 3) }
 {
+    let status = smap_table_add_shared(alloc, table, url, map, refusal);
+    if status != REFUSED {
+        map.empty(alloc);
+    }
+    status
+}
+
+/// The same, where the table holds the map with its handle, which stays as it is.
+#[unsafe(no_mangle)]
+pub extern "C" fn smap_table_add_shared(
+    alloc: Global,
+    table: &mut TableHandle,
+    url: &[u8],
+    map: &mut MapHandle,
+    refusal: &mut u32,
+) -> u32
+    requires table { IsSome table.old.held }
+    requires map { IsSome map.old.held }
+    ensures added { result ≡ 0 → IsAdded table.old.held url.now map.old.held table.new.held }
+    ensures sound { result ≢ 1 → IsFree table.old.held url.now }
+    ensures refused { result ≡ 1 → IsNotAdded table.old.held url.now refusal.new }
+    ensures unreported { result ≢ 1 → refusal.new ≡ refusal.old }
+    ensures stays { (map.new.held ≡ map.old.held)
+        × (result ≢ 0 → table.new.held ≡ table.old.held) }
+    ensures status { (result ≡ 0) ⊎ (result ≡ 1) ⊎ (result ≡ 3) }
+{
     let Ok(text) = str::from_utf8(url) else {
         *refusal = 0;
         return REFUSED;
@@ -54,8 +80,10 @@ pub extern "C" fn smap_table_add(
         *refusal = refused.code().number();
         return REFUSED;
     }
-    let file = map.empty(alloc);
-    match table.lend().add(alloc, text, file) {
+    let Ok(share) = map.lend().share() else {
+        return NO_MEMORY;
+    };
+    match table.lend().add(alloc, text, share) {
         Ok(()) => DONE,
         Err(_no_memory) => NO_MEMORY,
     }

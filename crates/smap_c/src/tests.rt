@@ -9,8 +9,10 @@ mod fit;
 mod mappings;
 mod originals;
 mod paths;
+mod place_urls;
 mod places;
 mod shares;
+mod sharing;
 
 use crate::bytes::Bytes;
 use crate::counts::{Counts, smap_counts};

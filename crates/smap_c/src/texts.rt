@@ -42,7 +42,7 @@ pub extern "C" fn smap_source<'a>(
         ((result ≡ 1) × (source.new ≡ source.old))
         (λ stated. (result ≡ 0) × IsReported stated source.new)) }
 {
-    match map.lend().source(index) {
+    match map.lend().map().source(index) {
         Some(entry) => {
             *source = reported(entry);
             DONE
@@ -91,7 +91,7 @@ pub extern "C" fn smap_name<'a>(map: &'a mut MapHandle, index: u32, name: &mut T
         ((result ≡ 1) × (name.new ≡ name.old))
         (λ text. (result ≡ 0) × (name.new.text.now ≡ text))) }
 {
-    match map.lend().name(index) {
+    match map.lend().map().name(index) {
         Some(text) => {
             name.text = text.as_bytes();
             DONE
@@ -108,7 +108,7 @@ pub extern "C" fn smap_file<'a>(map: &'a mut MapHandle, file: &mut Text<'a>) -> 
         ((result ≡ 1) × (file.new ≡ file.old))
         (λ text. (result ≡ 0) × (file.new.text.now ≡ text))) }
 {
-    match map.lend().file() {
+    match map.lend().map().file() {
         Some(text) => {
             file.text = text.as_bytes();
             DONE

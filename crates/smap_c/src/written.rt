@@ -30,7 +30,7 @@ pub extern "C" fn smap_map_write(alloc: Global, map: &mut MapHandle, bytes: &mut
     ensures stays { (map.new.held ≡ map.old.held) × (result ≢ 0 → bytes.new.held ≡ bytes.old.held) }
     ensures status { (result ≡ 0) ⊎ (result ≡ 1) ⊎ (result ≡ 3) }
 {
-    match map.lend().write(alloc) {
+    match map.lend().map().write(alloc) {
         Ok(text) => hand_out(alloc, text, bytes),
         Err(WriteRefusal::TextTooLong) => REFUSED,
         Err(WriteRefusal::Memory) => NO_MEMORY,
@@ -64,7 +64,7 @@ pub extern "C" fn smap_compose(
         × (result ≢ 0 → bytes.new.held ≡ bytes.old.held) }
     ensures status { (result ≡ 0) ⊎ (result ≡ 1) ⊎ (result ≡ 3) }
 {
-    match compose(alloc, outer.lend(), source, inner.lend()) {
+    match compose(alloc, outer.lend().map(), source, inner.lend().map()) {
         Ok(composed) => match composed.write_owned(alloc) {
             Ok(text) => hand_out(alloc, text, bytes),
             Err(_) => NO_MEMORY,

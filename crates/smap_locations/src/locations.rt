@@ -170,8 +170,8 @@ impl Locations {
         self.patterns.has_in_text(url, without_query(url))
     }
 
-    /// Whether what is named for a URL, but for patterns, has a path: a file that is named for the URL, or for it without its
-    /// query and its fragment; or the folder of the longest prefix. The call takes no memory.
+    /// Whether what is named for a URL, but for patterns, has a path: a file that is named for the URL, or for it without
+    /// its query and its fragment; or the folder of the longest prefix. The call takes no memory.
     pub fn has_path_as_named(&self, url: &[u8]) -> bool
         ensures { result ≡ has_path_as_named self.now url.now }
     {

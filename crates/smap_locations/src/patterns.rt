@@ -84,8 +84,8 @@ impl Patterns {
             .any(|pattern| pattern.has_in_text(url, short))
     }
 
-    /// Whether the one that decides for a URL gives a path, where those with an empty text decide for none. The URL is `short`
-    /// without its query and its fragment.
+    /// Whether the one that decides for a URL gives a path, where those with an empty text decide for none. The URL is
+    /// `short` without its query and its fragment.
     pub fn has_path_in_text(&self, url: &[u8], short: &[u8]) -> bool
         ensures { result ≡ has_path_in_text self.now url.now short.now }
     {

@@ -15,6 +15,8 @@ mod records;
 #[cfg(test)]
 mod same;
 #[cfg(test)]
+mod shared;
+#[cfg(test)]
 mod shown;
 #[cfg(test)]
 mod transfer;

@@ -24,7 +24,7 @@ pub record IsFrameFrom (pairs : List Pair) (from : ℕ) (span : Span) : Type 0 w
   pub found : at span.url_end pairs ≡ Some pair
   pub end : span.end ≡ pair.end
 
-found_at : (start : ℕ) (pairs : List Pair) (pair : Pair) → at start pairs ≡ Some pair → pair.start ≡ start
+pub found_at : (start : ℕ) (pairs : List Pair) (pair : Pair) → at start pairs ≡ Some pair → pair.start ≡ start
 found_at start [] pair found = absurd (cc)
 found_at start (one ∷ pairs) pair found = go (one.start == start) refl found (found_at start pairs pair)
   where

@@ -26,7 +26,6 @@ mod WordExamples
 mod BehindLaws
 mod NamedLaws
 mod MostLaws
-mod NumberLaws
 mod RestLaws
 mod NotingLaws
 mod PairAtLaws
@@ -39,3 +38,12 @@ pub mod SpansLaws
 mod LinePlacesExamples
 mod ChunkLaws
 mod ChunkExamples
+pub mod JsonLaws
+mod JsonExamples
+mod EscapeStates
+mod EdgeStates
+mod OpenStates
+pub mod NamedPlaces
+mod QuoteStates
+mod WordPlaces
+pub mod StringPlaceLaws

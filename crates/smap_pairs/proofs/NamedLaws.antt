@@ -23,10 +23,6 @@ pub among_slice : (test : List ℕ → Bool) (lengths text : List ℕ) (at end :
 among_slice test lengths text at end covers order within on =
     ap (is_among lengths) (sym (slice_size text at end order within)) ∙ covers (slice_range text at end) on
 
-pub both_first : (one other : Bool) → (one && other) ≡ true → one ≡ true
-both_first true other is = refl
-both_first false other is = cc
-
 pub both_rest : (one other : Bool) → (one && other) ≡ true → other ≡ true
 both_rest true other is = is
 both_rest false other is = cc

@@ -47,7 +47,7 @@ some_passes test n (suc most) some within on = elim (cases_lt n (suc most)) [
     here true is = omega arith
     here false is = absurd (cc)
 
-most_is : (has : ℕ → ℕ) (end : ℕ) → 0 < most_below has end → (n : ℕ) × (n < end) × (has n ≡ most_below has end)
+pub most_is : (has : ℕ → ℕ) (end : ℕ) → 0 < most_below has end → (n : ℕ) × (n < end) × (has n ≡ most_below has end)
 most_is has zero some = absurd (omega (arith, some))
 most_is has (suc end) some = elim (cases_lt (most_below has end) (has end)) [
   | inl more ↦ (end, omega arith, omega (arith, more))

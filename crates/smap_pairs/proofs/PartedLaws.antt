@@ -29,7 +29,7 @@ IsFrom begin line = begin ≤ line.start
 abbrev IsMarkFrom : (begin : ℕ) → Mark → Type 0
 IsMarkFrom begin mark = begin ≤ mark.start
 
-some_line : (P : VirtualLine → Type 0) (lines : List VirtualLine) (i : ℕ) → All P lines → IfSome (slice_get lines i) P
+pub some_line : (P : VirtualLine → Type 0) (lines : List VirtualLine) (i : ℕ) → All P lines → IfSome (slice_get lines i) P
 some_line P [] i all = tt
 some_line P (line ∷ lines) zero all = All-head P line lines all
 some_line P (line ∷ lines) (suc i) all = some_line P lines i (All-tail P line lines all)

@@ -41,7 +41,7 @@ rest_of zero byte text some = absurd (omega arith)
 rest_of (suc many) byte text some =
     let same : suc many - 1 ≡ many = omega arith in rw same (ap (λ l. byte ∷ l) (take-append-drop many text))
 
-all_bytes : (skip : ℕ) (text : List ℕ) → bytes_seen (counted_from skip text) ≡ drop skip text
+pub all_bytes : (skip : ℕ) (text : List ℕ) → bytes_seen (counted_from skip text) ≡ drop skip text
 unfolding counted_from
 all_bytes zero [] = refl
 all_bytes (suc skip) [] = refl
@@ -54,7 +54,7 @@ all_bytes zero (byte ∷ text) =
     ∙ ap (λ l. take (token_size token) (byte ∷ text) ++ l) (all_bytes (token_size token - 1) text)
     ∙ rest_of (token_size token) byte text (some_bytes token (byte ∷ text) fits)
 
-settled_byte : (before : List SeenByte) (one : SeenByte) (text : List ℕ) → (settled before one text).byte ≡ one.byte
+pub settled_byte : (before : List SeenByte) (one : SeenByte) (text : List ℕ) → (settled before one text).byte ≡ one.byte
 unfolding settled
 settled_byte before one text = go (is_before_path one text) (is_apostrophe before one text)
   where
@@ -64,7 +64,7 @@ settled_byte before one text = go (is_before_path one text) (is_apostrophe befor
     go false true = refl
     go false false = refl
 
-settled_bytes : (before : List SeenByte) (text : List ℕ) (seen : List SeenByte) → bytes_seen (settled_from before text seen) ≡ bytes_seen seen
+pub settled_bytes : (before : List SeenByte) (text : List ℕ) (seen : List SeenByte) → bytes_seen (settled_from before text seen) ≡ bytes_seen seen
 unfolding settled_from
 settled_bytes before text [] = refl
 settled_bytes before text (one ∷ seen) =

@@ -23,10 +23,10 @@ use Rattle.smap_pairs.proofs.PartedLaws.{IsFrom, IsLater, all_later, lines_of_tw
 -- ---- the places of a line
 
 -- a pair is the one of several that begins where it does
-abbrev IsFound : List Pair → Pair → Type 0
+abbrev pub IsFound : List Pair → Pair → Type 0
 IsFound pairs pair = at pair.start pairs ≡ Some pair
 
-all_found : (bytes piece : ℕ) (before pairs : List Pair) → AreInOrder piece bytes (before ++ pairs) → All (IsFound (before ++ pairs)) pairs
+pub all_found : (bytes piece : ℕ) (before pairs : List Pair) → AreInOrder piece bytes (before ++ pairs) → All (IsFound (before ++ pairs)) pairs
 all_found bytes piece before [] order = All-nil (IsFound (before ++ []))
 all_found bytes piece before (pair ∷ pairs) order =
     let same : (before ++ pair ∷ []) ++ pairs ≡ before ++ pair ∷ pairs = append_assoc before (pair ∷ []) pairs in

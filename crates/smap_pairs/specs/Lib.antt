@@ -28,3 +28,5 @@ pub mod LinePlaces
 pub mod Spans
 pub mod Chunks
 pub mod Private
+pub mod Json
+pub mod StringPlaces

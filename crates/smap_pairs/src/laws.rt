@@ -5,9 +5,14 @@ ghost use Rattle.smap_lines.specs.Lines.{IsWholeLines};
 ghost use Rattle.smap_pairs.specs.Apart.{AreAmong, AreApart, HasNoMark, HasNoQuotationMark};
 ghost use Rattle.smap_pairs.specs.Apart.{HasWhole, IsClearOf, in_turn};
 ghost use Rattle.smap_pairs.specs.Chunks.{IsCutOfLine, cut_bytes, cuts_of};
+ghost use Rattle.smap_pairs.specs.Json.{InString};
+ghost use Rattle.smap_pairs.specs.Known.{UrlsKnown};
+ghost use Rattle.smap_pairs.specs.LinePlaces.{places_in};
 ghost use Rattle.smap_pairs.specs.Marks.{marks_of};
 ghost use Rattle.smap_pairs.specs.Pairs.{IsPairOf};
 ghost use Rattle.smap_pairs.specs.Seen.{seen_of};
+ghost use Rattle.smap_pairs.specs.StringPlaces.{AreForStrings, BeginsAnew};
+ghost use Rattle.smap_pairs.specs.StringPlaces.{IsWithoutQuotationMark, StandsBetween};
 ghost use Rattle.smap_pairs.specs.VirtualLines.{line_of_byte, lines_of_strings, marks_of_strings, virtual_lines};
 ghost use Rattle.smap_pairs.specs.declared.marks.Mark.{Mark};
 ghost use Rattle.smap_pairs.specs.declared.pairs.Pair.{Pair};
@@ -66,4 +71,14 @@ pub fn lines_are_cut_apart()
 /// A chunk stands in one line: it has an LF at most as its last byte, and without that at most 65,536.
 pub fn chunks_are_in_one_line()
     ensures { (text : List ℕ) → All IsCutOfLine (cuts_of text) }
+{}
+
+/// Where a line is a part of strings of JSON, each of its places begins and ends between two characters of one, and never
+/// within an escape; and none has a quotation mark, but that of the frame which the line is as a whole.
+pub fn places_stay_in_strings()
+    ensures between { (known : UrlsKnown) → AreForStrings known →
+        (state : InString) (line : List ℕ) → BeginsAnew state line →
+        All (StandsBetween state line) (places_in known line (seen_of line)) }
+    ensures quotation_marks { (known : UrlsKnown) → AreForStrings known → (line : List ℕ) →
+        All (IsWithoutQuotationMark known line) (places_in known line (seen_of line)) }
 {}

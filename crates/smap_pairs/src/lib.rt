@@ -48,7 +48,7 @@ pub use frame_url::is_for_pattern;
 pub use known::{KnownUrls, NamedBy};
 pub use line_places::{LinePlaces, Span};
 pub use marks::{Mark, marks_into};
-pub use numbers::{MOST_NUMBERS, find_candidate, find_numbers, numbers_after};
+pub use numbers::numbers_after;
 pub use pairs::{Pair, next_pair, pairs_in_line};
 pub use seen::{NOTHING, SeenByte, see_into};
 pub use virtual_lines::{VirtualLine, line_of_byte, lines_of_strings_into, virtual_lines_into};

@@ -201,8 +201,9 @@ impl LineSeen<'_> {
         requires seen { IsLineSeen self.now }
         requires piece { pair.now.piece ≤ pair.now.start }
         requires within { pair.now.start ≤ length self.now.text.now }
-        ensures place { IfOk result (λ place. place ≡ or_else in_line pair.now (or_else in_string pair.now
-            (or_else line.place pair.now (pair_place (K.known known.now) self.now.text.now self.now.seen.now
+        ensures place { IfOk result (λ place. place ≡ or_else in_line pair.now
+            (or_else in_string pair.now (or_else line.place pair.now
+            (pair_place (K.known known.now) self.now.text.now self.now.seen.now
             (start_of (slice_get self.now.lines.now line.index)) pair.now)))) }
         ensures room { HasRoom (most_noted (length self.now.text.now)) behind.old → IsOk result }
         ensures keeps_room { KeepsRoom behind.old behind.new }
@@ -229,7 +230,8 @@ impl LineSeen<'_> {
             self.now.seen.now self.now.pairs.now (slice_get lines.now before.index) }
         ensures index { IfOk result (λ framed. framed.index ≡ line_of_byte lines.now byte) }
         ensures frame { IfOk result (λ framed. framed.place ≡ frame_in (K.known known.now)
-            self.now.text.now self.now.seen.now self.now.pairs.now (slice_get lines.now framed.index)) }
+            self.now.text.now self.now.seen.now self.now.pairs.now
+            (slice_get lines.now framed.index)) }
         ensures room { length self.now.text.now ≤ vec_capacity halves.old → IsOk result }
         ensures capacity { vec_capacity halves.old ≤ vec_capacity halves.new }
     {
@@ -280,8 +282,8 @@ impl LineSeen<'_> {
         requires start { start ≤ pair.now.start }
         requires end { pair.now.start ≤ length self.now.text.now }
         requires seen { pair.now.start ≤ length self.now.seen.now }
-        ensures place { IfOk result (λ place. place ≡ frame_span (K.known known.now) self.now.text.now
-            self.now.seen.now line pair.now start) }
+        ensures place { IfOk result (λ place. place ≡ frame_span (K.known known.now)
+            self.now.text.now self.now.seen.now line pair.now start) }
         ensures room { length self.now.text.now ≤ vec_capacity halves.old → IsOk result }
         ensures capacity { vec_capacity halves.old ≤ vec_capacity halves.new }
     {
@@ -333,8 +335,8 @@ impl LineSeen<'_> {
         requires seen { IsLineSeen self.now }
         requires piece { pair.now.piece ≤ pair.now.start }
         requires within { pair.now.start ≤ length self.now.text.now }
-        ensures place { IfOk result (λ place. place ≡ pair_place (K.known known.now) self.now.text.now
-            self.now.seen.now line_start pair.now) }
+        ensures place { IfOk result (λ place. place ≡ pair_place (K.known known.now)
+            self.now.text.now self.now.seen.now line_start pair.now) }
         ensures room { HasRoom (most_noted (length self.now.text.now)) behind.old → IsOk result }
         ensures keeps_room { KeepsRoom behind.old behind.new }
     {

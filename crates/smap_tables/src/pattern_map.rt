@@ -4,12 +4,13 @@ ghost use Rattle.smap_by_text.specs.ByText.{value_under};
 ghost use Rattle.smap_tables.specs.PatternSeen.{pattern_seen};
 
 use smap_record::MapFile;
+use smap_shared::SharedMap;
 
 /// The text of a pattern, which stands behind `*`, and its map.
 #[derive(Drop)]
 pub struct PatternMap {
     pub text: Vec<u8>,
-    pub map: MapFile,
+    pub map: SharedMap,
 }
 
 /// The map of the pattern of this text, where there is one.
@@ -19,7 +20,7 @@ pub fn map_of_text<'p>(patterns: &'p [PatternMap], text: &[u8]) -> Option<&'p Ma
 {
     for pattern in patterns {
         if text == pattern.text.as_slice() {
-            return Some(&pattern.map);
+            return Some(pattern.map.map());
         }
     }
     None

@@ -1,11 +1,13 @@
 //! Maps under URLs, and under patterns of URLs.
 ghost use Rattle.std.specs.Prelude.{◌≡◌, [], None, is_some, option_map, OnErr, OnOk};
 ghost use Rattle.smap_by_text.specs.ByText.{value_under};
+ghost use Rattle.smap_trace.specs.Table.{url_refusal as word_refusal};
 ghost use Rattle.smap_tables.specs.UrlTable.{IsAdded, IsWithPattern, IsWithWord, entry_map, locations_of, map_by_pattern, map_under, url_refusal};
 
 use crate::pattern_map::{PatternMap, map_of_text};
 use smap_locations::{Locations, pattern_text, without_query};
 use smap_record::MapFile;
+use smap_shared::SharedMap;
 use smap_store::asks_no_file;
 use smap_trace::{Table, TableRefusal, is_bad_url};
 use std::alloc::{AllocError, Global};
@@ -85,9 +87,9 @@ impl UrlTable {
         self.has_pattern(b"")
     }
 
-    /// Puts a map into the table, under its URL or under `*` and the text of its pattern. Where memory runs out, nothing is
-    /// changed.
-    pub fn add(&mut self, alloc: Global, url: &str, map: MapFile) -> Result<(), AllocError>
+    /// Puts a map, which others may hold, too, into the table, under its URL or under `*` and the text of its pattern. Where
+    /// memory runs out, nothing is changed.
+    pub fn add(&mut self, alloc: Global, url: &str, map: SharedMap) -> Result<(), AllocError>
         requires { url_refusal self.old url.now ≡ None }
         ensures added { OnOk result (IsAdded self.old url.now map.stated self.new) }
         ensures kept { OnErr result (self.new ≡ self.old) }
@@ -99,19 +101,17 @@ impl UrlTable {
     }
 
     // Puts a map under a URL. Where that can't be, nothing is changed.
-    fn add_word(&mut self, alloc: Global, url: &str, map: MapFile) -> Result<(), AllocError>
+    fn add_word(&mut self, alloc: Global, url: &str, map: SharedMap) -> Result<(), AllocError>
+        requires { word_refusal self.old.words url.now ≡ None }
         ensures added { OnOk result (IsWithWord self.old url.now map.stated self.new) }
         ensures kept { OnErr result (self.new ≡ self.old) }
     {
-        let owned = String::from_str(alloc, url)?;
-        match self.words.add(owned, map) {
-            Ok(()) => Ok(()),
-            Err(_) => Err(AllocError),
-        }
+        let owned = Vec::from_slice(alloc, url.as_bytes())?;
+        self.words.add_shared(owned, map)
     }
 
     // Puts a map under the text of a pattern. Where that can't be, nothing is changed.
-    fn add_pattern(&mut self, alloc: Global, text: &[u8], map: MapFile) -> Result<(), AllocError>
+    fn add_pattern(&mut self, alloc: Global, text: &[u8], map: SharedMap) -> Result<(), AllocError>
         ensures added { OnOk result (IsWithPattern self.old text.now map.stated self.new) }
         ensures kept { OnErr result (self.new ≡ self.old) }
     {

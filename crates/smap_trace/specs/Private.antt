@@ -1,5 +1,6 @@
 -- What contracts of private functions alone cite.
 pub mod EndNumber
+pub mod EntrySeen
 pub mod LocationSeen
 pub mod Remembered
 pub mod FrameRewriter

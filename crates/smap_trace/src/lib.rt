@@ -13,6 +13,7 @@
 mod beside;
 mod cuts;
 mod end_number;
+mod entry;
 mod frame_rewriter;
 mod frames;
 mod hiding;

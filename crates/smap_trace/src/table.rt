@@ -1,31 +1,34 @@
 //! The maps of a trace.
-ghost use Rattle.std.specs.Prelude.{◌≡◌, [], string_bytes, option_map, MatchOption, OnOk, OnErr, IfErr, IfOk, IsErrAnd, length, map};
+ghost use Rattle.std.specs.Prelude.{◌≡◌, [], string_bytes, option_map, MatchOption, OnOk, OnErr, IfErr, IfOk, IsErrAnd, None, length, map};
 ghost use Rattle.std.specs.Str.{IsUtf8};
 ghost use Rattle.smap_by_text.specs.ByText.{IsWith, value_under};
 ghost use Rattle.smap_by_text.specs.Common.{common_of};
 ghost use Rattle.smap_trace.specs.Table.{is_bad_url, url_refusal};
 ghost use Rattle.smap_trace.specs.declared.refusal.TableRefusal.TheVariants.{Memory};
 
+use crate::entry::Entry;
 use crate::refusal::TableRefusal;
 use smap_by_text::ByText;
 use smap_record::MapFile;
+use smap_shared::SharedMap;
 use std::alloc::{AllocError, AllocFailed, Global};
 use std::marker::Model;
 
 /// The maps of a trace, each under the URL that its frames name.
 #[derive(Drop)]
 pub struct Table {
-    maps: ByText<MapFile>,
+    maps: ByText<Entry>,
 }
 
 impl Model for Table {
     ghost use Rattle.std.specs.Prelude.{ℕ, List};
     ghost use Rattle.smap_by_text.specs.ByText.{all_seen};
     ghost use Rattle.smap_record.specs.Record.{MapRecord};
+    ghost use Rattle.smap_trace.specs.Private.EntrySeen.{entry_seen};
 
     ghost Value = { List (List ℕ × MapRecord) };
 
-    ghost view = { λ table. all_seen (λ map. map.stated) table.maps };
+    ghost view = { λ table. all_seen entry_seen table.maps };
 }
 
 impl Table {
@@ -53,9 +56,29 @@ impl Table {
         if self.map_for(url.as_str().as_bytes()).is_some() {
             return Err((TableRefusal::Twice, url, map));
         }
-        match self.maps.add(url.into_bytes(), map) {
+        match self.maps.add(url.into_bytes(), Entry::Own(map)) {
             Ok(()) => Ok(()),
-            Err(AllocFailed { value: (url, map) }) => Err((TableRefusal::Memory, text(url), map)),
+            Err(
+                AllocFailed {
+                    value: (url, entry),
+                },
+            ) => match entry {
+                Entry::Own(map) => Err((TableRefusal::Memory, text(url), map)),
+                Entry::Shared(_) => unreachable!("the map is the table's own"),
+            },
+        }
+    }
+
+    /// Puts a map that others may hold, too, into the table, under a URL that it takes. Where memory runs out, nothing is
+    /// changed.
+    pub fn add_shared(&mut self, url: Vec<u8>, map: SharedMap) -> Result<(), AllocError>
+        requires { url_refusal self.old url.items ≡ None }
+        ensures added { OnOk result (IsWith self.old url.items map.stated self.new) }
+        ensures kept { OnErr result (self.new ≡ self.old) }
+    {
+        match self.maps.add(url, Entry::Shared(map)) {
+            Ok(()) => Ok(()),
+            Err(_) => Err(AllocError),
         }
     }
 
@@ -84,7 +107,10 @@ impl Table {
     pub fn map_for(&self, url: &[u8]) -> Option<&MapFile>
         ensures { option_map (λ map. map.now.stated) result ≡ value_under url.now self.now }
     {
-        self.maps.get(url)
+        match self.maps.get(url) {
+            Some(entry) => Some(entry.map()),
+            None => None,
+        }
     }
 }
 

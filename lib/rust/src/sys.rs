@@ -34,6 +34,11 @@ pub struct smap_originals {
 }
 
 #[repr(C)]
+pub struct smap_url_finder {
+    pub at: *mut c_void,
+}
+
+#[repr(C)]
 pub struct smap_bytes {
     pub at: *mut c_void,
 }
@@ -207,6 +212,15 @@ pub struct smap_frame_url {
     pub next: usize,
 }
 
+#[repr(C)]
+#[derive(Default)]
+pub struct smap_place_url {
+    pub start: usize,
+    pub length: usize,
+    pub next: usize,
+    pub halved: u32,
+}
+
 extern "C" {
     pub fn smap_map_read(
         bytes: *const u8,
@@ -228,6 +242,7 @@ extern "C" {
         refusal: *mut smap_refusal,
     ) -> u32;
     pub fn smap_map_use_paths(map: *mut smap_map, url: *const u8, length: usize) -> u32;
+    pub fn smap_map_share(map: *mut smap_map, other: *mut smap_map) -> u32;
     pub fn smap_map_free(map: *mut smap_map);
     pub fn smap_refusal_text(refusal: *const smap_refusal, bytes: *mut smap_bytes) -> u32;
     pub fn smap_refusal_explain(
@@ -350,6 +365,13 @@ extern "C" {
         map: *mut smap_map,
         refusal: *mut u32,
     ) -> u32;
+    pub fn smap_table_add_shared(
+        table: *mut smap_table,
+        url: *const u8,
+        url_length: usize,
+        map: *mut smap_map,
+        refusal: *mut u32,
+    ) -> u32;
     pub fn smap_table_refusal_text(refusal: u32, text: *mut smap_text) -> u32;
     pub fn smap_table_look_up(
         table: *const smap_table,
@@ -404,6 +426,15 @@ extern "C" {
         from: usize,
         found: *mut smap_frame_url,
     ) -> u32;
+    pub fn smap_url_finder_new(finder: *mut smap_url_finder) -> u32;
+    pub fn smap_next_place_url(
+        finder: *mut smap_url_finder,
+        text: *const u8,
+        length: usize,
+        from: usize,
+        found: *mut smap_place_url,
+    ) -> u32;
+    pub fn smap_url_finder_free(finder: *mut smap_url_finder);
 }
 
 #[cfg(test)]

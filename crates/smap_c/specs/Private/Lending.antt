@@ -2,9 +2,11 @@
 use Rattle.std.specs.Prelude.{List, ℕ, Some}
 use Rattle.std.specs.Borrow.{Lends, MutBor, Fml}
 use Rattle.smap_record.specs.MapFile.{Map}
-use Rattle.smap_record.specs.contracts.map_file.MapFile as map_file
+use Rattle.smap_shared.specs.contracts.shared_map.SharedMap as shared_map
 use Rattle.smap_tables.specs.UrlTable.{UrlTableSeen}
 use Rattle.smap_tables.specs.contracts.url_table.UrlTable as url_table
+use Rattle.smap_anywhere.specs.FoundUrls.{FinderSeen}
+use Rattle.smap_anywhere.specs.contracts.url_finder.UrlFinder as url_finder
 use Rattle.smap_originals.specs.contracts.originals.Originals as originals_index
 use Rattle.smap_originals.specs.declared.place.GeneratedPlace.{GeneratedPlace}
 use Rattle.smap_c.specs.Inners.{Places}
@@ -20,12 +22,14 @@ use Rattle.smap_c.specs.declared.handles.BytesHandle.{BytesHandle}
 use Rattle.smap_c.specs.contracts.handles.BytesHandle as bytes_handle
 use Rattle.smap_c.specs.declared.handles.OriginalsHandle.{OriginalsHandle}
 use Rattle.smap_c.specs.contracts.handles.OriginalsHandle as originals_handle
+use Rattle.smap_c.specs.declared.handles.UrlFinderHandle.{UrlFinderHandle}
+use Rattle.smap_c.specs.contracts.handles.UrlFinderHandle as url_finder_handle
 
 abbrev pub with_map : MapHandle → Map → MapHandle
 with_map handle held = record handle { held = Some held }
 
 abbrev pub LendsMap : MutBor MapHandle → MutBor Map → Fml
-LendsMap handle lent = Lends map_handle.the_row map_file.the_row handle lent (with_map handle.now)
+LendsMap handle lent = Lends map_handle.the_row shared_map.the_row handle lent (with_map handle.now)
 
 abbrev pub with_table : TableHandle → UrlTableSeen → TableHandle
 with_table handle held = record handle { held = Some held }
@@ -50,3 +54,9 @@ with_originals handle held = record handle { held = Some held }
 
 abbrev pub LendsOriginals : MutBor OriginalsHandle → MutBor (List (List GeneratedPlace)) → Fml
 LendsOriginals handle lent = Lends originals_handle.the_row originals_index.the_row handle lent (with_originals handle.now)
+
+abbrev pub with_url_finder : UrlFinderHandle → FinderSeen → UrlFinderHandle
+with_url_finder handle held = record handle { held = Some held }
+
+abbrev pub LendsUrlFinder : MutBor UrlFinderHandle → MutBor FinderSeen → Fml
+LendsUrlFinder handle lent = Lends url_finder_handle.the_row url_finder.the_row handle lent (with_url_finder handle.now)

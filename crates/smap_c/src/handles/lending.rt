@@ -1,35 +1,36 @@
 //! A handle lends what it holds, and gives it up. All that follows a pointer of C's stands here.
 ghost use Rattle.std.specs.Prelude.{◌≡◌, None, Some, IsSome};
 ghost use Rattle.std.specs.Borrow.{sem};
-ghost use Rattle.smap_c.specs.Private.Lending.{LendsBytes, LendsInners, LendsMap, LendsOriginals, LendsTable};
+ghost use Rattle.smap_c.specs.Private.Lending.{LendsBytes, LendsInners, LendsMap, LendsOriginals, LendsTable, LendsUrlFinder};
 
-use super::{BytesHandle, InnersHandle, MapHandle, OriginalsHandle, TableHandle};
+use super::{BytesHandle, InnersHandle, MapHandle, OriginalsHandle, TableHandle, UrlFinderHandle};
 use crate::bytes::Bytes;
 use crate::inners::Inners;
 use crate::loose::Loose;
+use smap_anywhere::UrlFinder;
 use smap_originals::Originals;
-use smap_record::MapFile;
+use smap_shared::SharedMap;
 use smap_tables::UrlTable;
 use std::alloc::Global;
 
 impl MapHandle {
     /// What the handle holds, which is not empty.
-    pub(crate) fn lend(&mut self) -> &mut MapFile
+    pub(crate) fn lend(&mut self) -> &mut SharedMap
         requires { IsSome self.old.held }
         ensures* writes_back { sem 𝓛 (LendsMap self.entry result) }
         ensures value { Some result.now ≡ self.old.held }
     {
-        unsafe { &mut *(self.at as *mut MapFile) }
+        unsafe { &mut *(self.at as *mut SharedMap) }
     }
 
     // Takes out what the handle holds, and leaves it empty.
-    pub(super) fn take(&mut self, alloc: Global) -> Loose<MapFile, Global>
+    pub(super) fn take(&mut self, alloc: Global) -> Loose<SharedMap, Global>
         requires { IsSome self.old.held }
         ensures taken { Some result.value ≡ self.old.held }
         ensures emptied { self.new.held ≡ None }
     {
         Loose {
-            at: self.at as *mut MapFile,
+            at: self.at as *mut SharedMap,
             alloc,
         }
     }
@@ -122,6 +123,29 @@ impl OriginalsHandle {
     {
         Loose {
             at: self.at as *mut Originals,
+            alloc,
+        }
+    }
+}
+
+impl UrlFinderHandle {
+    /// What the handle holds, which is not empty.
+    pub(crate) fn lend(&mut self) -> &mut UrlFinder
+        requires { IsSome self.old.held }
+        ensures* writes_back { sem 𝓛 (LendsUrlFinder self.entry result) }
+        ensures value { Some result.now ≡ self.old.held }
+    {
+        unsafe { &mut *(self.at as *mut UrlFinder) }
+    }
+
+    // Takes out what the handle holds, and leaves it empty.
+    pub(super) fn take(&mut self, alloc: Global) -> Loose<UrlFinder, Global>
+        requires { IsSome self.old.held }
+        ensures taken { Some result.value ≡ self.old.held }
+        ensures emptied { self.new.held ≡ None }
+    {
+        Loose {
+            at: self.at as *mut UrlFinder,
             alloc,
         }
     }

@@ -1,17 +1,29 @@
 //! Making handles, and emptying them.
 ghost use Rattle.std.specs.Prelude.{◌≡◌, None, Some, IsSome, IfErr, IfOk};
 
-use super::{BytesHandle, InnersHandle, MapHandle, OriginalsHandle, TableHandle};
+use super::{BytesHandle, InnersHandle, MapHandle, OriginalsHandle, TableHandle, UrlFinderHandle};
 use crate::bytes::Bytes;
 use crate::inners::Inners;
 use crate::loose::Loose;
+use smap_anywhere::UrlFinder;
 use smap_originals::Originals;
 use smap_record::MapFile;
+use smap_shared::SharedMap;
 use smap_tables::UrlTable;
-use std::alloc::{AllocFailed, Global};
+use std::alloc::{AllocError, AllocFailed, Global};
 
 impl MapHandle {
-    pub(crate) fn new(alloc: Global, map: MapFile) -> Result<MapHandle, AllocFailed<MapFile>>
+    /// The handle of a map that nothing else holds.
+    pub(crate) fn new(alloc: Global, map: MapFile) -> Result<MapHandle, AllocError>
+        ensures { IfOk result (λ handle. handle.held ≡ Some map) }
+    {
+        Ok(MapHandle::of_share(alloc, SharedMap::new(alloc, map)?)?)
+    }
+
+    pub(crate) fn of_share(
+        alloc: Global,
+        map: SharedMap,
+    ) -> Result<MapHandle, AllocFailed<SharedMap>>
         ensures made { IfOk result (λ handle. handle.held ≡ Some map) }
         ensures back { IfErr result (λ failed. failed.value ≡ map) }
     {
@@ -19,14 +31,14 @@ impl MapHandle {
     }
 
     /// The handle of the map in this box. The call takes no memory.
-    pub(crate) fn of_box(map: Box<MapFile>) -> MapHandle
+    pub(crate) fn of_box(map: Box<SharedMap>) -> MapHandle
         ensures { result.held ≡ Some map.value }
     {
         MapHandle::of(Loose::of(map))
     }
 
     /// Takes out what the handle holds, in its box.
-    pub(crate) fn take_box(&mut self, alloc: Global) -> Box<MapFile>
+    pub(crate) fn take_box(&mut self, alloc: Global) -> Box<SharedMap>
         requires { IsSome self.old.held }
         ensures taken { Some result.value ≡ self.old.held }
         ensures emptied { self.new.held ≡ None }
@@ -35,7 +47,7 @@ impl MapHandle {
     }
 
     /// Takes out what the handle holds, and frees its room.
-    pub(crate) fn empty(&mut self, alloc: Global) -> MapFile
+    pub(crate) fn empty(&mut self, alloc: Global) -> SharedMap
         requires { IsSome self.old.held }
         ensures taken { Some result ≡ self.old.held }
         ensures emptied { self.new.held ≡ None }
@@ -111,6 +123,27 @@ impl OriginalsHandle {
 
     /// Takes out what the handle holds, and frees its room.
     pub(crate) fn empty(&mut self, alloc: Global) -> Originals
+        requires { IsSome self.old.held }
+        ensures taken { Some result ≡ self.old.held }
+        ensures emptied { self.new.held ≡ None }
+    {
+        Box::into_inner(self.take(alloc).into_box())
+    }
+}
+
+impl UrlFinderHandle {
+    pub(crate) fn new(
+        alloc: Global,
+        finder: UrlFinder,
+    ) -> Result<UrlFinderHandle, AllocFailed<UrlFinder>>
+        ensures made { IfOk result (λ handle. handle.held ≡ Some finder) }
+        ensures back { IfErr result (λ failed. failed.value ≡ finder) }
+    {
+        Ok(UrlFinderHandle::of(Loose::of(Box::new(alloc, finder)?)))
+    }
+
+    /// Takes out what the handle holds, and frees its room.
+    pub(crate) fn empty(&mut self, alloc: Global) -> UrlFinder
         requires { IsSome self.old.held }
         ensures taken { Some result ≡ self.old.held }
         ensures emptied { self.new.held ≡ None }

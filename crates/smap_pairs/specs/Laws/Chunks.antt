@@ -218,12 +218,6 @@ apart_from zero is_broken (byte ∷ first) rest cut =
         ∙ ap (λ cuts. chunk (take (first_chunk (byte ∷ first)).bytes (byte ∷ first)) ∷ cuts)
         (later ((first_chunk (byte ∷ first)).bytes - 1) (first_chunk (byte ∷ first)).is_broken cut)
 
--- whole lines are cut by themselves, whatever stands behind them; so they are where a URL may go on into the first
-pub cuts_apart : (is_broken : Bool) (first rest : List ℕ) → IsWholeLines first → 0 < length first
-    → cuts_from 0 is_broken (first ++ rest) ≡ cuts_from 0 is_broken first ++ cuts_of rest
-cuts_apart is_broken first rest whole some =
-    apart_from 0 is_broken first rest (record { whole = whole; few = omega arith; ended = λ none. absurd (omega arith) })
-
 -- the cuts of whole lines, and those behind them
 pub lines_apart : (first rest : List ℕ) → IsWholeLines first → cuts_of (first ++ rest) ≡ cuts_of first ++ cuts_of rest
 lines_apart first rest whole = apart_from 0 false first rest (record { whole = whole; few = omega arith; ended = λ none. refl })

@@ -36,10 +36,6 @@ module _ (test : ℕ → Bool) where
       at_end (inl zero_is) is = absurd (omega (arith, zero_is, is))
       at_end (inr on) is = cond-true (test (suc n)) (suc n) (greatest test n) (ap test (sym is) ∙ on) ∙ sym is
 
-  pub greatest_here : (n : ℕ) → test n ≡ true → greatest test n ≡ n
-  greatest_here zero on = refl
-  greatest_here (suc n) on = cond-true (test (suc n)) (suc n) (greatest test n) on
-
   pub greatest_below : (n : ℕ) → 0 < n → test n ≡ false → greatest test n ≡ greatest test (n - 1)
   greatest_below zero some off = absurd (omega (arith, some))
   greatest_below (suc n) some off =

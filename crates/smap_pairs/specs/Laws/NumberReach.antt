@@ -1,47 +1,15 @@
--- The numbers that a text begins with hang on the bytes up to its first LF alone, and on 23 bytes at most; and how many
--- bytes they are.
-use Rattle.std.proofs.Common.{◌≡◌, ◌==◌, ◌+◌, ◌<◌, ◌≤◌, ℕ, Bool, true, false, cond, List, [], ◌∷◌, ◌++◌, length, take, drop, get_or, length-drop}
+-- Of how many digits and bytes the numbers are that a text begins with.
+use Rattle.std.proofs.Common.{◌≡◌, ◌==◌, ◌+◌, ◌≤◌, ℕ, Bool, true, false, cond, List, [], ◌∷◌, length, take, drop, get_or, length-drop}
 use Rattle.std.proofs.Common.{Option, Some, None, option_map, refl, sym, ap, ◌∙◌, arith, inl, inr}
 use Rattle.std.specs.Char.{is_ascii_digit}
 use Rattle.std.specs.Fmt.{decimal}
-use Rattle.std.specs.List.{prefix_len}
-use Rattle.std.proofs.lemmas.Bool.{cases_lt, cond-false, cond_both, eqb-true, false_from_ne_true}
+use Rattle.std.proofs.lemmas.Bool.{cases_lt}
 use Rattle.std.proofs.lemmas.Fmt.{length-decimal-le}
-use Rattle.std.proofs.lemmas.List.{drop-append-le, length-take-le, take-append-le}
-use Rattle.std.proofs.lemmas.List.Folds.{prefix_len-append}
+use Rattle.std.proofs.lemmas.List.{length-take-le}
 use Rattle.std.proofs.lemmas.List.Sums.{prefix_len-le-length}
 use Rattle.smap_lines.specs.Laws.Number.{none_else, number_is}
 use Rattle.smap_lines.specs.Numbers.{decimal_number}
 use Rattle.smap_pairs.specs.Numbers.{digits, number_after, numbers_after, with_column, with_line}
-
--- ---- digits
-
--- a text whose digits end in it, before others
-pub digits_within : (x y : List ℕ) → digits x < length x → digits (x ++ y) ≡ digits x
-digits_within x y within =
-    prefix_len-append is_ascii_digit x y
-    ∙ cond-false (prefix_len is_ascii_digit x == length x) (length x + digits y) (digits x)
-    (false_from_ne_true _ (λ same. absurd (omega (arith, within, eqb-true (digits x) (length x) same))))
-
--- or where no digit stands after it
-pub digits_stop : (x y : List ℕ) → digits y ≡ 0 → digits (x ++ y) ≡ digits x
-digits_stop x y none =
-    prefix_len-append is_ascii_digit x y
-    ∙ cond_both (prefix_len is_ascii_digit x == length x) (length x + digits y) (digits x) (λ n. n ≡ digits x)
-    (λ same. omega (arith, none, eqb-true (digits x) (length x) same)) (λ _. refl)
-
--- digits that go on
-pub digits_on : (x y : List ℕ) → length x ≤ digits x → length x ≤ digits (x ++ y)
-digits_on x y all = elim (cases_lt (digits (x ++ y)) (length x)) [
-  | inl less ↦ absurd (omega (
-    arith,
-    less,
-    all,
-    prefix_len-append is_ascii_digit x y,
-    cond_both (prefix_len is_ascii_digit x == length x) (length x + digits y) (digits x) (λ n. length x ≤ n) (λ _. omega arith) (λ _. all),
-  ))
-  | inr more ↦ more
-]
 
 -- ---- a number
 
@@ -65,24 +33,6 @@ long_number byte text many =
     let size : length (take (digits text) text) ≡ digits text = length-take-le (digits text) text (prefix_len-le-length is_ascii_digit text) in
     no_number _ (byte == 58)
     (ap (option_map (λ n. (n, digits text + 1))) (many_digits (take (digits text) text) (omega (arith, size, many))))
-
--- one whose digits stay as many
-same_number : (byte : ℕ) (x y : List ℕ) → digits (x ++ y) ≡ digits x → number_after (byte ∷ (x ++ y)) ≡ number_after (byte ∷ x)
-same_number byte x y same =
-    ap (λ d. cond (byte == 58) (option_map (λ n. (n, d + 1)) (decimal_number (take d (x ++ y)))) None) same
-    ∙ ap (λ t. cond (byte == 58) (option_map (λ n. (n, digits x + 1)) (decimal_number t)) None)
-    (take-append-le (digits x) x y (prefix_len-le-length is_ascii_digit x))
-
-pub number_reach : (x y : List ℕ) → 12 ≤ length x → number_after (x ++ y) ≡ number_after x
-number_reach [] y few = absurd (omega (arith, few))
-number_reach (byte ∷ x) y few = elim (cases_lt (digits x) (length x)) [
-  | inl within ↦ same_number byte x y (digits_within x y within)
-  | inr all ↦ long_number byte (x ++ y) (omega (arith, few, digits_on x y all)) ∙ sym (long_number byte x (omega (arith, few, all)))
-]
-
-pub number_line : (x rest : List ℕ) → number_after (x ++ 10 ∷ rest) ≡ number_after x
-number_line [] rest = refl
-number_line (byte ∷ x) rest = same_number byte x (10 ∷ rest) (digits_stop x (10 ∷ rest) refl)
 
 abbrev second : Option (ℕ × ℕ) → ℕ
 second None = 0
@@ -132,28 +82,6 @@ number_colon (byte ∷ text) number is =
     (none_else (byte == 58) (option_map {U = ℕ × ℕ} (λ n. (n, digits text + 1)) (decimal_number (take (digits text) text))) number is).0
 
 -- ---- both numbers
-
-pub numbers_reach : (x y : List ℕ) → 23 ≤ length x → numbers_after (x ++ y) ≡ numbers_after x
-unfolding numbers_after
-numbers_reach x y few = ap (with_line (x ++ y)) (number_reach x y (omega (arith, few))) ∙ go (number_after x) refl
-  where
-    go : (o : Option (ℕ × ℕ)) → number_after x ≡ o → with_line (x ++ y) o ≡ with_line x o
-    go None is = refl
-    go (Some (line, size)) is =
-        let sized = number_size x line size is in
-        ap (λ t. with_column line size (number_after t)) (drop-append-le size x y sized.1)
-        ∙ ap (with_column line size) (number_reach (drop size x) y (omega (arith, few, sized.0, length-drop size x)))
-
-pub numbers_line : (x rest : List ℕ) → numbers_after (x ++ 10 ∷ rest) ≡ numbers_after x
-unfolding numbers_after
-numbers_line x rest = ap (with_line (x ++ 10 ∷ rest)) (number_line x rest) ∙ go (number_after x) refl
-  where
-    go : (o : Option (ℕ × ℕ)) → number_after x ≡ o → with_line (x ++ 10 ∷ rest) o ≡ with_line x o
-    go None is = refl
-    go (Some (line, size)) is =
-        let sized = number_size x line size is in
-        ap (λ t. with_column line size (number_after t)) (drop-append-le size x (10 ∷ rest) sized.1)
-        ∙ ap (with_column line size) (number_line (drop size x) rest)
 
 -- ---- where they are, and how many bytes
 

@@ -1,7 +1,7 @@
 -- The bytes that stay behind a chunk that is broken off.
-use Rattle.std.proofs.Common.{◌≡◌, ◌≢◌, ◌<◌, ◌≤◌, ◌-◌, ◌++◌, ◌&&◌, ℕ, zero, suc, Bool, true, false, List, [], ◌∷◌, length, take, drop, map, refl, ap, sym, ◌∙◌, arith}
+use Rattle.std.proofs.Common.{◌≡◌, ◌<◌, ◌≤◌, ◌-◌, ◌++◌, ◌&&◌, ℕ, zero, suc, Bool, true, false, List, [], ◌∷◌, length, take, drop, map, refl, ap, sym, ◌∙◌, arith}
 use Rattle.std.specs.Prelude.{◌==◌, not, if◌then◌else◌, slice_index}
-use Rattle.std.proofs.lemmas.Bool.{and_left, eqb-true, lt-ltb}
+use Rattle.std.proofs.lemmas.Bool.{and_left, lt-ltb}
 use Rattle.smap_pairs.specs.Chunks.{begins_anew, cuts_from, staying_bytes, stays_broken}
 use Rattle.smap_pairs.specs.Chunks.Cut.{stays}
 use Rattle.smap_pairs.specs.Laws.Chunks.{cuts_stay}

@@ -184,6 +184,7 @@ fn sizes_and_offsets_are_those_of_the_c_compiler() {
         smap_table: at;
         smap_inners: at;
         smap_originals: at;
+        smap_url_finder: at;
         smap_bytes: at;
         smap_text: bytes length;
         smap_refusal: number fault line build section byte;
@@ -205,6 +206,7 @@ fn sizes_and_offsets_are_those_of_the_c_compiler() {
         smap_trace_count: lines frames mapped hidden;
         smap_rewrite_refusal: number lines;
         smap_frame_url: start length next;
+        smap_place_url: start length next halved;
     };
     let header = std::fs::read_to_string(env!("SMAP_HEADER")).expect("the header is there");
     let structs = header.matches("typedef struct").count();

@@ -11,7 +11,7 @@ invariant_of-result c =
     let all : c.deref-2.result.now ≡ map (λ pair. length pair.0) maps.table ++ map (λ pair. length pair.0) maps.locations.files = search rules in
     let folders : c.deref-3.result.now ≡ map (λ pair. length pair.0) maps.locations.folders = search rules in
     record {
-      of_names = λ url on. (c.in_ok-names.ensures (length url) (name_among maps c.deref-2.result.now all url on)).0;
-      of_prefixes = λ text on. (c.in_ok-prefixes.ensures (length text)
-          (ap (λ l. is_among l (length text)) folders ∙ text_among maps.locations.folders text on)).0;
+      of_names = λ url on. c.in_ok-names.ensures (length url) (name_among maps c.deref-2.result.now all url on);
+      of_prefixes = λ text on. c.in_ok-prefixes.ensures (length text)
+          (ap (λ l. is_among l (length text)) folders ∙ text_among maps.locations.folders text on);
     }

@@ -1,8 +1,9 @@
 use Rattle.std.proofs.Common.{◌∙◌}
 use Rattle.std.proofs.lemmas.Result.{IfOk-weaker}
 use Rattle.smap_by_text.specs.Laws.ByText.{lengths_seen}
+use Rattle.smap_trace.specs.Private.EntrySeen.{entry_seen}
 use Rattle.smap_trace.proofs.table.Table.url_lengths.Goals as goal
 
 pub returns : goal.returns
 returns c =
-    IfOk-weaker c.lengths.result _ _ (λ lengths is. is ∙ lengths_seen (λ map. map.stated) c.self.inside.maps c.args.self.now c.self.view_is) c.lengths.ensures
+    IfOk-weaker c.lengths.result _ _ (λ lengths is. is ∙ lengths_seen entry_seen c.self.inside.maps c.args.self.now c.self.view_is) c.lengths.ensures

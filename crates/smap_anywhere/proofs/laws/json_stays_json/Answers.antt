@@ -1,0 +1,10 @@
+use Rattle.smap_anywhere.proofs.KnownStrings.{known_for_strings}
+use Rattle.smap_anywhere.proofs.StaysLaws.{inside_stays, strings_stay}
+use Rattle.smap_anywhere.proofs.laws.json_stays_json.Goals as goal
+
+pub returns : goal.returns
+returns c = record {
+  strings = λ known strings maps before inside behind is first second. strings_stay known strings maps before inside behind is first second;
+  parts = λ known strings text became before inside behind joined is may. inside_stays known strings text became before inside behind joined is may;
+  known = known_for_strings;
+}

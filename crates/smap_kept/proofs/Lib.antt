@@ -1,0 +1,5 @@
+mod Numbers
+mod Moves
+mod TextKeys
+mod Fitting
+mod Examples

@@ -1,0 +1,4 @@
+pub mod InOrder
+pub mod Bounded
+pub mod Kept
+pub mod Private

@@ -1,0 +1,63 @@
+-- Worked examples of the definitions: each holds by computing both sides.
+use Rattle.std.proofs.Common.{◌≡◌, ℕ, true, false, List, [], Some, None, refl, codes, arith}
+use Rattle.smap_lines.specs.Edited.{edited}
+use Rattle.smap_trace.specs.FrameOf.{frame_of}
+use Rattle.smap_trace.specs.Hiding.{HidingSeen}
+use Rattle.smap_trace.specs.MapsOf.{MapsByUrl, counts_by}
+use Rattle.smap_piecewise.specs.FirstLine.{behind_line, line_at, through_line}
+use Rattle.smap_piecewise.specs.Frames.{FramesNow, IsAllDone, IsBeforeUnknown, next_url, outcome_of, rest_of}
+
+abbrev no_maps : MapsByUrl
+no_maps url = None
+
+abbrev hide_none : HidingSeen
+hide_none = record { ignored = false; texts = [] }
+
+first_line : line_at (codes "a\nb") ≡ codes "a"
+first_line = refl
+
+through : through_line (codes "a\nb\nc") ≡ codes "a\n"
+through = refl
+
+behind : behind_line (codes "a\nb\nc") ≡ codes "b\nc"
+behind = refl
+
+the_next : next_url (codes "at f (/a.js:1:6)\nat /b.js:1:6") ≡ Some (codes "/a.js")
+unfolding frame_of
+the_next = refl
+
+none_next : next_url (codes "Error\nat /b.js:1:6") ≡ None
+unfolding frame_of
+none_next = refl
+
+-- a line is written, and a frame comes next
+abbrev midway : (left : List ℕ) → FramesNow
+midway left = record {
+  hide = hide_none;
+  left = left;
+  is_passing = false;
+  is_ended = false;
+  output = codes "Error\n";
+  counts = record { lines = 1; frames = 0; mapped = 0; hidden = 0 };
+}
+
+-- what map its URL has is wanted, since nothing is known
+is_wanted : IsBeforeUnknown (λ url. None) (midway (codes "at /b.js:1:6\nat"))
+unfolding frame_of
+is_wanted = record { url = codes "/b.js"; next = refl; unknown = refl; anew = refl; decided = refl }
+
+-- it is not yet where the line may go on, as to `at /b.js:1:62`
+is_open : IsAllDone (midway (codes "at /b.js:1:6"))
+is_open = record { no_end = refl; short = omega arith; none_passing = λ e. absurd (cc); none_ended = λ e. absurd (cc) }
+
+-- what it comes to over no maps, if a line comes
+comes_to : outcome_of no_maps (midway (codes "at /b.js:1:6")) (codes "\nx")
+    ≡ record { text = codes "Error\nat /b.js:1:6\nx"; lines = 3; frames = 1; mapped = 0; hidden = 0 }
+unfolding frame_of edited counts_by
+comes_to = refl
+
+-- the end of a line that is too long, and the lines behind it
+passing : rest_of no_maps hide_none true (codes "end\nat /b.js:1:6")
+    ≡ record { text = codes "end\nat /b.js:1:6"; lines = 1; frames = 1; mapped = 0; hidden = 0 }
+unfolding frame_of edited counts_by
+passing = refl

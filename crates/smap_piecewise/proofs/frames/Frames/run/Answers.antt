@@ -1,0 +1,28 @@
+use Rattle.std.proofs.Common.{◌-◌, ◌^◌, refl, ◌∙◌}
+use Rattle.smap_piecewise.proofs.StepLaws.{steps_seen, steps_twice}
+use Rattle.smap_piecewise.proofs.frames.Frames.run.Goals as goal
+
+pub loop-stop-init : goal.loop-stop-init
+loop-stop-init g c = record {
+  steps = steps_seen (g.K.KnownMaps.known c.args.maps.now) c.args.self.now c.args.self.now refl;
+  known = refl;
+  room = c.requires;
+}
+
+pub returns-in_err-stop-clause-goes : goal.returns-in_err-stop-clause-goes
+returns-in_err-stop-clause-goes g c =
+    steps_twice (g.K.KnownMaps.known c.args.maps.now) c.args.self.now c.loop-stop.self c.step.new.self c.loop-stop.invariant.steps
+    (rw c.loop-stop.invariant.known at c.step.ensures.goes)
+
+pub returns-in-Some-clause-goes : goal.returns-in-Some-clause-goes
+returns-in-Some-clause-goes g c =
+    steps_twice (g.K.KnownMaps.known c.args.maps.now) c.args.self.now c.loop-stop.self c.step.new.self c.loop-stop.invariant.steps
+    (rw c.loop-stop.invariant.known at c.step.ensures.goes)
+
+pub loop-stop-preserved : goal.loop-stop-preserved
+loop-stop-preserved g c = record {
+  steps = steps_twice (g.K.KnownMaps.known c.args.maps.now) c.args.self.now c.loop-stop.self c.step.new.self c.loop-stop.invariant.steps
+      (rw c.loop-stop.invariant.known at c.step.ensures.goes);
+  known = c.step.ensures.same ∙ c.loop-stop.invariant.known;
+  room = c.step.ensures.goes.within (2 ^ 64 - 1) c.loop-stop.invariant.room;
+}

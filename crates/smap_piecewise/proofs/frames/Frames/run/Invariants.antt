@@ -1,0 +1,13 @@
+use Rattle.std.proofs.Common.{◌≡◌, ◌-◌, ◌^◌, length}
+use Rattle.smap_piecewise.specs.Private.Frames.{IsWithin, Steps, frames_seen}
+use Rattle.smap_piecewise.proofs.frames.Frames.run.Given as goal
+
+abbrev pub invariant-loop-stop : goal.invariant-loop-stop
+invariant-loop-stop g l = record {
+  steps : Steps (g.K.KnownMaps.known l.initial.maps) l.initial.self l.self;
+  known : g.K.KnownMaps.known l.maps ≡ g.K.KnownMaps.known l.initial.maps;
+  room : IsWithin (2 ^ 64 - 1) (frames_seen l.self);
+}
+
+abbrev pub decreases-loop-stop : goal.decreases-loop-stop
+decreases-loop-stop g l = length l.self.given

@@ -1,0 +1,6 @@
+use Rattle.smap_piecewise.proofs.frames.Frames.step.Goals as goal
+
+pub returns-then-self-clause-goes : goal.returns-then-self-clause-goes
+returns-then-self-clause-goes g c =
+    let goes = c.pass.ensures.goes (g.K.KnownMaps.known c.args.maps.now) in
+    rw c.first_line-line.ensures.same at goes

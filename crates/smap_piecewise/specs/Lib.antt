@@ -1,0 +1,6 @@
+pub mod Known
+pub mod FirstLine
+pub mod Outcome
+pub mod Frames
+pub mod Rewriting
+pub mod Private

@@ -1,0 +1,4 @@
+-- What contracts of private functions alone cite.
+pub mod Given
+pub mod PutLine
+pub mod Frames
