@@ -18,7 +18,7 @@ from __future__ import annotations
 import re
 from typing import Callable, Iterator, List, NamedTuple, Optional, Tuple
 
-from places_line import CONTROL, DIGITS, EDGE, LETTERS, MOST_NUMBER, NOTHING, PAIR, Line, Pair, VirtualLine, table
+from places_line import CONTROL, DIGITS, EDGE, LETTERS, MOST_NUMBER, NOTHING, PAIR, Line, Pair, VirtualLine, escapes_in, table
 from places_maps import Maps, Tree, without_query
 
 # Bytes of a line that may be a frame, and bytes before a pair that may decide its URL.
@@ -46,23 +46,28 @@ _PAIRED = {ord(")"): 0, ord("]"): 1, ord("}"): 2, ord("("): 3, ord("["): 4, ord(
 
 # A drive, `file:`, or a host and its port.
 _ROOT = re.compile(rb"(?:[A-Za-z]:|file:|[0-9A-Za-z-]*[A-Za-z.][0-9A-Za-z.-]*:[0-9]+)(?=/)")
-_NAME = re.compile(rb"[A-Za-z0-9\x80-\xff]|\.\.?$|~$")
+# A name, dots or `~` alone, or nothing.
+_FIRST_PIECE = re.compile(rb"(?![+-]).*[A-Za-z0-9\x80-\xff].*|\.*|~", re.DOTALL)
 _EDGE_BEFORE_PATH = re.compile(rb"[\x00-\x20!-#&-*,;-@\[\]^`{-}\x7f]/")
+# What no path has: an angle bracket, or `./`, `../` or `~/` behind such a sign.
+_NO_PATH = re.compile(rb"[<>]|[\x00-\x20!-#&-*,;-@\[\]^`{-}\x7f][.~]+/")
 
 
 def is_path(url: bytes, strange: bytes) -> bool:
     """Whether a URL without a scheme is a path: before its first `?` no `/` stands behind a sign that is an edge, nor a `:` in
-    it, but that of a drive, of `file:` or of a port; and its first piece is a name, `.`, `..` or `~`, of no strange bytes.
+    it, but that of a drive, of `file:` or of a port; and its first piece has a letter or a digit, does not begin with `+` or `-`, and
+    has no strange bytes, or is dots or `~` alone.
 
-    So it does not begin with a file and a line, as grep prints them, or with a sign of a list or of a difference.
+    So it does not begin with a file and a line, as grep prints them, or with a sign of a list or of a difference; and behind a
+    sign no other path begins in it, as behind a function: `N/<@../app.js`.
     """
     root = _ROOT.match(url)
     path = url[root.end() if root else 0:].partition(b"?")[0]
     if b"/" not in path:
         return True
     first = path[:path.index(b"/")]
-    return b":" not in path and not _EDGE_BEFORE_PATH.search(path) and (
-        first == b"" or bool(_NAME.search(first)) and not set(first) & set(strange)
+    return b":" not in path and not _EDGE_BEFORE_PATH.search(path) and not _NO_PATH.search(path, len(first)) and (
+        bool(_FIRST_PIECE.fullmatch(first)) and not set(first) & set(strange)
     )
 
 # ---------------------------------------------------------------------------------------------
@@ -110,10 +115,25 @@ def frame_span(text: bytes) -> Optional[Tuple[int, int]]:
     return None if text.startswith(b"async ", start) else place_span(text, start, end)
 
 
+# What node prints behind a frame, before the fields of an error or the next text of a list.
+_TAIL = re.compile(rb"(?: \{|,)\r?\Z")
+
+
+def frame_span_before_tail(text: bytes) -> Optional[Tuple[int, int]]:
+    """Where the URL of a frame stands, if a line is one, or begins with a blank and is one but for ` {` or `,` at its end. In
+    that it has no quotation mark."""
+    span, tail = frame_span(text), _TAIL.search(text)
+    if span or not tail or text[:1] not in (b" ", b"\t"):
+        return span
+    span = frame_span(text[:tail.start()])
+    return span if span and b'"' not in text[span[0]:span[1]] else None
+
+
 # A scheme, `/`, `\\` or a drive.
 _BEGINNING = rb"(?:[A-Za-z][A-Za-z0-9+.-]*://|[A-Za-z][A-Za-z0-9+-]*:/|/|\\|[A-Za-z]:\\)"
 _BEGINS = re.compile(_BEGINNING)
 _BEGINS_AGAIN = re.compile(rb"[\x00-\x20\x7f][\x00-\x20!-#&-*,;-@\[\]^`{-}\x7f]*" + _BEGINNING)
+_EDGE = re.compile(rb"[\x00-\x20!-#&-*,;-@\[\]^`{-}\x7f]")
 _BRACKETS = re.compile(rb"[()\[\]{}]")
 _BLANK_OR_QUOTE = re.compile(rb"[\x00-\x20\"'\x7f]")
 
@@ -130,11 +150,30 @@ def has_paired_brackets(text: bytes) -> bool:
     return not any(open_ones)
 
 
+def has_scheme_behind_edge(url: bytes) -> bool:
+    """Whether `://` stands behind a blank or another sign."""
+    edge = _EDGE.search(url)
+    return bool(edge) and url.find(b"://", edge.end()) >= 0  # type: ignore[union-attr]
+
+
 def is_sentence(url: bytes) -> bool:
     """Whether a frame's URL that begins as one does is a sentence: it has a blank, and behind that or a sign another one."""
     if not _BLANK_OR_QUOTE.search(url):
         return False
-    return bool(_BEGINS_AGAIN.search(url) or _EDGE_BEFORE_PATH.search(_BRACKETS.sub(b"x", url)))
+    return bool(_BEGINS_AGAIN.search(url) or _EDGE_BEFORE_PATH.search(_BRACKETS.sub(b"x", url))) or has_scheme_behind_edge(url)
+
+
+def has_barred_query(line: Line, start: int, end: int) -> bool:
+    """Whether the query of a URL, which begins with its first `?` or `#`, has a byte that does not stand behind a name."""
+    query = start + len(without_query(line.text[start:end]))
+    return any(is_barred(line, at) for at in range(query, end))
+
+
+def is_for_folder(line: Line, start: int, pair: Pair) -> bool:
+    """Whether a folder may have the URL of a frame, or a list without its query: it holds no pair, is no sentence, and has no
+    query with bytes that do not stand behind a name."""
+    counts = bytes(line.counts[start:pair.start]).replace(bytes([NOTHING]), b"")
+    return pair.piece <= start and not is_sentence(counts) and not has_barred_query(line, start, pair.start)
 
 
 def is_function(head: bytes) -> bool:
@@ -164,17 +203,15 @@ def urls_of_frame(url: bytes, is_quoted: bool) -> List[bytes]:
 
 def place_of_frame(line: Line, virtual: VirtualLine, pair: Pair, maps: Maps) -> Optional[Place]:
     """The place of the frame that a virtual line is, whose last pair is this."""
-    span = frame_span(line.text[virtual.start:virtual.end])
+    span = frame_span_before_tail(line.text[virtual.start:virtual.end])
     if not span or virtual.start + span[1] != pair.start:
         return None
     start, end = virtual.start + span[0], pair.start
-    # In a string no query and no folder has what stands behind another pair.
-    as_named = maps.path_of_name if virtual.unit > 0 and pair.piece > start else maps.path_as_named
+    as_named = maps.path_as_named if is_for_folder(line, start, pair) else maps.path_of_name
     by_pattern = maps.path_by_pattern if maps.patterns and is_for_pattern(line, virtual, start, pair) else lambda _: None
     for url in urls_of_frame(line.text[start:end], virtual.unit > 0):
-        path = as_named(url) or by_pattern(url)
-        if path:
-            return Place(start, pair.end, url, path, pair.line, pair.column)
+        if as_named(url) or by_pattern(url):
+            return Place(start, pair.end, url, maps.path_for(url) or b"", pair.line, pair.column)
     return None
 
 # ---------------------------------------------------------------------------------------------
@@ -312,6 +349,10 @@ def begin_with_query(line: Line, pair: Pair, behind: Behind, maps: Maps) -> Tupl
 _LETTER = re.compile(rb"[A-Za-z]")
 _ABSOLUTE = re.compile(rb"/|\.\.?/|~/|[A-Za-z][A-Za-z0-9+.-]*:/")
 _BEHIND_AT = re.compile(rb"(?<![0-9A-Za-z\x80-\xff])at[ \t]+\Z")
+# In V8's text of a place in an evaluated text: `(eval at f (dist/app.js:1:2), <anonymous>:1:1)`.
+_BEHIND_EVAL = re.compile(rb"\(eval at [^()]*\(\Z")
+# Firefox's sign of a function without a name, and the one behind each function.
+_BEHIND_FUNCTION = re.compile(rb"<@\Z")
 _OPENING = {ord("("): 1, ord(")"): -1}
 
 
@@ -358,13 +399,14 @@ class Before:
         return b"://" in self.stretch
 
     def is_in_call(self) -> bool:
-        """It stands behind a blank within a `(` that is open, and not right behind `at`: `(address at app.js:1:2)`."""
+        """It stands behind a blank within a `(` that is open, and not right behind `at`: `(address at app.js:1:2)`, nor in a
+        `(` of its own behind `eval at`."""
         closed, has_blank = 0, False
         for byte in reversed(self.counts):
             has_blank = has_blank or byte in b" \t"
             closed -= _OPENING.get(byte, 0)
             if closed < 0 and has_blank:
-                return not _BEHIND_AT.search(self.counts)
+                return not (_BEHIND_AT.search(self.counts) or _BEHIND_EVAL.search(self.counts))
             closed = max(0, closed)
         return False
 
@@ -373,8 +415,8 @@ class Before:
         return bool(_SEPARATOR.search(self.counts))
 
     def has_separator(self) -> bool:
-        """A path goes on before it, and no blank ends it."""
-        return bool(_SEPARATOR.search(self.stretch))
+        """A path goes on before it, and neither a blank ends it nor a function of Firefox: `N/<@app.js:1:2`."""
+        return bool(_SEPARATOR.search(self.stretch)) and not _BEHIND_FUNCTION.search(self.stretch)
 
     def is_behind_colour(self) -> bool:
         """A colour ends before it, which does not begin at an edge."""
@@ -502,13 +544,19 @@ def is_printed_anywhere(name: bytes) -> bool:
     return is_printed_in_frames(name) and not set(b'"\\') & set(name)
 
 
+def last_line_end(text: bytes) -> int:
+    """Where the last escape of a line's end begins, 0 where there is none."""
+    return max((escape.start for escape in escapes_in(text) if escape.means in b"\n\r"), default=0)
+
+
 def chunks(line: bytes) -> Iterator[Tuple[bytes, bool]]:
     """The parts of a line, and whether their places are found: those of one of more than 65,536 bytes end before the last `"` among
-    so many and its backslashes, or else the last blank; without either, what follows stays up to the next."""
+    so many and its backslashes, or else the last escape of a line's end, or else the last blank; without these, what follows stays
+    up to the next `"` or blank."""
     at = 0
     while len(line) - at > MOST_LINE:
         front = line[at:at + MOST_LINE]
-        end = len(front[:max(front.rfind(b'"'), 0)].rstrip(b"\\")) or front.rfind(b" ")
+        end = len(front[:max(front.rfind(b'"'), 0)].rstrip(b"\\")) or last_line_end(front) or front.rfind(b" ")
         is_broken = end <= 0
         if is_broken:
             end = len(front.rstrip(DIGITS + b":-")) or 1

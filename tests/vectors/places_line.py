@@ -130,14 +130,25 @@ _QUOTES = re.compile(rb"[\"'\n\r]")
 
 # What a byte of a line counts as that only looks so: one within an escape or a colour.
 NOTHING = 0xFF
-# What an escape of a letter above 0x7F counts as, and one of another character, and an apostrophe.
+# What an escape of a letter up to U+07FF counts as, one of a character up to U+1FFF, and one of another, and an apostrophe.
 LETTER = 0xC3
+SCRIPT = 0xE1
 SIGN = 0xE2
 
 
 def is_edge_behind(means: int) -> bool:
     """Whether a URL may begin behind an escape of this character."""
     return means < 0x80 and bool(EDGE[means])
+
+
+def counts_as(means: int) -> int:
+    """What an escape of this character counts as: beyond ASCII as the first byte of one such in UTF-8."""
+    return means if means < 0x80 else LETTER if 0xC0 <= means < 0x800 else SCRIPT if 0x800 <= means < 0x2000 else SIGN
+
+
+def is_of_letter(first: int) -> bool:
+    """Whether characters that begin with this byte are letters, of scripts with blanks: from U+00C0 to U+1FFF."""
+    return 0xC3 <= first <= 0xE1
 
 
 def is_apostrophe(text: bytes, start: int, end: int) -> bool:
@@ -160,7 +171,7 @@ class Line:
         self.starts: Dict[int, int] = {}
         for start, end, means in self.escapes:
             self._put(start, end, is_edge_behind(means))
-            self.counts[end - 1] = means if means < 0x80 else LETTER if 0xC0 <= means < 0x800 else SIGN
+            self.counts[end - 1] = counts_as(means)
         for start, end in self.colours:
             self._put(start, end, True)
         self._find_paths()
@@ -175,17 +186,27 @@ class Line:
         self.edges[end] = is_edge
         self.starts[end] = start
 
-    # Each `:` before a single `/` is an edge, but behind `file` or one letter alone.
+    # Each `:` before a single `/` is an edge, but behind `file` or one letter alone; these are at one behind a sign.
     def _find_paths(self) -> None:
         for colon in _PATH_BEHIND_COLON.finditer(self.text):
             at = colon.start()
             self.edges[at + 1] = not (self._stands_alone(at, 1, LETTERS) or self._stands_alone(at, 4, b"file"))
 
+    # Whether a character beyond ASCII ends before a byte that is no letter, or an escape of one.
+    def _is_behind_sign(self, end: int) -> bool:
+        if end in self.starts:
+            return self.counts[end - 1] == SIGN
+        first = end - 1
+        while first >= 0 and 0x80 <= self.text[first] < 0xC0:
+            first -= 1
+        return first < end - 1 and not (first >= 0 and is_of_letter(self.text[first]))
+
     def _stands_alone(self, end: int, length: int, letters: bytes) -> bool:
         start = end - length
-        if start < 0 or (not self.edges[start] and WORD[self.text[start - 1]]):
+        if start < 0 or not (self.text[start:end] == letters if length > 1 else self.text[start] in letters):
             return False
-        return self.text[start:end] == letters if length > 1 else self.text[start] in letters
+        self.edges[start] |= self._is_behind_sign(start)
+        return bool(self.edges[start]) or not WORD[self.text[start - 1]]
 
     # Quotation marks, but for apostrophes, and escapes of those and of line ends.
     def _marks(self) -> Iterator[Mark]:

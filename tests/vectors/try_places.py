@@ -161,22 +161,34 @@ CLAUSES: List[Tuple[str, object, str, object]] = [
     ("an apostrophe is no quotation mark", places_line, "is_apostrophe", lambda text, start, end: False),
     ("`:` before a single `/` is an edge", places_line, "_PATH_BEHIND_COLON", re.compile(rb"(?!)")),
     ("but behind a letter alone or file", Line, "_stands_alone", lambda self, end, length, letters: False),
+    ("and a drive behind a sign begins a path", Line, "_is_behind_sign", lambda self, end: False),
+    ("but behind a letter it does not", places_line, "is_of_letter", lambda first: False),
+    ("nor behind an escape of one", places_line, "counts_as", lambda means: means if means < 0x80 else places_line.SIGN),
     ("a frame comes first", places, "frame_span", lambda text: None),
     ("a frame's URL in a string has a backslash for each two", places, "urls_of_frame", lambda url, is_quoted: [url]),
     ("or is named as it stands there", places, "urls_of_frame", lambda url, is_quoted: [url.replace(b"\\\\", b"\\") if is_quoted else url]),
     ("a pattern has the URL of a frame that is one", places, "is_for_pattern", lambda line, virtual, start, pair: True),
     ("its brackets stand in pairs", places, "has_paired_brackets", lambda text: True),
     ("it is no sentence", places, "is_sentence", lambda url: False),
+    ("another scheme makes one", places, "has_scheme_behind_edge", lambda url: False),
+    ("a folder has the URL of a frame that is one", places, "is_for_folder", lambda line, start, pair: True),
+    ("of which no byte of the query is barred", places, "has_barred_query", lambda line, start, end: False),
+    ("a frame may have a tail", places, "frame_span_before_tail", places.frame_span),
     ("a function stands before the @", places, "is_function", lambda head: True),
     ("an escape of a barred byte ends a query", places, "is_barred", lambda line, at: bool(places.BARRED[line.text[at]])),
     ("behind a name brackets stand in pairs", places, "_PAIRED", {}),
     ("a URL without a scheme begins at an edge", places, "is_free", lambda line, start: True),
     ("it is a path", places, "is_path", lambda url, strange: True),
+    ("in a path no other begins behind a sign", places, "_NO_PATH", re.compile(rb"(?!)")),
+    ("no sign of a list stands before it", places, "_FIRST_PIECE", re.compile(rb".*[A-Za-z0-9.~\x80-\xff].*|", re.DOTALL)),
     ("no URL with a scheme stands before it", Before, "has_scheme", lambda self: False),
     ("it does not stand behind a blank in brackets", Before, "is_in_call", lambda self: False),
+    ("but in an evaluated text", places, "_BEHIND_EVAL", re.compile(rb"(?!)")),
     ("no path stands before it that may have blanks", Before, "has_path", lambda self: False),
     ("nor one that goes on", Before, "has_separator", lambda self: False),
+    ("but for a function of Firefox", places, "_BEHIND_FUNCTION", re.compile(rb"(?!)")),
     ("nor one with colours", Before, "is_behind_colour", lambda self: False),
+    ("a long line is cut before an escape of a line's end", places, "last_line_end", lambda text: 0),
     ("a URL has at most 2,048 bytes", places, "MOST_RUN", 4096),
 ]
 
@@ -223,7 +235,8 @@ PIECES = [
     "\\x22", "\\x0A", "\\x5Cn", "\\x5C", "#012", "#033[1m", "\x1b[36m", "\x1b[", "\\u001b[1m", "\"", "\"", "'", "`", "(",
     ")", "[", "]", "{", "}", "<", ">", ",", ";",
     "|", " ", " ", "  ", "\t", "\r", "\n", "at ", "    at f (", "    at ", "async ", "f@", "é", "“", "n", "u00", "**",
-    "failed", "2024/01/01 ",
+    "failed", "2024/01/01 ", "N/<@", "<@", "(eval at f (", "(eval at new A (", "../x/", "./", "~/", "+", "“C:/", "ß", "ỗ", "\\u1ed7",
+    "\\u201c", "file:/",
 ]
 FRONTS = ["", "https://h/", "/srv/", "C:\\dist\\", "C:\\\\dist\\\\", "http://[::1]:80/", "/srv/My App/", "https://h/(shop)/", "https://h/it's/", "a,b/", "webpack-internal:///"]
 NAMES = ["app.js", "app.js", "x.js", "app.js?v=1", "a'b.js", "a\"b.js"]
@@ -299,7 +312,9 @@ def broken_frame(line: bytes, maps: Maps, became: bytes) -> Optional[str]:
     path = maps.path_for(url) or b""
     original = (maps.look_up_in(path) or (lambda *_: None))(url, whole.pairs[-1].line, whole.pairs[-1].column)
     virtual = VirtualLine(0, len(line), 0)
-    is_taken = maps.path_as_named(url) or places.is_for_pattern(whole, virtual, span[0], whole.pairs[-1])
+    pair = whole.pairs[-1]
+    is_own = maps.path_of_name(url) or (maps.path_as_named(url) and places.is_for_folder(whole, span[0], pair))
+    is_taken = is_own or (maps.path_by_pattern(url) and places.is_for_pattern(whole, virtual, span[0], pair))
     if not original or not places.is_printed_anywhere(original[0]) or not is_taken:
         return None
     return None if became == plain else f"a frame becomes {plain!r}"
@@ -343,12 +358,12 @@ BEFORE = [
     "Error: bad", "at ff", "xx", "/login failed", "GET /x 200", "[INFO]", "web-1 |", "12:30:45", "can't load",
     "bob@ex.com", "ERROR", "f()", "**", "key", "a.b",
     "https://h/login failed", "C:\\logs\\x.log", "100%", "~", "#1", "(in", "(", "{", "\"", "<b>", "at", "async",
-    "app.log:12", "worker1", "é", "“", "-", "+", "a,bb", "x;yy",
+    "app.log:12", "worker1", "é", "“", "-", "+", "a,bb", "x;yy", "N/<", "eval", "(eval at ff", "größe", "lỗi", "加载",
 ]
 BETWEEN = [
     " ", "  ", "\t", "(", "[", "{", "<", "\"", "'", "`", "=", ",", ";", "|", ": ", " at ", "\n    at ", "\n    at f (",
     "@", "\x1b[36m", "**", ") ", "] ", "):", ":", "]", ")",
-    "> ", "&", "!", "*",
+    "> ", "&", "!", "*", "“", "·", "：", "<@", " (", "(eval at f (", " +", " -",
 ]
 BEHIND = ["", ")", "]", "}", ">", "\"", "'", "`", ",", " xx", ";", "\x1b[39m", " {", "|", "**", ": bad", "."]
 PUT = [
@@ -394,7 +409,7 @@ def starts_in_frames(line: bytes) -> Set[int]:
     """Where the URLs of the frames begin that a line is, or a line of a string in it, or a virtual line."""
     whole = Line(line)
     levels = [VirtualLine(0, len(line), 0), *whole.lines_of_strings, *whole.virtual_lines]
-    spans = [(virtual.start, places.frame_span(line[virtual.start:virtual.end])) for virtual in levels]
+    spans = [(virtual.start, places.frame_span_before_tail(line[virtual.start:virtual.end])) for virtual in levels]
     return {start + span[0] for start, span in spans if span}
 
 
@@ -423,7 +438,7 @@ def try_glue(count: int) -> Optional[str]:
 SHAPES = {
     "pairs": ":1:2", "places": "app.js:1:2 ", "brackets": "(", "closed brackets": "()", "backslashes": "\\",
     "written backslashes": "\\x5C", "addresses": "://[",
-    "strings": '":1:2"', "quotation marks": "'a", "frames": "at f (@", "queries": "?", "slashes": "/",
+    "strings": '":1:2"', "line ends": "\\n", "line ends in octal": "#012", "drives": "“C:/", "quotation marks": "'a", "frames": "at f (@", "queries": "?", "slashes": "/",
     "prefixes": "https://h/", "paths behind colons": ":/",
     "colours": "\x1b[36m", "half colours": "\\u001b[", "words": "a", "lists": "a,b/", "lines": "at :1:2\\n",
     "schemes": "a://", "blanks": "/ ",

@@ -1,23 +1,24 @@
 -- Where the chunks of a text begin in strings of JSON.
-use Rattle.std.proofs.Common.{◌≡◌, ◌≢◌, ◌==◌, ◌<◌, ◌≤◌, ◌-◌, ◌⊎◌, inl, inr, ℕ, suc, Bool, true, false, cond, List, [], ◌∷◌, ap, arith, drop, get_or, length, max, min, nat_lt, refl, reverse, subst, sym, take, ◌∙◌}
+use Rattle.std.proofs.Common.{◌≡◌, ◌==◌, ◌<◌, ◌≤◌, ◌-◌, ◌⊎◌, inl, inr, ℕ, suc, Bool, true, false, cond, List, [], ◌∷◌, ap, arith, drop, get_or, length, max, min, nat_lt, refl, reverse, subst, sym, take, ◌∙◌}
 use Rattle.std.specs.Prelude.{not}
 use Rattle.std.specs.List.{prefix_len}
 use Rattle.std.proofs.Math.Seq.{take-suc}
 use Rattle.std.proofs.lemmas.Bool.{cases_lt, eqb-true, ltb-true}
-use Rattle.std.proofs.lemmas.List.{drop_all, drop_more, get_or-reverse, get_or-take, length-reverse, length-take, length-take-le}
+use Rattle.std.proofs.lemmas.List.{drop_all, drop_more, get_or-reverse, get_or-take, length-reverse, length-take, length-take-le, take-take}
 use Rattle.std.proofs.lemmas.List.Sums.{prefix_len_passes, prefix_len_stops}
 use Rattle.smap_lines.specs.Limits.{most_line_bytes}
-use Rattle.smap_pairs.specs.Chunks.{chunk_of_long, first_chunk, goes_on_in_numbers, last_blank, last_quote, line_bytes, quote_begin, without_end}
+use Rattle.smap_pairs.specs.Chunks.{chunk_end, chunk_of_long, first_chunk, goes_on_in_numbers, last_blank, last_line_end, last_quote, line_bytes, quote_begin, without_end}
 use Rattle.smap_pairs.specs.Json.{InString, past, past_all}
-use Rattle.smap_pairs.specs.Json.InString.{behind_backslash, between}
+use Rattle.smap_pairs.specs.Json.InString.{between}
 use Rattle.smap_pairs.specs.Laws.Chunks.{first_line, first_of_long}
 use Rattle.smap_pairs.specs.declared.chunk.Chunk.{Chunk}
 use Rattle.smap_pairs.proofs.JsonLaws.{behind_is, past_both, past_line_end}
+use Rattle.smap_pairs.proofs.LineEndStates.{BeginsEscape, line_end_begins}
 use Rattle.smap_pairs.proofs.NamedPlaces.{byte_passed}
 
--- a chunk begins between two characters, or with a blank, or a `"` and backslashes right before it
+-- a chunk begins between two characters, or with a blank, or a `"` and backslashes right before it, or an escape
 abbrev pub BeginsWith : InString → (byte : ℕ) → Type 0
-BeginsWith state byte = (state ≡ between) ⊎ ((byte ≡ 32) ⊎ ((byte ≡ 34) ⊎ ((byte ≡ 92) × (state ≢ behind_backslash))))
+BeginsWith state byte = (state ≡ between) ⊎ ((byte ≡ 32) ⊎ ((byte ≡ 34) ⊎ BeginsEscape state byte))
 
 abbrev pub Begins : InString → (text : List ℕ) → Type 0
 Begins state [] = Unit {0}
@@ -95,57 +96,77 @@ blank_there front some =
     let any : 0 < without_end (λ byte. not (byte == 32)) front = omega (arith, some) in
     (is_byte (get_or front (last_blank front) 0) 32 (end_stops (λ byte. not (byte == 32)) front any), omega (arith, any))
 
-module _ (state : InString) (text : List ℕ) where
-  mark_behind : (at : ℕ) → 0 < at → at < length text → (get_or text at 0 ≡ 34) ⊎ (get_or text at 0 ≡ 92) → (get_or text (at - 1) 0 == 92) ≡ false
-      → Begins (past_all state (take at text)) (drop at text)
-  mark_behind at some within (inl quote) other = begins_at (past_all state (take at text)) text at within (inr (inr (inl quote)))
+-- ---- where a chunk of a long line ends
+
+module _ (state : InString) (front : List ℕ) where
+  -- a chunk begins with this byte of it
+  abbrev BeginsAt : (at : ℕ) → Type 0
+  BeginsAt at = (at < length front) × BeginsWith (past_all state (take at front)) (get_or front at 0)
+
+  mark_behind : (at : ℕ) → 0 < at → at < length front → (get_or front at 0 ≡ 34) ⊎ (get_or front at 0 ≡ 92) → (get_or front (at - 1) 0 == 92) ≡ false → BeginsAt at
+  mark_behind at some within (inl quote) other = (within, inr (inr (inl quote)))
   mark_behind at some within (inr slash) other =
       let last : suc (at - 1) ≡ at = omega (arith, some) in
-      let parts : past_all state (take at text) ≡ past (past_all state (take (at - 1) text)) (get_or text (at - 1) 0) =
-      ap (λ n. past_all state (take n text)) (sym last) ∙ ap (past_all state) (take-suc text (at - 1) 0 (omega (arith, some, within)))
-      ∙ past_both state (take (at - 1) text) (get_or text (at - 1) 0 ∷ []) in
-      begins_at (past_all state (take at text)) text at within
-      (inr (inr (inr (slash, λ is. behind_is (past_all state (take (at - 1) text)) (get_or text (at - 1) 0) other (sym parts ∙ is)))))
+      let parts : past_all state (take at front) ≡ past (past_all state (take (at - 1) front)) (get_or front (at - 1) 0) =
+      ap (λ n. past_all state (take n front)) (sym last) ∙ ap (past_all state) (take-suc front (at - 1) 0 (omega (arith, some, within)))
+      ∙ past_both state (take (at - 1) front) (get_or front (at - 1) 0 ∷ []) in (
+        within,
+        inr (inr (inr (inl (
+          slash,
+          λ is.
+              behind_is (past_all state (take (at - 1) front)) (get_or front (at - 1) 0) other (sym parts ∙ is),
+        )))),
+      )
 
-  long_begins : (front : List ℕ) → front ≡ take most_line_bytes text → length front ≤ length text → (chunk_of_long front).is_broken ≡ false
-      → Begins (past_all state (take (chunk_of_long front).bytes text)) (drop (chunk_of_long front).bytes text)
-  long_begins front is few whole = go (nat_lt 0 (quote_begin front)) (nat_lt 0 (last_blank front)) refl refl whole
+  end_begins : 0 < chunk_end front → BeginsAt (chunk_end front)
+  end_begins some = go (nat_lt 0 (quote_begin front)) (nat_lt 0 (last_line_end front)) refl refl some
     where
-      same : (k : ℕ) → k < length front → get_or text k 0 ≡ get_or front k 0
-      same k within =
-          sym (ap (λ l. get_or l k 0) is ∙ get_or-take most_line_bytes text k 0
-          (omega (arith, within, ap length is, length-take most_line_bytes text)))
-
-      go : (b c : Bool) → nat_lt 0 (quote_begin front) ≡ b → nat_lt 0 (last_blank front) ≡ c
-          → (let first : Chunk = cond b (record { bytes = quote_begin front; is_broken = false }) (cond c (record { bytes = last_blank front; is_broken = false })
-          (record { bytes = max 1 (without_end goes_on_in_numbers front); is_broken = true })) in
-          first.is_broken ≡ false → Begins (past_all state (take first.bytes text)) (drop first.bytes text))
-      go true c quote blank whole =
-          let some = ltb-true 0 (quote_begin front) quote in
+      go : (b c : Bool) → nat_lt 0 (quote_begin front) ≡ b → nat_lt 0 (last_line_end front) ≡ c
+          → 0 < cond b (quote_begin front) (cond c (last_line_end front) (last_blank front))
+          → BeginsAt (cond b (quote_begin front) (cond c (last_line_end front) (last_blank front)))
+      go true c quote line_end some =
           let there = quote_there front some in
-          let here = same (quote_begin front) (omega (arith, there.1, there.2)) in
-          mark_behind (quote_begin front) some (omega (arith, there.1, there.2, few)) (moved (mark_begins front some) here)
-          (ap (λ b. b == 92) (same (quote_begin front - 1) (omega (arith, there.1, there.2))) ∙ before_mark front some)
-        where
-          moved : {byte other : ℕ} → (other ≡ 34) ⊎ (other ≡ 92) → byte ≡ other → (byte ≡ 34) ⊎ (byte ≡ 92)
-          moved (inl quote) same = inl (same ∙ quote)
-          moved (inr slash) same = inr (same ∙ slash)
-      go false true quote blank whole =
-          let some = ltb-true 0 (last_blank front) blank in
+          mark_behind (quote_begin front) some (omega (arith, there.1, there.2)) (mark_begins front some) (before_mark front some)
+      go false true quote line_end some =
+          let there = line_end_begins state front (ltb-true 0 (last_line_end front) line_end) in
+          (there.0, inr (inr (inr there.1)))
+      go false false quote line_end some =
           let there = blank_there front some in
-          begins_at (past_all state (take (last_blank front) text)) text (last_blank front) (omega (arith, there.1, few))
-          (inr (inl (same (last_blank front) there.1 ∙ there.0)))
-      go false false quote blank whole = cc
+          (there.1, inr (inl there.0))
+
+module _ (state : InString) (text : List ℕ) where
+  long_begins : (chunk_of_long (take most_line_bytes text)).is_broken ≡ false
+      → Begins (past_all state (take (chunk_of_long (take most_line_bytes text)).bytes text)) (drop (chunk_of_long (take most_line_bytes text)).bytes text)
+  long_begins whole = go (nat_lt 0 (chunk_end (take most_line_bytes text))) refl whole
+    where
+      here : 0 < chunk_end (take most_line_bytes text)
+          → Begins (past_all state (take (chunk_end (take most_line_bytes text)) text)) (drop (chunk_end (take most_line_bytes text)) text)
+      here some =
+          let front : List ℕ = take most_line_bytes text in
+          let at : ℕ = chunk_end front in
+          let begins = end_begins state front some in
+          let size = length-take most_line_bytes text in
+          let within = begins.0 in
+          let few : at < most_line_bytes = omega (arith, within, size) in
+          let before : past_all state (take at front) ≡ past_all state (take at text) = ap (past_all state) (take-take at most_line_bytes text (omega (arith, few))) in
+          begins_at (past_all state (take at text)) text at (omega (arith, within, size))
+          (subst (λ s. BeginsWith s (get_or text at 0)) before
+          (subst (BeginsWith (past_all state (take at front))) (get_or-take most_line_bytes text at 0 few) begins.1))
+
+      go : (b : Bool) → nat_lt 0 (chunk_end (take most_line_bytes text)) ≡ b
+          → (let first : Chunk = cond b (record { bytes = chunk_end (take most_line_bytes text); is_broken = false })
+          (record { bytes = max 1 (without_end goes_on_in_numbers (take most_line_bytes text)); is_broken = true }) in
+          first.is_broken ≡ false → Begins (past_all state (take first.bytes text)) (drop first.bytes text))
+      go true some whole = here (ltb-true 0 (chunk_end (take most_line_bytes text)) some)
+      go false none whole = cc
 
   -- what stands behind a chunk that is not broken off begins one
   pub next_begins : (first_chunk text).is_broken ≡ false → Begins (past_all state (take (first_chunk text).bytes text)) (drop (first_chunk text).bytes text)
   next_begins whole = elim (cases_lt most_line_bytes (line_bytes text)) [
     | inl long ↦
         let is = first_of_long text long in
-        let front : List ℕ = take most_line_bytes text in
-        let within : length front ≤ length text = omega (arith, length-take most_line_bytes text) in
         subst (λ (n : ℕ). Begins (past_all state (take n text)) (drop n text)) (ap (λ (first : Chunk). first.bytes) (sym is))
-        (long_begins front refl within (ap (λ (first : Chunk). first.is_broken) (sym is) ∙ whole))
+        (long_begins (ap (λ (first : Chunk). first.is_broken) (sym is) ∙ whole))
     | inr short ↦
         let bytes : (first_chunk text).bytes ≡ min (suc (line_bytes text)) (length text) = ap (λ (first : Chunk). first.bytes) (first_line text short) in
         elim (cases_lt (line_bytes text) (length text)) [

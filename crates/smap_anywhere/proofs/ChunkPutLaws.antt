@@ -43,52 +43,6 @@ pub spans_in_text : (text line : List ℕ) (spans found : List Span) → length 
 spans_in_text text line spans found within is order =
     subst (AreSpansInOrder 0 (length text)) (sym is) (spans_in_more 0 (length line) (length text) spans within order)
 
--- a line without a pair has none
-pub no_spans : (known : UrlsKnown) (text line : List ℕ) → line ≡ line_of text → pairs_of line ≡ [] → spans_of known text ≡ []
-unfolding places_in
-no_spans known text line line_is none =
-    let here : pairs_of (line_of text) ≡ [] = ap pairs_of (sym line_is) ∙ none in
-    ap (λ pairs. filter_map (place_of known (line_of text) (seen_of (line_of text)) pairs) pairs) here
-
-plain_parts : (known : UrlsKnown) (text : List ℕ) → spans_of known text ≡ [] → chunk_parts known text ≡ map other text
-unfolding chunk_parts
-plain_parts known text none = ap (parts_by_spans text 0) none
-
--- ---- one without places
-
-module _ {W : Type 0} (seen : W → SinkSeen) (known : UrlsKnown) (text line : List ℕ) (before after : LineOutput W) (line_is : line ≡ line_of text)
-    (none : pairs_of line ≡ []) where
-  module _ {M K : Type 0} (Finds : M → (url : List ℕ) → M → Type 0) (under : M → (url : List ℕ) → Option MapRecord) (old : ChunkWriter M K) where
-    plain_put : Puts seen before after text → PutsParts Finds under seen old old before after (chunk_parts known text)
-        (unknown_among known text (spans_of urls_seeming text))
-    plain_put puts = record {
-      text = text;
-      become = subst (λ parts. Becomes Finds under old.writer old.writer parts text) (sym (plain_parts known text (no_spans known text line line_is none)))
-          (becomes_others Finds under old.writer text);
-      others = subst (λ spans. AreNoted old.writer.is_noted (unknown_among known text spans) (notes_seen old.others.now) (notes_seen old.others.now))
-          (sym (no_spans urls_seeming text line line_is none)) (noted_none old.writer.is_noted (notes_seen old.others.now));
-      puts = puts;
-    }
-
-    pub plain_puts : {T : Type 0} (result : Result T DeviceFault) → IsPut seen before after text result →
-        OnOk result (PutsParts Finds under seen old old before after (chunk_parts known text) (unknown_among known text (spans_of urls_seeming text)))
-    plain_puts (Ok done) puts = plain_put puts
-    plain_puts (Err fault) fails = tt
-
-  pub plain_fails : {T : Type 0} (Allows : (url : List ℕ) → Option MapRecord → Type 0) (result : Result T DeviceFault) → IsPut seen before after text result →
-      OnErr result (FailsToPutParts Allows seen before after (chunk_parts known text))
-  plain_fails Allows (Ok done) puts = tt
-  plain_fails Allows (Err fault) fails = record {
-    text = text;
-    may = subst (λ parts. MayBecome Allows parts text) (sym (plain_parts known text (no_spans known text line line_is none))) (may_others Allows text);
-    fails = fails;
-  }
-
--- there is none
-pub none_here : {X : Type 0} (o : Option X) (A : Type 0) (B : X → Type 0) (b : Bool) → MatchOption o A B → is_some o ≡ not b → b ≡ true → A
-none_here None A B b is none here = is
-none_here (Some x) A B b is none here = absurd (cc (none, ap not here))
-
 -- ---- one with places
 
 module _ {W : Type 0} (seen : W → SinkSeen) (known : UrlsKnown) (text : List ℕ) (before after : LineOutput W) (parts : List Part)

@@ -7,7 +7,7 @@ use Rattle.std.specs.List.{cons_option, filter_map, find, list_all, list_any, sl
 use Rattle.std.proofs.lemmas.Bool.{and_parts, eq-eqb, le-leb, leb-true, ne_eqb}
 use Rattle.std.proofs.lemmas.List.{drop_at, take_all, take_at}
 use Rattle.smap_lines.specs.Bytes.{IsLineEnd}
-use Rattle.smap_pairs.specs.FrameUrl.{is_one_url}
+use Rattle.smap_pairs.specs.FrameUrl.{is_no_sentence, is_one_url}
 use Rattle.smap_pairs.specs.Known.{UrlsKnown}
 use Rattle.smap_pairs.specs.Laws.LastPair.{IsLastPair, goes_further, last_printed}
 use Rattle.smap_pairs.specs.Laws.Pairs.{are_in_order}
@@ -24,7 +24,7 @@ use Rattle.smap_trace.proofs.FrameLaws.{parts_are_frame}
 use Rattle.smap_trace.specs.Frame.{FrameParts, IsCallFrame, IsForm, IsFrame, IsPlainFrame, IsSignFrame}
 use Rattle.smap_trace.specs.FrameOf.{frame_of}
 use Rattle.smap_anywhere.specs.FramePlaces.{has_file, is_outside}
-use Rattle.smap_anywhere.specs.FrameUrl.{frame_url, url_in}
+use Rattle.smap_anywhere.specs.FrameUrl.{frame_url, or_before_tail, url_in}
 
 -- ---- behind the numbers of a frame
 
@@ -96,10 +96,12 @@ piece_before piece bytes start (one ∷ before) pair order outside low =
 -- ---- a URL
 
 -- where the one is so if the other is
-through : (own all low one has : Bool) → (all ≡ true → low ≡ true) → (own || ((all && one) && has)) ≡ true → (own || ((low && one) && has)) ≡ true
-through true all low one has so is = refl
-through false true low one has so is = ap (λ b. (b && one) && has) (so refl) ∙ is
-through false false low one has so is = cc
+through : (own name all low whole one has : Bool) → (all ≡ true → low ≡ true)
+    → ((own && (name || (all && whole))) || ((all && one) && has)) ≡ true → ((own && (name || (low && whole))) || ((low && one) && has)) ≡ true
+through own name true low whole one has so is = ap (λ b. (own && (name || (b && whole))) || ((b && one) && has)) (so refl) ∙ is
+through true true false low whole one has so is = refl
+through true false false low whole one has so is = absurd (cc)
+through false name false low whole one has so is = absurd (cc)
 
 -- ---- a line
 
@@ -171,7 +173,8 @@ module _ (known : UrlsKnown) (frames : (line : List ℕ) → known.frame_url lin
   has : has_file known line parts ≡ true → has_frame_url known line (seen_of line) whole pair start (slice_range line start end) ≡ true
   has found =
       ap (λ url. has_frame_url known line (seen_of line) whole pair start url) url_is
-      ∙ through (known.has_own parts.url) (list_all (is_outside start end) (pairs_of line)) (nat_le pair.piece start)
+      ∙ through (known.has_own parts.url) (known.is_name parts.url) (list_all (is_outside start end) (pairs_of line)) (nat_le pair.piece start)
+      (is_no_sentence (slice_range (seen_of line) start end))
       (is_one_url (slice_range (seen_of line) 0 start) (slice_range (seen_of line) start end)) (known.has_pattern parts.url)
       (λ outside. le-leb pair.piece start (piece_before 0 (length line) start last.before pair order
       (ap (list_all (is_outside start end)) (sym pairs_are) ∙ outside) (omega arith)))
@@ -184,7 +187,7 @@ module _ (known : UrlsKnown) (frames : (line : List ℕ) → known.frame_url lin
       let first : 0 + start ≡ start = omega arith in
       let second : 0 + end ≡ end = omega arith in
       ap (λ l. at (known.frame_url l)) (ap (λ n. take n line) none ∙ take_all (length line) line (omega arith))
-      ∙ ap at (frames line ∙ ap (option_map url_in) is)
+      ∙ ap at (frames line ∙ ap (λ parts. or_before_tail line (option_map url_in parts)) is)
       ∙ (λ i. frame_with known line (seen_of line) whole (first i) (find (λ one. one.start == second i) (pairs_of line)))
       ∙ ap (λ pairs. frame_with known line (seen_of line) whole start (find (λ one. one.start == end) pairs)) pairs_are
       ∙ ap (frame_with known line (seen_of line) whole start) (last_found 0 (length line) last.before pair order)

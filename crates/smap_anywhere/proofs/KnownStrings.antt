@@ -1,16 +1,17 @@
 -- Of the URLs of maps none with a quotation mark is named, and that of a frame stands behind a sign: so JSON stays JSON.
-use Rattle.std.proofs.Common.{◌≡◌, ◌&&◌, ◌<◌, ◌+◌, ◌-◌, ◌++◌, inl, inr, ℕ, Bool, true, false, List, [], ◌∷◌, Option, Some, None, IfSome, ap, append_assoc, arith, codes, get_or, length, length-append, option_map, refl, sym, ◌∙◌}
+use Rattle.std.proofs.Common.{◌≡◌, ◌&&◌, ◌<◌, ◌+◌, ◌-◌, ◌++◌, inl, inr, ℕ, Bool, true, false, List, [], ◌∷◌, Option, Some, None, IfSome, ap, append_assoc, arith, codes, get_or, length, length-append, min, option_map, refl, sym, take, ◌∙◌}
 use Rattle.std.specs.Prelude.{not}
 use Rattle.std.specs.Fmt.{decimal}
 use Rattle.std.proofs.lemmas.Bool.{and_parts}
-use Rattle.std.proofs.lemmas.List.{get_or_append_left, get_or_at}
+use Rattle.std.proofs.lemmas.List.{get_or-take, get_or_append_left, get_or_at, length-take}
+use Rattle.std.proofs.lemmas.Option.{IfSome_then}
 use Rattle.smap_pairs.specs.Json.{has_quotation_mark}
 use Rattle.smap_pairs.specs.StringPlaces.{AreForStrings, IsBehindSign, begins_frame_url}
 use Rattle.smap_trace.proofs.FrameLaws.{parts_are_frame}
 use Rattle.smap_trace.specs.Frame.{FrameParts, IsForm, IsFrame}
 use Rattle.smap_trace.specs.FrameOf.{frame_of}
-use Rattle.smap_anywhere.specs.FrameUrl.{frame_url, url_in}
-use Rattle.smap_anywhere.specs.Laws.FrameUrl.{url_within}
+use Rattle.smap_anywhere.specs.FrameUrl.{frame_url, tail_bytes, url_in, whole_frame_url, without_tail}
+use Rattle.smap_anywhere.specs.Laws.FrameUrl.{of_both, url_within}
 use Rattle.smap_anywhere.specs.MapUrls.{has_folder, is_name_by, is_without_query, urls_known}
 use Rattle.smap_anywhere.specs.MapsSeen.{MapsSeen}
 
@@ -70,14 +71,31 @@ sign_there line parts frame =
           ∙ ap begins_frame_url six.1 ∙ ends.sign,
     )
 
-frames_behind : (line : List ℕ) → IfSome (frame_url line) (IsBehindSign line)
-frames_behind line = go (frame_of line) refl
+whole_behind : (line : List ℕ) → IfSome (whole_frame_url line) (IsBehindSign line)
+whole_behind line = go (frame_of line) refl
   where
     go : (parts : Option FrameParts) → frame_of line ≡ parts → IfSome (option_map url_in parts) (IsBehindSign line)
     go None is = tt
     go (Some parts) is =
         let frame = parts_are_frame line parts is in
         let sign = sign_there line parts frame in (omega arith, url_within line parts frame, sign.0, sign.1)
+
+-- what stands in the front of a line stands in the line
+of_front : (bytes : ℕ) (line : List ℕ) (url : ℕ × ℕ) → IsBehindSign (take bytes line) url → IsBehindSign line url
+of_front bytes line url is =
+    let size : length (take bytes line) ≡ min bytes (length line) = length-take bytes line in
+    let within : url.0 - 1 < bytes = omega (arith, is.0, is.1, is.2, size) in (
+      is.0,
+      omega (arith, is.1, size),
+      is.2,
+      ap begins_frame_url (sym (get_or-take bytes line (url.0 - 1) 0 within)) ∙ is.3,
+    )
+
+frames_behind : (line : List ℕ) → IfSome (frame_url line) (IsBehindSign line)
+frames_behind line =
+    of_both (IsBehindSign line) line (whole_behind line)
+    (IfSome_then (whole_frame_url (without_tail line)) (whole_behind (without_tail line))
+    (λ url is. of_front (length line - tail_bytes line) line url is))
 
 not_is : (b : Bool) → not b ≡ true → b ≡ false
 not_is true is = cc

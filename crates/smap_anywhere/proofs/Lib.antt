@@ -8,6 +8,7 @@ pub mod PutLaws
 pub mod LineOfLaws
 pub mod CutLaws
 pub mod PassingLaws
+pub mod PlainLinesLaws
 pub mod ChunkPutLaws
 pub mod ThroughLaws
 pub mod RewritingLaws

@@ -82,7 +82,8 @@ begin_letter : (byte : ℕ) (state : InString) → BeginsWith state byte → (st
 begin_letter byte state (inl is) = inl is
 begin_letter byte state (inr (inl is)) = inr (ap is_ascii_alphanumeric is)
 begin_letter byte state (inr (inr (inl is))) = inr (ap is_ascii_alphanumeric is)
-begin_letter byte state (inr (inr (inr is))) = inr (ap is_ascii_alphanumeric is.0)
+begin_letter byte state (inr (inr (inr (inl is)))) = inr (ap is_ascii_alphanumeric is.0)
+begin_letter byte state (inr (inr (inr (inr is)))) = inr (ap is_ascii_alphanumeric is)
 
 line_begins : (state : InString) (byte : ℕ) (text : List ℕ) (size : ℕ) → BeginsWith state byte → BeginsAnew state (take size (byte ∷ text))
 line_begins state byte text zero begins = inr refl
@@ -94,6 +95,11 @@ blank_between between may = refl
 blank_between behind_backslash may = cc
 blank_between (before_digits more) may = cc
 
+hash_between : (state : InString) → may_stand state 35 ≡ true → state ≡ between
+hash_between between may = refl
+hash_between behind_backslash may = cc
+hash_between (before_digits more) may = cc
+
 slash_between : (state : InString) → state ≢ behind_backslash → may_stand state 92 ≡ true → state ≡ between
 slash_between between unlike may = refl
 slash_between behind_backslash unlike may = absurd (unlike refl)
@@ -103,7 +109,8 @@ first_between : (state : InString) (byte : ℕ) → BeginsWith state byte → by
 first_between state byte (inl is) unlike may = is
 first_between state byte (inr (inl is)) unlike may = blank_between state (ap (may_stand state) (sym is) ∙ may)
 first_between state byte (inr (inr (inl is))) unlike may = absurd (unlike is)
-first_between state byte (inr (inr (inr is))) unlike may = slash_between state is.1 (ap (may_stand state) (sym is.0) ∙ may)
+first_between state byte (inr (inr (inr (inl is)))) unlike may = slash_between state is.1 (ap (may_stand state) (sym is.0) ∙ may)
+first_between state byte (inr (inr (inr (inr is)))) unlike may = hash_between state (ap (may_stand state) (sym is) ∙ may)
 
 begins_with_mark : (byte end : ℕ) (text : List ℕ) → 0 < end → has_quotation_mark (take end (byte ∷ text)) ≡ false → byte ≢ 34
 begins_with_mark byte zero text some none is = absurd (omega arith)

@@ -1,3 +1,4 @@
 pub mod FrameUrl
+pub mod MapFront
 pub mod AnywhereBy
 pub mod AnywhereSeen

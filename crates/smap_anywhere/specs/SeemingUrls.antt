@@ -1,6 +1,6 @@
 -- What looks like a URL (this project's own), where none is known: it holds `://`, or ends as paths of generated programs do, or
 -- begins as a whole path does.
-use Rattle.std.specs.Prelude.{ℕ, ◌==◌, ◌||◌, ◌&&◌, Bool, false, List, [], ◌∷◌, codes}
+use Rattle.std.specs.Prelude.{ℕ, ◌==◌, ◌||◌, ◌&&◌, Bool, false, List, [], ◌∷◌, None, codes}
 use Rattle.std.specs.Bool.{nat_eq}
 use Rattle.std.specs.Char.{is_ascii_alphabetic}
 use Rattle.std.specs.List.{ends_with, starts_with}
@@ -41,4 +41,5 @@ urls_seeming = record {
   is_named = λ by url. false;
   is_prefix = λ text. false;
   has_pattern = looks_like_url;
+  front = None;
 }

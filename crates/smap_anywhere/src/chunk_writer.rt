@@ -15,11 +15,12 @@ ghost use Rattle.smap_trace.specs.Rewriting.{Looked};
 
 use crate::chunk_line::{find, line_of};
 use crate::parts_writer::{PartsWriter, url_of};
+use crate::plain_lines::plain_lines;
 use crate::seeming_urls::SeemingUrls;
 use smap_io::{ByteSink, DeviceFault};
 use smap_lines::LineOutput;
 use smap_locations::without_query;
-use smap_pairs::{KnownUrls, LinePlaces, Span, first_chunk, next_pair, staying_bytes};
+use smap_pairs::{KnownUrls, LinePlaces, Span, first_chunk, staying_bytes};
 use smap_trace::{Maps, Naming, UrlNotes};
 
 /// Writes a text chunk by chunk: what a line has of places, room for it, the writer of its parts, the notes of what looks
@@ -73,8 +74,8 @@ impl<M: Maps, K: KnownUrls> ChunkWriter<'_, '_, '_, '_, '_, M, K> {
         Ok(done)
     }
 
-    // Puts what becomes of the first chunk of a text, or of the bytes of it that stay, and counts its bytes, none where
-    // these are not decided.
+    // Puts what becomes of the first chunk of a text, or of the bytes of it that stay, or of the lines of it that are told to
+    // have no place; and counts its bytes, none where these are not decided.
     fn put_next<W: ByteSink>(
         &mut self,
         text: &[u8],
@@ -100,6 +101,12 @@ impl<M: Maps, K: KnownUrls> ChunkWriter<'_, '_, '_, '_, '_, M, K> {
             if bytes > 0 {
                 output.put(&text[..bytes])?;
                 self.is_broken = text[bytes - 1] != b'\n';
+                return Ok(bytes);
+            }
+        } else if !self.writer.is_noted {
+            let bytes = plain_lines(self.known, text);
+            if bytes > 0 {
+                output.put(&text[..bytes])?;
                 return Ok(bytes);
             }
         }
@@ -137,10 +144,6 @@ impl<M: Maps, K: KnownUrls> ChunkWriter<'_, '_, '_, '_, '_, M, K> {
             output.old output.new (chunk_parts (K.known self.old.known.now) text.now)) }
     {
         let line = line_of(text);
-        // Most lines have no numbers, and so no place.
-        if next_pair(line, 0).is_none() {
-            return output.put(text);
-        }
         find(self.places, self.known, line);
         self.writer
             .put_parts(text, self.places.places(), self.room, output)?;

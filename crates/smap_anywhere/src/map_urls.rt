@@ -1,9 +1,14 @@
 //! The URLs of maps.
-ghost use Rattle.std.specs.Prelude.{◌≡◌, IfOk};
-ghost use Rattle.smap_anywhere.specs.MapUrls.{has_folder, has_quotation_mark, is_argument, is_name, is_name_by, is_without_query};
+ghost use Rattle.std.specs.List.{prefix_len};
+ghost use Rattle.std.specs.Prelude.{◌≡◌, ◌≤◌, ◌==◌, IfOk, length, not, option_map};
+ghost use Rattle.smap_anywhere.specs.MapUrls.{before_backslash, common_begin, common_join, front, front_of};
+ghost use Rattle.smap_anywhere.specs.MapUrls.{has_folder, is_argument, is_name, is_name_by, is_without_query};
+ghost use Rattle.smap_pairs.specs.Json.{has_quotation_mark};
 
 use crate::frame_url::frame_url;
 use crate::lengths::each_length;
+use memchr::memmem::Finder;
+use smap_by_text::common_front;
 use smap_locations::{Locations, without_query};
 use smap_pairs::{KnownUrls, NamedBy};
 use smap_trace::Table;
@@ -18,19 +23,21 @@ pub struct MapUrls<'t> {
     // How many bytes the URLs have that are named, and the prefixes of folders, each number once.
     names: Vec<usize>,
     prefixes: Vec<usize>,
+    // What all URLs begin with, where they have it in common.
+    front: Option<Finder<'t>>,
 }
 
 impl<'t> Model for MapUrls<'t> {
     ghost use Rattle.smap_anywhere.specs.MapsSeen.{MapsSeen};
-    ghost use Rattle.smap_anywhere.specs.Private.MapUrls.{AreLengths};
+    ghost use Rattle.smap_anywhere.specs.Private.MapUrls.{AreKept};
 
     ghost Value = { MapsSeen };
 
     ghost view = { λ urls. record { table = urls.table.now; locations = urls.locations.now } };
 
-    ghost invariant = { λ urls. AreLengths
+    ghost invariant = { λ urls. AreKept
         (record { table = urls.table.now; locations = urls.locations.now })
-        urls.names.items urls.prefixes.items };
+        urls.names.items urls.prefixes.items urls.front };
 }
 
 impl<'t> MapUrls<'t> {
@@ -54,6 +61,7 @@ impl<'t> MapUrls<'t> {
             locations,
             names,
             prefixes,
+            front: front_of_urls(table, locations),
         })
     }
 
@@ -78,6 +86,7 @@ impl<'t> MapUrls<'t> {
 
 impl KnownUrls for MapUrls<'_> {
     ghost use Rattle.smap_anywhere.specs.Laws.FrameUrl.{frame_url_within};
+    ghost use Rattle.smap_anywhere.specs.Laws.MapFront.{front_known};
     ghost use Rattle.smap_anywhere.specs.MapUrls.{urls_known};
 
     ghost known = { urls_known };
@@ -114,11 +123,20 @@ impl KnownUrls for MapUrls<'_> {
         &self.prefixes
     }
 
+    fn find_front(&self, text: &[u8]) -> Option<usize> {
+        match &self.front {
+            Some(front) => front.find(text),
+            None => Some(0),
+        }
+    }
+
     ghost within = { λ urls. frame_url_within };
+
+    ghost fronts = { front_known };
 }
 
-// Whether a text has a quotation mark.
-fn has_quotation_mark(text: &[u8]) -> bool
+/// Whether a text has a quotation mark.
+pub fn has_quotation_mark(text: &[u8]) -> bool
     ensures { result ≡ has_quotation_mark text.now }
 {
     text.contains(&b'"')
@@ -129,4 +147,66 @@ fn is_without_query(text: &[u8]) -> bool
     ensures { result ≡ is_without_query text.now }
 {
     without_query(text) == text
+}
+
+// What all URLs begin with, where there are no patterns, up to a backslash.
+fn front_of_urls<'t>(table: &'t Table, locations: &'t Locations) -> Option<Finder<'t>>
+    ensures { result ≡ front (record { table = table.now; locations = locations.now }) }
+{
+    if locations.has_patterns() {
+        None
+    } else {
+        front_of(common_begin(table, locations))
+    }
+}
+
+// What stands in a text before its first backslash, where there is one and it has two bytes at least.
+fn front_of<'t>(text: Option<&'t [u8]>) -> Option<Finder<'t>>
+    ensures { result ≡ front_of (option_map (λ text. text.now) text.entry) }
+{
+    let front = before_backslash(text?);
+    if 2 <= front.len() {
+        Some(Finder::new(front))
+    } else {
+        None
+    }
+}
+
+// What all URLs that are named and all prefixes begin with, where there are any.
+fn common_begin<'t>(table: &'t Table, locations: &'t Locations) -> Option<&'t [u8]>
+    ensures { option_map (λ text. text.now) result
+        ≡ common_begin (record { table = table.now; locations = locations.now }) }
+{
+    let urls = joined(table.common_url(), locations.common_url());
+    joined(urls, locations.common_prefix())
+}
+
+// What texts all begin with of which some begin with one and the others with another, where there are any.
+fn joined<'t>(one: Option<&'t [u8]>, other: Option<&'t [u8]>) -> Option<&'t [u8]>
+    ensures { option_map (λ text. text.now) result
+        ≡ common_join (option_map (λ text. text.now) one.entry)
+        (option_map (λ text. text.now) other.entry) }
+{
+    let Some(one) = one else {
+        return other;
+    };
+    match other {
+        Some(other) => Some(common_front(one, other)),
+        None => Some(one),
+    }
+}
+
+// What stands in a text before its first backslash.
+fn before_backslash(text: &[u8]) -> &[u8]
+    ensures { result.now ≡ before_backslash text.now }
+{
+    &text[..bytes_before_backslash(text)]
+}
+
+// How many bytes that is.
+fn bytes_before_backslash(text: &[u8]) -> usize
+    ensures count { result ≡ prefix_len (λ byte. not (byte == 92)) text.now }
+    ensures within { result ≤ length text.now }
+{
+    text.iter().take_while(|byte| **byte != b'\\').count()
 }

@@ -48,7 +48,13 @@ impl KnownUrls for SeemingUrls {
         &[]
     }
 
+    fn find_front(&self, _text: &[u8]) -> Option<usize> {
+        Some(0)
+    }
+
     ghost within = { λ urls. frame_url_within };
+
+    ghost fronts = { λ urls. tt };
 }
 
 // Whether it looks like a URL: it holds `://`, or ends as paths of generated programs do, or begins as a whole path does.

@@ -2,16 +2,11 @@
 ghost use Rattle.std.specs.Prelude.{◌≡◌, ◌<◌, ◌≤◌, ◌+◌, ◌∷◌, [], IfOk, IfSome, MatchOption, drop, false, length, nat_lt};
 ghost use Rattle.smap_anywhere.specs.FoundUrls.{IsWithin, goes_on, nothing_read, url_there, urls_left, urls_waiting};
 ghost use Rattle.smap_anywhere.specs.Private.UrlFinder.{HandsOut};
-ghost use Rattle.smap_anywhere.specs.ChunkParts.{spans_of};
-ghost use Rattle.smap_anywhere.specs.SeemingUrls.{urls_seeming};
-ghost use Rattle.smap_lines.specs.Limits.{most_line_bytes};
-ghost use Rattle.smap_pairs.specs.Chunks.{IsInOneLine};
-ghost use Rattle.smap_pairs.specs.Spans.{AreSpansInOrder};
 
-use crate::chunk_line::{find, line_of};
+use crate::chunk_line::find_in_chunk;
 use crate::seeming_urls::SeemingUrls;
 use smap_lines::MOST_LINE_BYTES;
-use smap_pairs::{LinePlaces, first_chunk, next_pair, staying_bytes};
+use smap_pairs::{LinePlaces, first_chunk, staying_bytes};
 use std::alloc::{AllocError, Global};
 use std::marker::Model;
 
@@ -146,7 +141,8 @@ impl UrlFinder {
         let Some(chunk) = first_chunk(rest, true) else {
             return;
         };
-        self.given = find_in(&mut self.places, &rest[..chunk.bytes]);
+        find_in_chunk(&mut self.places, &SeemingUrls, &rest[..chunk.bytes]);
+        self.given = 0;
         self.begin = self.end;
         self.end += chunk.bytes;
         self.is_broken = chunk.is_broken;
@@ -168,21 +164,4 @@ impl UrlFinder {
             is_halved: span.is_halved,
         })
     }
-}
-
-// Finds the places of a chunk, which stand behind the first ones that are there then, so many.
-fn find_in(places: &mut LinePlaces, chunk: &[u8]) -> usize
-    requires one { IsInOneLine chunk.now }
-    requires room { places.old.most_bytes ≡ most_line_bytes }
-    ensures spans { drop result places.new.places ≡ spans_of urls_seeming chunk.now }
-    ensures order { AreSpansInOrder 0 (length chunk.now) (drop result places.new.places) }
-    ensures same_room { places.new.most_bytes ≡ places.old.most_bytes }
-{
-    let line = line_of(chunk);
-    // Most lines have no numbers, and so no place.
-    if next_pair(line, 0).is_none() {
-        return places.places().len();
-    }
-    find(places, &SeemingUrls, line);
-    0
 }

@@ -1,7 +1,8 @@
 -- Worked examples of how a text is cut: each holds by computing both sides.
 use Rattle.std.proofs.Common.{◌≡◌, false, true, [], ◌∷◌, map, refl, codes}
-use Rattle.smap_pairs.specs.Chunks.{chunk_of_long, cuts_from, cuts_of, first_chunk, staying_bytes, stays_broken}
+use Rattle.smap_pairs.specs.Chunks.{chunk_of_long, cuts_from, cuts_of, first_chunk, last_line_end, staying_bytes, stays_broken}
 use Rattle.smap_pairs.specs.Chunks.Cut.{chunk, stays}
+use Rattle.smap_pairs.specs.Escapes.{ending_of, escape_from, escape_of}
 
 -- ---- the first chunk of a long line, whose first bytes are these
 
@@ -13,28 +14,60 @@ quote = refl
 escaped_quote : chunk_of_long (codes "\"f\\\\\\\"b") ≡ record { bytes = 2; is_broken = false }
 escaped_quote = refl
 
+-- or else up to the last escape of a line's end, with its backslashes
+line_end : chunk_of_long (codes "at f\\na\\\\nb c") ≡ record { bytes = 7; is_broken = false }
+unfolding ending_of escape_from escape_of last_line_end
+line_end = refl
+
+first_line_end : chunk_of_long (codes "\\nat f") ≡ record { bytes = 4; is_broken = false }
+unfolding ending_of escape_from escape_of last_line_end
+first_line_end = refl
+
+line_ends : map last_line_end (
+    codes "a\\rb" ∷ codes "a\\u000ab" ∷ codes "a\\x0Db" ∷ codes "a#015b" ∷ codes "a\\x5Cnb" ∷ codes "\\na\\r\\n" ∷ [])
+    ≡ 1 ∷ 1 ∷ 1 ∷ 1 ∷ 1 ∷ 5 ∷ []
+unfolding ending_of escape_from escape_of last_line_end
+line_ends = refl
+
+-- what is none
+no_line_ends : map last_line_end (
+    codes "a\\tb" ∷ codes "a#011b" ∷ codes "a\\x22b" ∷ codes "a\\\\b" ∷ codes "a\\u000" ∷ codes "a\nb" ∷ [])
+    ≡ 0 ∷ 0 ∷ 0 ∷ 0 ∷ 0 ∷ 0 ∷ []
+unfolding ending_of escape_from escape_of last_line_end
+no_line_ends = refl
+
+-- but a quotation mark comes first
+quote_before_line_end : chunk_of_long (codes "a\"b\\nc") ≡ record { bytes = 1; is_broken = false }
+quote_before_line_end = refl
+
 -- or else up to the last blank
 blank : chunk_of_long (codes "at f (a.js:1:2") ≡ record { bytes = 4; is_broken = false }
+unfolding ending_of escape_from escape_of last_line_end
 blank = refl
 
 -- the numbers at its end may go on
 numbers : chunk_of_long (codes "at-a.js:10:2") ≡ record { bytes = 7; is_broken = true }
+unfolding ending_of escape_from escape_of last_line_end
 numbers = refl
 
 -- so may those with a sign
 sign : chunk_of_long (codes "mid-2-") ≡ record { bytes = 3; is_broken = true }
+unfolding ending_of escape_from escape_of last_line_end
 sign = refl
 
 -- but not all are left to the next
 only_numbers : chunk_of_long (codes "12:34") ≡ record { bytes = 1; is_broken = true }
+unfolding ending_of escape_from escape_of last_line_end
 only_numbers = refl
 
 -- a `"` as its first byte is none that it ends before
 first_quote : chunk_of_long (codes "\"ab") ≡ record { bytes = 3; is_broken = true }
+unfolding ending_of escape_from escape_of last_line_end
 first_quote = refl
 
 -- nor is one behind backslashes alone
 first_escaped : chunk_of_long (codes "\\\"ab") ≡ record { bytes = 4; is_broken = true }
+unfolding ending_of escape_from escape_of last_line_end
 first_escaped = refl
 
 -- ---- short lines

@@ -1,17 +1,19 @@
 -- Behind an edge a character of JSON begins.
-use Rattle.std.proofs.Common.{◌≡◌, ◌++◌, ◌-◌, ◌≤◌, ℕ, zero, suc, Bool, true, false, List, [], ◌∷◌, map, take, drop, max, ap, refl, ◌∙◌, arith, Option, Some, None, leb, slice_get, subst, IfSome}
+use Rattle.std.proofs.Common.{◌≡◌, ◌++◌, ◌-◌, ◌≤◌, ℕ, zero, suc, Bool, true, false, List, [], ◌∷◌, map, take, drop, max, ap, refl, sym, ◌∙◌, arith, Option, Some, None, leb, slice_get, subst, IfSome}
 use Rattle.std.specs.Prelude.{if◌then◌else◌, not, slice_index, ◌==◌, ◌&&◌, ◌||◌}
 use Rattle.std.specs.Char.{is_ascii_alphanumeric, is_ascii_hexdigit}
 use Rattle.std.specs.Int.{is_in_range}
 use Rattle.std.specs.List.{prefix_len}
+use Rattle.std.proofs.Math.Bool.{or-false, or-true}
 use Rattle.std.proofs.Math.Seq.{take-add}
 use Rattle.std.proofs.lemmas.Bool.{and_parts, eqb-true, le-leb, leb-true, or_parts}
+use Rattle.std.proofs.lemmas.Bool.Decides.{nat_tests}
 use Rattle.smap_pairs.specs.Bytes.{is_edge_byte, is_letter_or_digit, is_url_sign}
 use Rattle.smap_pairs.specs.Colours.{colour_behind}
 use Rattle.smap_pairs.specs.Escapes.{escape_of, is_backslash}
 use Rattle.smap_pairs.specs.Json.{InString, past, past_all}
 use Rattle.smap_pairs.specs.Json.InString.{between}
-use Rattle.smap_pairs.specs.Seen.{by_itself, bytes_of, coloured, counted, counted_from, ends_with_drive, ends_with_file, escape_or_colour, is_apostrophe, is_before_path, seen_of, settled, settled_from, token_by, token_bytes, token_of, token_size, within}
+use Rattle.smap_pairs.specs.Seen.{by_itself, bytes_of, coloured, counted, counted_from, begins_drive, begins_file, begins_letter, ends_sign, ends_with_drive, ends_with_file, escape_or_colour, first_byte, is_apostrophe, is_before_path, is_before_root, is_continuation, seen_of, settled, settled_from, token_by, token_bytes, token_of, token_size, within}
 use Rattle.smap_pairs.specs.declared.escapes.Escape.{Escape}
 use Rattle.smap_pairs.specs.declared.seen.SeenByte.{SeenByte}
 use Rattle.smap_pairs.specs.declared.token.Token.{Token}
@@ -96,10 +98,13 @@ token_is text = token_by_is text (escape_of text) refl
 
 -- ---- edges
 
--- behind each edge a character begins
+-- behind each edge, and each escape and colour, a character begins
+abbrev pub may_be_edge : SeenByte → Bool
+may_be_edge one = one.is_edge || not (one.size == 0)
+
 abbrev pub Edges : InString → List SeenByte → Type 0
 Edges state [] = Unit {0}
-Edges state (one ∷ seen) = (one.is_edge ≡ true → past state one.byte ≡ between) × Edges (past state one.byte) seen
+Edges state (one ∷ seen) = (may_be_edge one ≡ true → past state one.byte ≡ between) × Edges (past state one.byte) seen
 
 edges_both : (state : InString) (first second : List SeenByte) → Edges state first → Edges (past_all state (bytes_seen first)) second
     → Edges state (first ++ second)
@@ -108,7 +113,8 @@ edges_both state (seen ∷ first) second one more = (one.0, edges_both (past sta
 
 plain_edges : (state : InString) (bytes : List ℕ) → Edges state (map by_itself bytes)
 plain_edges state [] = tt
-plain_edges state (byte ∷ bytes) = ((λ edge. past_edge state byte edge), plain_edges (past state byte) bytes)
+plain_edges state (byte ∷ bytes) =
+    ((λ edge. past_edge state byte (sym (or-false (is_edge_byte byte)) ∙ edge)), plain_edges (past state byte) bytes)
 
 inner_edges : (state : InString) (many : ℕ) (text : List ℕ) (last : SeenByte) → AreInner (suc many) text → last.byte ≡ slice_index text many
     → past_all state (take (suc many) text) ≡ between → Edges state (map within (take many text) ++ last ∷ [])
@@ -140,17 +146,36 @@ all_edges state zero (byte ∷ text) =
 
 -- ---- settled
 
-settled_edge : (state : InString) (before : List SeenByte) (one : SeenByte) (text : List ℕ) → (one.is_edge ≡ true → past state one.byte ≡ between)
-    → (settled before one text).is_edge ≡ true → past state one.byte ≡ between
-unfolding settled
-settled_edge state before one text is = go (is_before_path one text) (is_apostrophe before one text) refl
+-- a byte of a character beyond ASCII is one of no escape
+past_continuation : (state : InString) (byte : ℕ) → is_continuation byte ≡ true → past state byte ≡ between
+past_continuation state byte is =
+    let above : 128 ≤ byte = leb-true 128 byte (and_parts (leb 128 byte) (leb byte 191) is).0 in
+    past_plain state byte (other_byte is_continuation byte 92 refl is) (other_byte is_continuation byte 117 refl is) (grind (arith, nat_tests, above))
+
+past_sign : (state : InString) (before : List SeenByte) (one : SeenByte) → (may_be_edge one ≡ true → past state one.byte ≡ between)
+    → ends_sign before one ≡ true → past state one.byte ≡ between
+past_sign state before one passes = go (one.size == 0) refl
   where
-    go : (path word : Bool) → is_before_path one text ≡ path
-        → (if path then record one { is_edge = not (ends_with_drive before || ends_with_file before) }
-        else if word then record one { counts = 226; is_edge = false } else one).is_edge ≡ true → past state one.byte ≡ between
-    go true word path edge = ap (past state) (eqb-true one.byte 58 (and_parts (one.byte == 58) _ path).0) ∙ past_colon state
-    go false true path edge = cc
-    go false false path edge = is edge
+    go : (alone : Bool) → (one.size == 0) ≡ alone
+        → (if alone then is_continuation one.byte && not (begins_letter (first_byte before)) else one.counts == 226) ≡ true
+        → past state one.byte ≡ between
+    go true alone sign = past_continuation state one.byte (and_parts (is_continuation one.byte) _ sign).0
+    go false alone sign = passes (ap (λ b. one.is_edge || not b) alone ∙ or-true one.is_edge)
+
+settled_edge : (state : InString) (before : List SeenByte) (one : SeenByte) (text : List ℕ) → (may_be_edge one ≡ true → past state one.byte ≡ between)
+    → may_be_edge (settled before one text) ≡ true → past state one.byte ≡ between
+unfolding settled
+settled_edge state before one text is = go (is_before_path one text) (is_apostrophe before one text) (is_before_root before one text) refl refl
+  where
+    go : (path word root : Bool) → is_before_path one text ≡ path → is_before_root before one text ≡ root
+        → may_be_edge (if path then record one { is_edge = not (ends_with_drive before || ends_with_file before) }
+        else if word then record one { counts = 226; is_edge = false } else if root then record one { is_edge = true } else one) ≡ true
+        → past state one.byte ≡ between
+    go true word root path sign edge = ap (past state) (eqb-true one.byte 58 (and_parts (one.byte == 58) _ path).0) ∙ past_colon state
+    go false true root path sign edge = is (ap (λ b. one.is_edge || b) edge ∙ or-true one.is_edge)
+    go false false true path sign edge =
+        past_sign state before one is (and_parts (begins_drive text || begins_file text) (ends_sign before one) sign).1
+    go false false false path sign edge = is edge
 
 settled_edges : (state : InString) (before : List SeenByte) (text : List ℕ) (seen : List SeenByte) → Edges state seen
     → Edges state (settled_from before text seen)
@@ -163,7 +188,7 @@ settled_edges state before text (one ∷ seen) edges =
 edge_at : (state : InString) (at : ℕ) (seen : List SeenByte) → Edges state seen
     → IfSome (slice_get seen at) (λ one. one.is_edge ≡ true → past_all state (take (suc at) (bytes_seen seen)) ≡ between)
 edge_at state at [] edges = tt
-edge_at state zero (one ∷ seen) edges = edges.0
+edge_at state zero (one ∷ seen) edges = λ edge. edges.0 (ap (λ b. b || not (one.size == 0)) edge)
 edge_at state (suc at) (one ∷ seen) edges = edge_at (past state one.byte) at seen edges.1
 
 -- behind each edge of a line

@@ -1,7 +1,8 @@
 -- Worked examples of the URLs of frames that a pattern may have: each holds by computing both sides.
 use Rattle.std.proofs.Common.{◌≡◌, ℕ, Bool, true, false, List, codes, map, refl, reverse}
 use Rattle.smap_pairs.specs.Before.{has_separator}
-use Rattle.smap_pairs.specs.FrameUrl.{begins_again, begins_as_url, has_slash_behind_sign, is_function, is_in_scheme, is_one_url}
+use Rattle.smap_pairs.specs.FrameUrl.{begins_again, begins_as_url, has_barred_query, has_scheme_behind_sign, has_slash_behind_sign, is_function}
+use Rattle.smap_pairs.specs.FrameUrl.{is_in_scheme, is_no_sentence, is_one_url}
 use Rattle.smap_pairs.specs.Path.{is_path}
 use Rattle.smap_pairs.specs.Root.{is_root}
 use Rattle.smap_pairs.specs.declared.seen.SeenByte.{SeenByte}
@@ -34,7 +35,7 @@ a_drive = refl
 -- ---- one URL
 
 with_blanks : is_taken (codes "    at f (") (codes "C:\\Program Files\\a\\app.js") ≡ true
-unfolding plain is_taken begins_again has_slash_behind_sign is_in_scheme
+unfolding plain is_taken begins_again has_slash_behind_sign has_scheme_behind_sign is_in_scheme
 with_blanks = refl
 
 with_brackets : is_taken (codes "    at f (") (codes "https://h/app/(shop)/x.min.js") ≡ true
@@ -49,9 +50,29 @@ behind_a_key : is_taken (codes "    at ") (codes "x=/srv/app.js") ≡ false
 unfolding plain is_taken is_in_scheme is_path is_root has_separator
 behind_a_key = refl
 
+behind_a_second_scheme : is_taken (codes "    at ") (codes "/login failed url=https://h/app.js") ≡ false
+unfolding plain is_taken begins_again has_slash_behind_sign has_scheme_behind_sign is_in_scheme
+behind_a_second_scheme = refl
+
+with_a_url_in_its_query : is_taken (codes "    at ") (codes "/login?url=https://h/app.js") ≡ true
+unfolding plain is_taken begins_again has_slash_behind_sign has_scheme_behind_sign is_in_scheme
+with_a_url_in_its_query = refl
+
 a_relative_path : is_taken (codes "f@") (codes "dist/app.js") ≡ true
 unfolding plain is_taken is_in_scheme is_path is_root has_separator
 a_relative_path = refl
+
+behind_a_function : is_taken (codes "    at ") (codes "N/<@../x/app.js") ≡ false
+unfolding plain is_taken is_in_scheme is_path is_root has_separator
+behind_a_function = refl
+
+behind_a_mark : is_taken (codes "    at ") (codes "+./app.js") ≡ false
+unfolding plain is_taken is_in_scheme is_path is_root has_separator
+behind_a_mark = refl
+
+in_a_package : is_taken (codes "    at ") (codes "npm/@me/a@1.0/app.js") ≡ true
+unfolding plain is_taken is_in_scheme is_path is_root has_separator
+in_a_package = refl
 
 a_sentence : is_taken (codes "    at ") (codes "startup: cannot load https://h/app.js") ≡ false
 unfolding plain is_taken is_in_scheme is_path is_root has_separator
@@ -60,6 +81,27 @@ a_sentence = refl
 a_sentence_behind_a_url : is_taken (codes "me@") (codes "/home: see \"https://h/app.js") ≡ false
 unfolding plain is_taken begins_again has_slash_behind_sign is_in_scheme
 a_sentence_behind_a_url = refl
+
+-- ---- for a folder, or for a list without its query
+
+is_own : (url : List ℕ) → Bool
+is_own url = is_no_sentence (plain url)
+
+path_with_blanks : is_own (codes "/Applications/My App.app/app.js?v=1&t=[2]") ≡ true
+unfolding plain is_own begins_again has_slash_behind_sign has_scheme_behind_sign has_barred_query is_in_scheme
+path_with_blanks = refl
+
+query_with_a_blank : is_own (codes "https://h/app.js?v=1 failed in b.js") ≡ false
+unfolding plain is_own begins_again has_slash_behind_sign has_scheme_behind_sign has_barred_query is_in_scheme
+query_with_a_blank = refl
+
+query_with_a_quotation_mark : is_own (codes "https://h/app.js#1\",x,\"https://h/b.js") ≡ false
+unfolding plain is_own begins_again has_slash_behind_sign has_scheme_behind_sign has_barred_query is_in_scheme
+query_with_a_quotation_mark = refl
+
+path_behind_a_path : is_own (codes "/srv/app.js failed at /srv/b.js") ≡ false
+unfolding plain is_own begins_again has_slash_behind_sign has_scheme_behind_sign has_barred_query is_in_scheme
+path_behind_a_path = refl
 
 -- ---- no function
 

@@ -1,4 +1,5 @@
 mod BytesLaws
+mod EdgeTable
 pub mod EscapesLaws
 pub mod ColoursLaws
 pub mod SeenLaws
@@ -19,6 +20,7 @@ pub mod BackLaws
 pub mod RootLaws
 pub mod PathLaws
 mod WordLaws
+mod LineEndLaws
 mod BracketLaws
 mod BehindExamples
 mod FrameUrlExamples
@@ -34,6 +36,7 @@ pub mod FewLaws
 mod PartedLaws
 mod PairPlaceLaws
 mod FramePlaceLaws
+mod NamedFrameLaws
 pub mod SpansLaws
 mod LinePlacesExamples
 mod ChunkLaws
@@ -41,9 +44,11 @@ mod ChunkExamples
 pub mod JsonLaws
 mod JsonExamples
 mod EscapeStates
+pub mod LineEndStates
 mod EdgeStates
 mod OpenStates
 pub mod NamedPlaces
 mod QuoteStates
 mod WordPlaces
 pub mod StringPlaceLaws
+pub mod FrontLaws

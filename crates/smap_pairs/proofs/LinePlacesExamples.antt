@@ -30,6 +30,7 @@ known = record {
   is_named = λ by url. bytes_eq url (codes "https://h/app.js");
   is_prefix = λ text. bytes_eq text (codes "/n/");
   has_pattern = λ url. ends_with nat_eq url (codes "/p.js");
+  front = None;
 }
 
 -- the URL of each place

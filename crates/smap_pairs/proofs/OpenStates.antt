@@ -8,7 +8,7 @@ use Rattle.std.proofs.lemmas.Bool.{and_parts, eqb-true, le-leb, or_cases, or_par
 use Rattle.smap_pairs.specs.Escapes.{ended_by, ending_of, escape_from, escape_of, found, hexadecimal, is_backslash, number_of, octal, of_size, read_on}
 use Rattle.smap_pairs.specs.Json.{InString, all_may_stand, may_stand, past, past_all, past_digit, past_first}
 use Rattle.smap_pairs.specs.Json.InString.{before_digits, behind_backslash, between}
-use Rattle.smap_pairs.specs.Seen.{by_itself, counted, counted_from, seen_of, settled, settled_from, token_bytes, token_of, token_size, within, is_apostrophe, is_before_path, ends_with_drive, ends_with_file}
+use Rattle.smap_pairs.specs.Seen.{by_itself, counted, counted_from, seen_of, settled, settled_from, token_bytes, token_of, token_size, within, is_apostrophe, is_before_path, is_before_root, ends_with_drive, ends_with_file}
 use Rattle.smap_pairs.specs.declared.escapes.Escape.{Escape}
 use Rattle.smap_pairs.specs.declared.seen.SeenByte.{SeenByte}
 use Rattle.smap_pairs.specs.declared.token.Token.{Token}
@@ -374,13 +374,14 @@ all_open state zero (byte ∷ text) begins =
 
 pub settled_size : (before : List SeenByte) (one : SeenByte) (text : List ℕ) → (settled before one text).size ≡ one.size
 unfolding settled
-settled_size before one text = go (is_before_path one text) (is_apostrophe before one text)
+settled_size before one text = go (is_before_path one text) (is_apostrophe before one text) (is_before_root before one text)
   where
-    go : (path word : Bool) → (if path then record one { is_edge = not (ends_with_drive before || ends_with_file before) }
-        else if word then record one { counts = 226; is_edge = false } else one).size ≡ one.size
-    go true word = refl
-    go false true = refl
-    go false false = refl
+    go : (path word root : Bool) → (if path then record one { is_edge = not (ends_with_drive before || ends_with_file before) }
+        else if word then record one { counts = 226; is_edge = false } else if root then record one { is_edge = true } else one).size ≡ one.size
+    go true word root = refl
+    go false true root = refl
+    go false false true = refl
+    go false false false = refl
 
 settled_alone : (many : ℕ) (before : List SeenByte) (text : List ℕ) (seen : List SeenByte) → AreAlone many (settled_from before text seen) → AreAlone many seen
 unfolding settled_from

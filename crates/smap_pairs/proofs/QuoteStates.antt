@@ -5,7 +5,7 @@ use Rattle.std.specs.Char.{is_ascii_hexdigit}
 use Rattle.std.proofs.lemmas.Bool.{and_parts, eqb-true, ne_eqb}
 use Rattle.smap_pairs.specs.Colours.{colour_behind, colour_from, is_parameter}
 use Rattle.smap_pairs.specs.Escapes.{ended_by, ending_of, escape_from, escape_of, found, is_backslash, meant_by, number_of, octal, of_size, read_on}
-use Rattle.smap_pairs.specs.Seen.{by_itself, bytes_of, coloured, counted, counted_from, counts_as, ends_with_drive, ends_with_file, escape_or_colour, is_apostrophe, is_before_path, seen_of, settled, settled_from, token_by, token_bytes, token_of, token_size, within}
+use Rattle.smap_pairs.specs.Seen.{by_itself, bytes_of, coloured, counted, counted_from, counts_as, ends_with_drive, ends_with_file, escape_or_colour, is_apostrophe, is_before_path, is_before_root, seen_of, settled, settled_from, token_by, token_bytes, token_of, token_size, within}
 use Rattle.smap_pairs.specs.declared.escapes.Escape.{Escape}
 use Rattle.smap_pairs.specs.declared.seen.SeenByte.{SeenByte}
 use Rattle.smap_pairs.specs.declared.token.Token.{Token}
@@ -274,18 +274,19 @@ all_quoted clear zero (byte ∷ text) =
 settled_counts : (before : List SeenByte) (one : SeenByte) (text : List ℕ) → (one.byte ≡ 34 → one.counts ≡ 34)
     → (settled before one text).byte ≡ 34 → (settled before one text).counts ≡ 34
 unfolding settled
-settled_counts before one text counts = go (is_before_path one text) (is_apostrophe before one text) refl
+settled_counts before one text counts = go (is_before_path one text) (is_apostrophe before one text) (is_before_root before one text) refl
   where
-    go : (path word : Bool) → is_apostrophe before one text ≡ word
+    go : (path word root : Bool) → is_apostrophe before one text ≡ word
         → (if path then record one { is_edge = not (ends_with_drive before || ends_with_file before) }
-        else if word then record one { counts = 226; is_edge = false } else one).byte ≡ 34
+        else if word then record one { counts = 226; is_edge = false } else if root then record one { is_edge = true } else one).byte ≡ 34
         → (if path then record one { is_edge = not (ends_with_drive before || ends_with_file before) }
-        else if word then record one { counts = 226; is_edge = false } else one).counts ≡ 34
-    go true word apostrophe quote = counts quote
-    go false true apostrophe quote =
+        else if word then record one { counts = 226; is_edge = false } else if root then record one { is_edge = true } else one).counts ≡ 34
+    go true word root apostrophe quote = counts quote
+    go false true root apostrophe quote =
         let other = eqb-true one.counts 39 (and_parts (one.counts == 39) _ apostrophe).0 in
         let is = counts quote in absurd (omega (arith, other, is))
-    go false false apostrophe quote = counts quote
+    go false false true apostrophe quote = counts quote
+    go false false false apostrophe quote = counts quote
 
 settled_quoted : (clear : ℕ) (before : List SeenByte) (text : List ℕ) (seen : List SeenByte) → AreQuoted clear seen → AreQuoted clear (settled_from before text seen)
 unfolding settled_from

@@ -5,7 +5,7 @@ use Rattle.std.proofs.lemmas.List.{length-map, map-append}
 use Rattle.smap_pairs.specs.declared.seen.SeenByte.{SeenByte}
 use Rattle.smap_pairs.specs.declared.token.Token.{Token}
 use Rattle.smap_pairs.specs.declared.token.Token.TheVariants.{Bytes, Colour, Escaped}
-use Rattle.smap_pairs.specs.Seen.{by_itself, counted, counted_from, ends_with_drive, ends_with_file, is_apostrophe, is_before_path, seen_of, settled, settled_from, token_bytes, token_of, token_size, within}
+use Rattle.smap_pairs.specs.Seen.{by_itself, counted, counted_from, ends_with_drive, ends_with_file, is_apostrophe, is_before_path, is_before_root, seen_of, settled, settled_from, token_bytes, token_of, token_size, within}
 use Rattle.smap_pairs.proofs.TokenLaws.{AreInner, Fits, IsClear, token_fits}
 
 abbrev pub bytes_seen : List SeenByte → List ℕ
@@ -56,13 +56,14 @@ all_bytes zero (byte ∷ text) =
 
 pub settled_byte : (before : List SeenByte) (one : SeenByte) (text : List ℕ) → (settled before one text).byte ≡ one.byte
 unfolding settled
-settled_byte before one text = go (is_before_path one text) (is_apostrophe before one text)
+settled_byte before one text = go (is_before_path one text) (is_apostrophe before one text) (is_before_root before one text)
   where
-    go : (path word : Bool) → (if path then record one { is_edge = not (ends_with_drive before || ends_with_file before) }
-        else if word then record one { counts = 226; is_edge = false } else one).byte ≡ one.byte
-    go true word = refl
-    go false true = refl
-    go false false = refl
+    go : (path word root : Bool) → (if path then record one { is_edge = not (ends_with_drive before || ends_with_file before) }
+        else if word then record one { counts = 226; is_edge = false } else if root then record one { is_edge = true } else one).byte ≡ one.byte
+    go true word root = refl
+    go false true root = refl
+    go false false true = refl
+    go false false false = refl
 
 pub settled_bytes : (before : List SeenByte) (text : List ℕ) (seen : List SeenByte) → bytes_seen (settled_from before text seen) ≡ bytes_seen seen
 unfolding settled_from

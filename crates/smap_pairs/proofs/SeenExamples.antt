@@ -1,7 +1,7 @@
 -- Worked examples of what the bytes of a line count as: each holds by computing both sides. A byte that counts as nothing is
--- shown as `_`, one that counts as a letter beyond ASCII as `A`, as a sign as `S` and as ESC as `E`; and below each stands `|`
--- where a URL may begin behind it.
-use Rattle.std.specs.Prelude.{◌≡◌, ◌==◌, ℕ, List, codes, if◌then◌else◌, map, refl}
+-- shown as `_`, one that counts as a letter beyond ASCII as `A`, as one of a later script as `B`, as a sign as `S` and as ESC as `E`;
+-- and below each stands `|` where a URL may begin behind it.
+use Rattle.std.specs.Prelude.{◌≡◌, ◌==◌, ℕ, List, ◌∷◌, codes, if◌then◌else◌, map, refl}
 use Rattle.smap_pairs.specs.Colours.{colour_behind, colour_from}
 use Rattle.smap_pairs.specs.Escapes.{ending_of, escape_from, escape_of}
 use Rattle.smap_pairs.specs.Seen.{counted_from, seen_of, settled, settled_from, token_of}
@@ -9,7 +9,7 @@ use Rattle.smap_pairs.specs.declared.seen.SeenByte.{SeenByte}
 
 abbrev count_shown : SeenByte → ℕ
 count_shown one =
-    if one.counts == 255 then 95 else if one.counts == 195 then 65 else if one.counts == 226 then 83
+    if one.counts == 255 then 95 else if one.counts == 195 then 65 else if one.counts == 225 then 66 else if one.counts == 226 then 83
     else if one.counts == 27 then 69 else one.counts
 
 abbrev edge_shown : SeenByte → ℕ
@@ -113,6 +113,32 @@ profile = (refl, refl)
 scheme : IsSeen (codes "h://a") (codes "h://a") (codes ".....")
 unfolding colour_behind colour_from counted_from ending_of escape_from escape_of seen_of settled settled_from token_of
 scheme = (refl, refl)
+
+-- before a drive or `file:` behind a quotation mark, as its bytes and as an escape
+drive_behind_mark : IsSeen (226 ∷ 128 ∷ 156 ∷ codes "C:/srv") (83 ∷ 128 ∷ 156 ∷ codes "C:/srv") (codes "..|......")
+unfolding colour_behind colour_from counted_from ending_of escape_from escape_of seen_of settled settled_from token_of
+drive_behind_mark = (refl, refl)
+
+drive_behind_escaped_mark : IsSeen (codes "\\u201cC:/srv") (codes "_____SC:/srv") (codes ".....|......")
+unfolding colour_behind colour_from counted_from ending_of escape_from escape_of seen_of settled settled_from token_of
+drive_behind_escaped_mark = (refl, refl)
+
+file_behind_mark : IsSeen (194 ∷ 183 ∷ codes "file:/srv") (194 ∷ 183 ∷ codes "file:/srv") (codes ".|.........")
+unfolding colour_behind colour_from counted_from ending_of escape_from escape_of seen_of settled settled_from token_of
+file_behind_mark = (refl, refl)
+
+-- but not within a word
+word_behind_letter : IsSeen (195 ∷ 159 ∷ codes "e:/srv") (65 ∷ 159 ∷ codes "e:/srv") (codes "...|....")
+unfolding colour_behind colour_from counted_from ending_of escape_from escape_of seen_of settled settled_from token_of
+word_behind_letter = (refl, refl)
+
+word_of_later_script : IsSeen (225 ∷ 187 ∷ 151 ∷ codes "i:/srv") (66 ∷ 187 ∷ 151 ∷ codes "i:/srv") (codes "....|....")
+unfolding colour_behind colour_from counted_from ending_of escape_from escape_of seen_of settled settled_from token_of
+word_of_later_script = (refl, refl)
+
+word_behind_escape : IsSeen (codes "\\u1ed7i:/srv") (codes "_____Bi:/srv") (codes ".......|....")
+unfolding colour_behind colour_from counted_from ending_of escape_from escape_of seen_of settled settled_from token_of
+word_behind_escape = (refl, refl)
 
 -- an apostrophe stands within a word, and a string of a program behind one letter at most
 apostrophe : IsSeen (codes "/it's/it\\'s") (codes "/itSs/it_Ss") (codes "...........")

@@ -1,9 +1,11 @@
 -- What the bytes of a line count as, step by step.
-use Rattle.std.proofs.Common.{◌≡◌, ℕ, ◌&&◌, ne_eqb, cond, subst, zero, suc, ◌+◌, ◌-◌, ◌<◌, Bool, true, false, not, ◌||◌, List, [], ◌∷◌, ◌++◌, drop, get_or, length, map, max, min, nat_eq, reverse, set, take, refl, ap, sym, ◌∙◌, arith, length-drop, if◌then◌else◌, None}
+use Rattle.std.proofs.Common.{◌≡◌, ℕ, ◌==◌, ◌&&◌, ne_eqb, cond, subst, zero, suc, ◌+◌, ◌-◌, ◌<◌, Bool, true, false, not, ◌||◌, List, [], ◌∷◌, ◌++◌, drop, get_or, length, map, max, min, nat_eq, nat_le, reverse, set, take, refl, ap, sym, ◌∙◌, arith, length-drop, if◌then◌else◌, None}
 use Rattle.std.specs.List.{prefix_len}
+use Rattle.std.proofs.Math.Bool.{and-false}
+use Rattle.std.proofs.lemmas.Bool.{or_parts}
 use Rattle.std.proofs.lemmas.List.{append-nil, append_assoc, drop-drop, drop_all, drop_at, drop_min, drop_more, get_or_at, length-reverse, length-take-le, map-append, nil_from_length, reverse-append, set_at, take-append-drop, take_all, take_at, take_more}
 use Rattle.smap_pairs.specs.Escapes.{escape_from, escape_of, is_backslash, octal, of_size}
-use Rattle.smap_pairs.specs.Seen.{by_itself, bytes_of, counted_from, escape_or_colour, is_by_itself, settled, settled_from, token_by, token_bytes, token_of, token_size, begins_path, ends_with_drive, ends_with_file, is_apostrophe, is_in_word}
+use Rattle.smap_pairs.specs.Seen.{by_itself, bytes_of, counted_from, escape_or_colour, is_by_itself, settled, settled_from, token_by, token_bytes, token_of, token_size, begins_drive, begins_file, begins_letter, begins_path, ends_sign, ends_with_drive, ends_with_file, first_byte, is_apostrophe, is_before_root, is_continuation, is_in_word}
 use Rattle.smap_pairs.specs.declared.seen.SeenByte.{SeenByte}
 use Rattle.smap_pairs.specs.declared.token.Token.{Token}
 use Rattle.smap_pairs.specs.declared.token.Token.TheVariants.{Bytes}
@@ -47,13 +49,6 @@ begun byte behind some =
     ap (λ l. token_bytes token (byte ∷ behind) ++ l)
     (passed (token_size token - 1) behind ∙ ap (counted_from 0) (dropped (token_size token) byte behind some))
 
-pub token_next : (text : List ℕ) (byte : ℕ) (behind : List ℕ) → text ≡ byte ∷ behind → 0 < token_size (token_of text)
-    → counted_from 0 text ≡ token_bytes (token_of text) text ++ counted_from 0 (drop (token_size (token_of text)) text)
-token_next text byte behind begins =
-    let P : List ℕ → Type 0 = λ l. 0 < token_size (token_of l)
-    → counted_from 0 l ≡ token_bytes (token_of l) l ++ counted_from 0 (drop (token_size (token_of l)) l) in
-    subst P (sym begins) (begun byte behind)
-
 by_itself_on : (is_slash is_sharp is_esc : Bool) (byte : ℕ) (behind : List ℕ) → not (is_slash || is_sharp || is_esc) ≡ true
     → is_backslash byte ≡ is_slash → nat_eq byte 35 ≡ is_sharp → nat_eq byte 27 ≡ is_esc → token_of (byte ∷ behind) ≡ Bytes 1
 unfolding token_of escape_of
@@ -76,24 +71,44 @@ by_itself_next text byte behind begins is =
     ap (counted_from 0) begins
     ∙ ap (λ token. token_bytes token (byte ∷ behind) ++ counted_from (token_size token - 1) behind) token
 
--- the loop adds a byte by itself
-pub byte_added : (items now : List SeenByte) (rest : List ℕ) (byte : ℕ) (behind : List ℕ) → rest ≡ byte ∷ behind → is_by_itself byte ≡ true
-    → now ≡ items ++ by_itself byte ∷ [] → now ++ counted_from 0 behind ≡ items ++ counted_from 0 rest
-byte_added items now rest byte behind begins is more =
-    ap (λ l. l ++ counted_from 0 behind) more ∙ append_assoc items (by_itself byte ∷ []) (counted_from 0 behind)
-    ∙ ap (λ l. items ++ l) (sym (by_itself_next rest byte behind begins is))
+-- bytes by themselves
+run_next : (text : List ℕ) → counted_from 0 text
+    ≡ map by_itself (take (prefix_len is_by_itself text) text) ++ counted_from 0 (drop (prefix_len is_by_itself text) text)
+unfolding counted_from
+run_next [] = refl
+run_next (byte ∷ text) = go (is_by_itself byte) refl (run_next text)
+  where
+    go : (is : Bool) → is_by_itself byte ≡ is
+        → counted_from 0 text ≡ map by_itself (take (prefix_len is_by_itself text) text) ++ counted_from 0 (drop (prefix_len is_by_itself text) text)
+        → let n = cond is (1 + prefix_len is_by_itself text) 0 in
+        counted_from 0 (byte ∷ text) ≡ map by_itself (take n (byte ∷ text)) ++ counted_from 0 (drop n (byte ∷ text))
+    go true is more =
+        let next : suc (prefix_len is_by_itself text) ≡ 1 + prefix_len is_by_itself text = omega arith in
+        by_itself_next (byte ∷ text) byte text refl is ∙ ap (λ l. by_itself byte ∷ l) more
+        ∙ ap (λ n. map by_itself (take n (byte ∷ text)) ++ counted_from 0 (drop n (byte ∷ text))) next
+    go false is more = refl
+
+-- the loop adds them
+pub run_added : (items now : List SeenByte) (rest run behind : List ℕ) (n : ℕ) → n ≡ prefix_len is_by_itself rest → run ≡ take n rest → behind ≡ drop n rest
+    → now ≡ items ++ map by_itself run → now ++ counted_from 0 behind ≡ items ++ counted_from 0 rest
+run_added items now rest run behind n is run_is behind_is more =
+    (λ i. more i ++ counted_from 0 (behind_is i)) ∙ append_assoc items (map by_itself run) (counted_from 0 (drop n rest))
+    ∙ ap (λ l. items ++ (map by_itself l ++ counted_from 0 (drop n rest))) run_is
+    ∙ ap (λ k. items ++ (map by_itself (take k rest) ++ counted_from 0 (drop k rest))) is ∙ ap (λ l. items ++ l) (sym (run_next rest))
 
 -- the loop adds what the rest begins with
-pub token_added : (items now : List SeenByte) (rest : List ℕ) (byte : ℕ) (behind : List ℕ) (token : Token) (size : ℕ) (back : List ℕ) → rest ≡ byte ∷ behind
-    → token ≡ token_of rest → 0 < token_size token → size ≡ token_size token → back ≡ drop size rest → now ≡ items ++ token_bytes token rest
+pub token_added : (items now : List SeenByte) (rest : List ℕ) (token : Token) (size : ℕ) (back : List ℕ) → 0 < length rest → token ≡ token_of rest
+    → 0 < token_size token → size ≡ token_size token → back ≡ drop size rest → now ≡ items ++ token_bytes token rest
     → now ++ counted_from 0 back ≡ items ++ counted_from 0 rest
-token_added items now rest byte behind token size back begins is some size_is back_is more =
+token_added items now [] token size back more is some size_is back_is now_is = absurd (omega (arith, more))
+token_added items now (byte ∷ behind) token size back more is some size_is back_is now_is =
+    let rest = byte ∷ behind in
     let left : back ≡ drop (token_size (token_of rest)) rest = back_is ∙ ap (λ n. drop n rest) (size_is ∙ ap token_size is) in
     let P : Token → Type 0 = λ t. 0 < token_size t in
-    ap (λ l. l ++ counted_from 0 back) more ∙ append_assoc items (token_bytes token rest) (counted_from 0 back)
+    ap (λ l. l ++ counted_from 0 back) now_is ∙ append_assoc items (token_bytes token rest) (counted_from 0 back)
     ∙ ap (λ l. items ++ l)
     (ap (λ t. token_bytes t rest ++ counted_from 0 back) is ∙ ap (λ l. token_bytes (token_of rest) rest ++ counted_from 0 l) left
-    ∙ sym (token_next rest byte behind begins (subst P is some)))
+    ∙ sym (begun byte behind (subst P is some)))
 
 pub all_added : (items : List SeenByte) (rest line : List ℕ) → length rest ≡ 0 → items ++ counted_from 0 rest ≡ counted_from 0 line
     → items ≡ counted_from 0 line
@@ -147,13 +162,30 @@ one_more line seen i one here is =
     ∙ ap (λ l. settled (reverse front) this l ∷ settled_from (this ∷ reverse front) l (drop (i + 1) seen)) (sym next)
     ∙ ap (settled_from (reverse front) (drop i line)) (sym (drop_more seen i no_byte here)))
 
-settled_same : (before : List SeenByte) (one : SeenByte) (text : List ℕ) → (one.byte ≡ 58 → ⊥) → (one.counts ≡ 39 → ⊥) → one ≡ settled before one text
+-- a sign beyond ASCII may end with a byte
+abbrev pub may_be_of_sign : SeenByte → Bool
+may_be_of_sign one = nat_le 128 one.byte || one.counts == 226
+
+no_sign_ends : (before : List SeenByte) (one : SeenByte) → may_be_of_sign one ≡ false → ends_sign before one ≡ false
+no_sign_ends before one none = go (one.size == 0)
+  where
+    go : (alone : Bool) → (if alone then is_continuation one.byte && not (begins_letter (first_byte before)) else one.counts == 226) ≡ false
+    go true =
+        ap (λ b. (b && nat_le one.byte 191) && not (begins_letter (first_byte before))) (or_parts (nat_le 128 one.byte) (one.counts == 226) none).0
+    go false = (or_parts (nat_le 128 one.byte) (one.counts == 226) none).1
+
+settled_same : (before : List SeenByte) (one : SeenByte) (text : List ℕ) → (one.byte ≡ 58 → ⊥) → (one.counts ≡ 39 → ⊥) → may_be_of_sign one ≡ false
+    → one ≡ settled before one text
 unfolding settled
-settled_same before one text no_colon no_quote =
+settled_same before one text no_colon no_quote no_sign =
     sym (ap (λ is. if is && begins_path text then record one { is_edge = not (ends_with_drive before || ends_with_file before) }
-    else if is_apostrophe before one text then record one { counts = 226; is_edge = false } else one) (ne_eqb one.byte 58 no_colon)
-    ∙ ap (λ is. if is && is_in_word (drop (one.size - 1) before) text then record one { counts = 226; is_edge = false } else one)
-    (ne_eqb one.counts 39 no_quote))
+    else if is_apostrophe before one text then record one { counts = 226; is_edge = false }
+    else if is_before_root before one text then record one { is_edge = true } else one) (ne_eqb one.byte 58 no_colon)
+    ∙ ap (λ is. if is && is_in_word (drop (one.size - 1) before) text then record one { counts = 226; is_edge = false }
+    else if is_before_root before one text then record one { is_edge = true } else one)
+    (ne_eqb one.counts 39 no_quote)
+    ∙ ap (λ is. if (begins_drive text || begins_file text) && is then record one { is_edge = true } else one) (no_sign_ends before one no_sign)
+    ∙ ap (λ is. if is then record one { is_edge = true } else one) (and-false (begins_drive text || begins_file text)))
 
 -- what the loop has at byte i, and before it
 pub front_is : (line : List ℕ) (seen now : List SeenByte) (i : ℕ) → i < length seen → now ≡ settled_to line seen (i + 1) → take i now ≡ take i seen
@@ -182,10 +214,11 @@ settles line seen now i one here is settled_is =
 
 -- the loop leaves byte i
 pub leaves : (line : List ℕ) (seen now : List SeenByte) (i : ℕ) → i < length seen → now ≡ settled_to line seen (i + 1)
-    → ((get_or now i no_byte).byte ≡ 58 → ⊥) → ((get_or now i no_byte).counts ≡ 39 → ⊥) → now ≡ settled_to line seen i
-leaves line seen now i here is no_colon no_quote =
+    → ((get_or now i no_byte).byte ≡ 58 → ⊥) → ((get_or now i no_byte).counts ≡ 39 → ⊥) → may_be_of_sign (get_or now i no_byte) ≡ false
+    → now ≡ settled_to line seen i
+leaves line seen now i here is no_colon no_quote no_sign =
     let this = this_is line seen now i here is in
     is ∙ parted line seen i here
     ∙ one_more line seen i (get_or seen i no_byte) here
     (settled_same (reverse (take i seen)) (get_or seen i no_byte) (drop (i + 1) line) (λ e. no_colon (ap (λ (o : SeenByte). o.byte) this ∙ e))
-    (λ e. no_quote (ap (λ (o : SeenByte). o.counts) this ∙ e)))
+    (λ e. no_quote (ap (λ (o : SeenByte). o.counts) this ∙ e)) (sym (ap may_be_of_sign this) ∙ no_sign))

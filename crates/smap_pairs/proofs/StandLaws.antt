@@ -1,7 +1,7 @@
 -- The bytes that were seen are those of the line.
 use Rattle.std.proofs.Common.{◌≡◌, ℕ, ◌+◌, ◌-◌, ◌<◌, ◌≤◌, ◌||◌, Bool, true, false, not, cond, List, [], ◌∷◌, ◌++◌, ap, append_assoc, arith, drop, get_or, length, map, refl, sym, take, ◌∙◌}
 use Rattle.std.proofs.lemmas.List.{map-append, take-append-drop, take_more}
-use Rattle.smap_pairs.specs.Seen.{by_itself, counted, is_apostrophe, is_before_path, ends_with_drive, ends_with_file, settled, settled_from, token_bytes, token_size, within}
+use Rattle.smap_pairs.specs.Seen.{by_itself, counted, is_apostrophe, is_before_path, is_before_root, ends_with_drive, ends_with_file, settled, settled_from, token_bytes, token_size, within}
 use Rattle.smap_pairs.specs.Signs.{text_of}
 use Rattle.smap_pairs.specs.declared.seen.SeenByte.{SeenByte}
 use Rattle.smap_pairs.specs.declared.token.Token.{Token}
@@ -40,24 +40,25 @@ token_line items now rest back line token size is some enough size_is back_is be
     ∙ ap (λ l. text_of items ++ (take (token_size token) rest ++ l)) (back_is ∙ ap (λ n. drop n rest) size_is)
     ∙ ap (λ l. text_of items ++ l) (take-append-drop (token_size token) rest) ∙ before
 
-pub byte_line : (items now : List SeenByte) (one : SeenByte) (byte : ℕ) (rest behind line : List ℕ) → now ≡ items ++ one ∷ [] → one ≡ by_itself byte → rest ≡ byte ∷ behind
-    → text_of items ++ rest ≡ line → text_of now ++ behind ≡ line
-byte_line items now one byte rest behind line is one_is rest_is before =
-    ap (λ l. text_of l ++ behind) (is ∙ ap (λ o. items ++ o ∷ []) one_is)
-    ∙ ap (λ l. l ++ behind) (map-append (λ seen. seen.byte) items (by_itself byte ∷ [])) ∙ append_assoc (text_of items) (byte ∷ []) behind
-    ∙ ap (λ l. text_of items ++ l) (sym rest_is) ∙ before
+pub run_line : (items now : List SeenByte) (rest run behind : List ℕ) (n : ℕ) → now ≡ items ++ map by_itself run → run ≡ take n rest → behind ≡ drop n rest
+    → text_of now ++ behind ≡ text_of items ++ rest
+run_line items now rest run behind n is run_is behind_is =
+    ap (λ l. text_of l ++ behind) is
+    ∙ ap (λ l. l ++ behind) (map-append (λ seen. seen.byte) items (map by_itself run) ∙ ap (λ l. text_of items ++ l) (by_themselves run))
+    ∙ append_assoc (text_of items) run behind ∙ (λ i. text_of items ++ (run_is i ++ behind_is i)) ∙ ap (λ l. text_of items ++ l) (take-append-drop n rest)
 
 -- ---- where they are settled
 
 byte_settled : (before : List SeenByte) (one : SeenByte) (text : List ℕ) → (settled before one text).byte ≡ one.byte
 unfolding settled
-byte_settled before one text = go (is_before_path one text) (is_apostrophe before one text)
+byte_settled before one text = go (is_before_path one text) (is_apostrophe before one text) (is_before_root before one text)
   where
-    go : (path apostrophe : Bool) → (cond path (record one { is_edge = not (ends_with_drive before || ends_with_file before) })
-        (cond apostrophe (record one { counts = 226; is_edge = false }) one)).byte ≡ one.byte
-    go true apostrophe = refl
-    go false true = refl
-    go false false = refl
+    go : (path apostrophe root : Bool) → (cond path (record one { is_edge = not (ends_with_drive before || ends_with_file before) })
+        (cond apostrophe (record one { counts = 226; is_edge = false }) (cond root (record one { is_edge = true }) one))).byte ≡ one.byte
+    go true apostrophe root = refl
+    go false true root = refl
+    go false false true = refl
+    go false false false = refl
 
 pub settled_stands : (before : List SeenByte) (text : List ℕ) (seen : List SeenByte) → text_of (settled_from before text seen) ≡ text_of seen
 unfolding settled_from

@@ -175,7 +175,7 @@ MayBegin byte = (byte ≡ 92) ⊎ (byte ≡ 35) ⊎ (byte ≡ 27)
 abbrev pub IsClear : (size : ℕ) → (text : List ℕ) → Type 0
 IsClear size text = (0 < size) × AreInner size text × MayBegin (slice_index text 0)
 
-escape_clear : (text : List ℕ) (e : Escape) → escape_of text ≡ Some e → IsClear e.size text
+pub escape_clear : (text : List ℕ) (e : Escape) → escape_of text ≡ Some e → IsClear e.size text
 unfolding escape_of
 escape_clear [] e is = cc
 escape_clear (byte ∷ text) e is =

@@ -6,7 +6,7 @@ use Rattle.smap_pairs.specs.declared.seen.SeenByte.{SeenByte}
 use Rattle.smap_pairs.specs.declared.token.Token.{Token}
 use Rattle.smap_pairs.specs.declared.token.Token.TheVariants.{Bytes, Colour, Escaped}
 use Rattle.smap_pairs.specs.Marks.{ends_escape, ends_mark}
-use Rattle.smap_pairs.specs.Seen.{by_itself, counted, counted_from, ends_with_drive, ends_with_file, is_apostrophe, is_before_path, seen_of, settled, settled_from, token_bytes, token_of, token_size, within}
+use Rattle.smap_pairs.specs.Seen.{by_itself, counted, counted_from, ends_with_drive, ends_with_file, is_apostrophe, is_before_path, is_before_root, seen_of, settled, settled_from, token_bytes, token_of, token_size, within}
 use Rattle.smap_pairs.proofs.TokenLaws.{AreInner, Fits, IsClear, IsInner, MayBegin, token_fits}
 
 -- a byte within an escape or a colour, but the last of it
@@ -155,16 +155,17 @@ IsSettled one other = (goes_on other ≡ goes_on one) × ((begun : ℕ) → IsWh
 
 settled_whole : (before : List SeenByte) (one : SeenByte) (text : List ℕ) → IsSettled one (settled before one text)
 unfolding settled
-settled_whole before one text = go (is_before_path one text) (is_apostrophe before one text) refl
+settled_whole before one text = go (is_before_path one text) (is_apostrophe before one text) (is_before_root before one text) refl
   where
-    go : (path word : Bool) → is_apostrophe before one text ≡ word
+    go : (path word root : Bool) → is_apostrophe before one text ≡ word
         → IsSettled one (if path then record one { is_edge = not (ends_with_drive before || ends_with_file before) }
-        else if word then record one { counts = 226; is_edge = false } else one)
-    go true word is = (refl, λ begun whole. edge_whole begun one _ whole)
-    go false true is =
+        else if word then record one { counts = 226; is_edge = false } else if root then record one { is_edge = true } else one)
+    go true word root is = (refl, λ begun whole. edge_whole begun one _ whole)
+    go false true root is =
         let quote = eqb-true one.counts 39 (and_parts (one.counts == 39) _ is).0 in
         (rw quote refl, λ begun whole. sign_whole begun one)
-    go false false is = (refl, λ begun whole. whole)
+    go false false true is = (refl, λ begun whole. edge_whole begun one _ whole)
+    go false false false is = (refl, λ begun whole. whole)
 
 all_settled : (begun : ℕ) (before : List SeenByte) (text : List ℕ) (seen : List SeenByte) → AreWhole begun seen → AreWhole begun (settled_from before text seen)
 unfolding settled_from

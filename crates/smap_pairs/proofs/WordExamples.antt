@@ -139,6 +139,22 @@ unfolding colour_behind colour_from counted_from ending_of escape_from escape_of
     before_word scheme_end scheme_start has_scheme has_separator is_in_call is_behind_at is_behind_scheme path_begin is_path is_root word_begin
 no_paths = refl
 
+-- a drive behind such a quotation mark, and dots alone begin one
+more_paths : map url (
+    (226 ∷ (128 ∷ (156 ∷ codes "C:/srv/app.js"))) ∷ codes "\\u201cfile:/srv/app.js" ∷ codes ".../dist/app.js" ∷ codes "..a/app.js" ∷ [])
+    ≡ codes "C:/srv/app.js" ∷ codes "file:/srv/app.js" ∷ codes ".../dist/app.js" ∷ codes "..a/app.js" ∷ []
+unfolding colour_behind colour_from counted_from ending_of escape_from escape_of seen_of settled settled_from token_of
+    before_word scheme_end scheme_start has_scheme has_separator is_in_call is_behind_at is_behind_scheme path_begin is_path is_root word_begin
+more_paths = refl
+
+-- a sign of a list or a difference does not, and behind a sign no other path begins in one
+no_more_paths : map url (
+    codes "+./app.js" ∷ codes "~./app.js" ∷ codes "-../app.js" ∷ codes "+dist/app.js" ∷ codes "a/b=../app.js" ∷ codes "a/b@~/app.js" ∷ [])
+    ≡ [] ∷ [] ∷ [] ∷ [] ∷ [] ∷ [] ∷ []
+unfolding colour_behind colour_from counted_from ending_of escape_from escape_of seen_of settled settled_from token_of
+    before_word scheme_end scheme_start has_scheme has_separator is_in_call is_behind_at is_behind_scheme path_begin is_path is_root word_begin
+no_more_paths = refl
+
 -- the end of a path with blanks, and what is none: a date stands before it, or it begins at a root
 blanks : map url (
     codes "/Applications/My App.app/app.js" ∷ codes "dist/a b/app.js" ∷ codes "/login failed at dist/app.js"
@@ -166,6 +182,23 @@ calls : map url (
 unfolding colour_behind colour_from counted_from ending_of escape_from escape_of seen_of settled settled_from token_of
     before_word scheme_end scheme_start has_scheme has_separator is_in_call is_behind_at is_behind_scheme path_begin is_path is_root word_begin
 calls = refl
+
+-- nor in an evaluated text, where a function alone stands before the last bracket
+evaluated : map url (
+    codes "eval (eval at f (dist/app.js" ∷ codes "(eval at new A.<computed> [as b] (app.js" ∷ codes "(eval at f (My App/app.js"
+    ∷ codes "(eval at f (x) (app.js" ∷ codes "(in f (app.js" ∷ [])
+    ≡ codes "dist/app.js" ∷ codes "app.js" ∷ [] ∷ [] ∷ [] ∷ []
+unfolding colour_behind colour_from counted_from ending_of escape_from escape_of seen_of settled settled_from token_of
+    before_word scheme_end scheme_start has_scheme has_separator is_in_call is_behind_at is_behind_scheme path_begin is_path is_root word_begin
+evaluated = refl
+
+-- a function of Firefox without a name begins no path
+functions : map url (
+    codes "N/<@app.js" ∷ codes "N/</<@dist/app.js" ∷ codes "N/\\u003c@app.js" ∷ codes "N/f@app.js" ∷ codes "https://h/<@app.js" ∷ [])
+    ≡ codes "app.js" ∷ codes "dist/app.js" ∷ codes "app.js" ∷ codes "N/f@app.js" ∷ [] ∷ []
+unfolding colour_behind colour_from counted_from ending_of escape_from escape_of seen_of settled settled_from token_of
+    before_word scheme_end scheme_start has_scheme has_separator is_in_call is_behind_at is_behind_scheme path_begin is_path is_root word_begin
+functions = refl
 
 -- what stands before the virtual line or the piece tells nothing; behind the pair before, no URL begins
 within_lines : url_in 10 0 (codes "\"/srv/a\",\"b c.js") ∷ url_in 0 10 (codes "/srv/a:1:2 b c.js") ∷ url_in 4 0 (codes "(a \"b c.js") ∷ url_in 0 5 (codes "x:1:2/app.js") ∷ []

@@ -1,7 +1,9 @@
 -- What stands before a URL without a scheme, in its piece and its virtual line: whether the URL may be the end of a longer
 -- one. It is read back, the last byte first.
-use Rattle.std.specs.Prelude.{ℕ, ◌+◌, ◌-◌, ◌==◌, ◌&&◌, ◌||◌, Bool, true, false, not, List, [], ◌∷◌, map, if◌then◌else◌}
+use Rattle.std.specs.Prelude.{ℕ, ◌+◌, ◌-◌, ◌==◌, ◌&&◌, ◌||◌, Bool, true, false, not, List, [], ◌∷◌, codes, map, reverse, if◌then◌else◌}
+use Rattle.std.specs.Bool.{nat_eq}
 use Rattle.std.specs.Char.{is_ascii_digit}
+use Rattle.std.specs.List.{starts_with}
 use Rattle.smap_pairs.specs.Bytes.{is_control, is_edge_byte, is_letter_or_digit}
 use Rattle.smap_pairs.specs.Absolute.{is_absolute}
 use Rattle.smap_pairs.specs.Signs.{is_nothing, signs}
@@ -76,6 +78,25 @@ unfoldable pub is_behind_at : (has_blank : Bool) → List ℕ → Bool
 is_behind_at has_blank [] = false
 is_behind_at has_blank (byte ∷ before) = if is_blank byte then is_behind_at true before else has_blank && byte == 116 && ends_in_a before
 
+-- ---- the places of V8 in an evaluated text: `(eval at f (dist/app.js:1:2), <anonymous>:1:1)`
+
+-- behind `(eval at ` a function stands, and no bracket
+abbrev pub is_in_eval : List ℕ → Bool
+is_in_eval [] = false
+is_in_eval (byte ∷ before) =
+    starts_with nat_eq (byte ∷ before) (reverse (codes "(eval at ")) || not (byte == 40 || byte == 41) && is_in_eval before
+
+-- and a `(` behind it
+abbrev pub is_behind_eval : List ℕ → Bool
+is_behind_eval [] = false
+is_behind_eval (byte ∷ before) = byte == 40 && is_in_eval before
+
+-- ---- a function of Firefox without a name, and the `@` behind each: `N/<@app.js`
+
+abbrev pub is_behind_function : List ℕ → Bool
+is_behind_function (byte ∷ other ∷ before) = byte == 64 && other == 60
+is_behind_function _ = false
+
 -- ---- its last byte
 
 abbrev pub ends_in : (test : ℕ → Bool) → List ℕ → Bool
@@ -102,11 +123,15 @@ counts_of before = map (λ seen. seen.counts) before
 abbrev pub is_cut : List SeenByte → Bool
 is_cut before = (ends_in is_closing (signs before) || is_behind_colour before) && has_path false before
 
--- another: behind a path, with blanks between or without; and in a call behind a blank, `(in app.js`, but right behind `at`
+-- in a call behind a blank, `(in app.js`, but right behind `at`, and in an evaluated text
+abbrev pub is_in_text_of_call : List ℕ → Bool
+is_in_text_of_call before = is_in_call 0 false before && not (is_behind_at false before || is_behind_eval before)
+
+-- another: behind a path, with blanks between or without, but behind a function of Firefox; and in a call
 abbrev pub is_end_of_path : List SeenByte → Bool
 is_end_of_path before =
-    has_path true before || ends_in is_blank (signs before) && has_path false before
-    || is_in_call 0 false (counts_of before) && not (is_behind_at false (counts_of before))
+    has_path true before && not (is_behind_function (stretch before)) || ends_in is_blank (signs before) && has_path false before
+    || is_in_text_of_call (counts_of before)
 
 abbrev pub may_go_on : List SeenByte → (url : List ℕ) → Bool
 may_go_on before url = if is_absolute url then is_cut before else is_end_of_path before

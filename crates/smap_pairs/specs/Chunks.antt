@@ -1,13 +1,16 @@
 -- How a text is cut whose places are found (this project's own): into its lines, each with its LF; and a line of more than 65,536
 -- bytes into chunks. The first ends before the last `"` among that many bytes and the backslashes right before it, so that the next
--- begins as a string does; where there is none, before the last blank; and where there is none either, it is broken off behind them,
--- but for the digits, `:` and `-` at its end. What stands behind a chunk that is broken off stays up to the next `"` or blank, or the
--- line's end, since a URL may go on there.
-use Rattle.std.specs.Prelude.{ℕ, ◌<◌, ◌≤◌, zero, suc, ◌-◌, ◌==◌, ◌||◌, ◌&&◌, Bool, true, false, not, nat_le, nat_lt, List, [], ◌∷◌, if◌then◌else◌, length, max, min, reverse, slice_index, take}
+-- begins as a string does; where there is none, before the last escape of a line's end, so that it begins as a line in one; where there
+-- is none, before the last blank; and without all these it is broken off behind the bytes, but for the digits, `:` and `-` at its end.
+-- What stands behind a chunk that is broken off stays up to the next `"` or blank, or the line's end, since a URL may go on there.
+use Rattle.std.specs.Prelude.{ℕ, ◌<◌, ◌≤◌, zero, suc, ◌-◌, ◌==◌, ◌||◌, ◌&&◌, Bool, true, false, not, nat_le, nat_lt, List, [], ◌∷◌, Option, Some, None, if◌then◌else◌, length, max, min, reverse, slice_index, take}
 use Rattle.std.specs.Char.{is_ascii_digit}
 use Rattle.std.specs.List.{prefix_len}
 use Rattle.smap_lines.specs.Limits.{most_line_bytes}
+use Rattle.smap_pairs.specs.Escapes.{escape_of, is_backslash}
+use Rattle.smap_pairs.specs.Marks.{ends_line}
 use Rattle.smap_pairs.specs.declared.chunk.Chunk.{Chunk}
+use Rattle.smap_pairs.specs.declared.escapes.Escape.{Escape}
 
 -- ---- the first chunk
 
@@ -31,15 +34,42 @@ last_blank text = without_end (λ byte. not (byte == 32)) text - 1
 abbrev pub quote_begin : (text : List ℕ) → ℕ
 quote_begin text = without_end (λ byte. byte == 92) (take (last_quote text) text)
 
+-- an escape of a line's end
+abbrev pub is_line_end : Option Escape → Bool
+is_line_end None = false
+is_line_end (Some escape) = ends_line escape.means
+
+-- how many bytes a text begins with that are an escape, a run of backslashes that is none, or another byte
+abbrev pub escape_size : (text : List ℕ) → Option Escape → ℕ
+escape_size text None = max 1 (prefix_len is_backslash text)
+escape_size text (Some escape) = escape.size
+
+-- where the last escape of a line's end begins in a text behind so many bytes, of which the first belong to what began before, so
+-- many; and this where it has none
+abbrev pub line_end_from : (last at skip : ℕ) → (text : List ℕ) → ℕ
+line_end_from last at skip [] = last
+line_end_from last at (suc skip) (byte ∷ text) = line_end_from last (suc at) skip text
+line_end_from last at zero (byte ∷ text) =
+    line_end_from (if is_line_end (escape_of (byte ∷ text)) then at else last) (suc at) (escape_size (byte ∷ text) (escape_of (byte ∷ text)) - 1) text
+
+-- in a whole text, 0 where there is none
+unfoldable pub last_line_end : (text : List ℕ) → ℕ
+last_line_end text = line_end_from 0 0 0 text
+
 -- a byte of numbers that may go on
 abbrev pub goes_on_in_numbers : ℕ → Bool
 goes_on_in_numbers byte = is_ascii_digit byte || byte == 58 || byte == 45
 
--- the first bytes of a long line up to a `"` or a blank, or else broken off
+-- where the first bytes of a long line end that are a chunk, 0 where they don't
+abbrev pub chunk_end : (front : List ℕ) → ℕ
+chunk_end front =
+    if nat_lt 0 (quote_begin front) then quote_begin front
+    else if nat_lt 0 (last_line_end front) then last_line_end front else last_blank front
+
+-- these, or else broken off
 abbrev pub chunk_of_long : (front : List ℕ) → Chunk
 chunk_of_long front =
-    if nat_lt 0 (quote_begin front) then record { bytes = quote_begin front; is_broken = false }
-    else if nat_lt 0 (last_blank front) then record { bytes = last_blank front; is_broken = false }
+    if nat_lt 0 (chunk_end front) then record { bytes = chunk_end front; is_broken = false }
     else record { bytes = max 1 (without_end goes_on_in_numbers front); is_broken = true }
 
 -- the first chunk of a text that has bytes

@@ -1,11 +1,12 @@
--- Which URL of a frame a pattern may have: one that is a URL and no more. A frame alone does not say so, since it ends where a
--- line ends that has numbers, and begins behind `at` or `@`.
+-- Which URL of a frame a pattern may have, and which a folder, or a list without its query: one that is a URL and no more. A frame
+-- alone does not say so, since it ends where a line ends that has numbers, and begins behind `at` or `@`.
 use Rattle.std.specs.Prelude.{ℕ, ◌==◌, ◌&&◌, ◌||◌, Bool, true, false, not, nat_le, List, [], ◌∷◌, codes, map, reverse, slice_range, if◌then◌else◌}
 use Rattle.std.specs.Bool.{nat_eq}
 use Rattle.std.specs.Char.{is_ascii_alphabetic}
 use Rattle.std.specs.List.{list_any, starts_with}
 use Rattle.smap_pairs.specs.Absolute.{is_scheme_byte}
 use Rattle.smap_pairs.specs.Before.{has_separator, is_separator}
+use Rattle.smap_pairs.specs.Behind.{begins_query, is_barred}
 use Rattle.smap_pairs.specs.Brackets.{has_paired_brackets}
 use Rattle.smap_pairs.specs.Bytes.{is_control, is_edge_byte}
 use Rattle.smap_pairs.specs.Path.{is_path}
@@ -56,9 +57,16 @@ has_slash_behind_sign is_behind_sign [] = false
 has_slash_behind_sign is_behind_sign (byte ∷ text) =
     is_behind_sign && byte == 47 || has_slash_behind_sign (is_edge_byte byte && not (is_bracket byte)) text
 
+-- `://` stands behind a sign; where one may stand before the first byte
+unfoldable pub has_scheme_behind_sign : (is_behind_sign : Bool) → List ℕ → Bool
+has_scheme_behind_sign is_behind_sign [] = false
+has_scheme_behind_sign is_behind_sign (byte ∷ text) =
+    is_behind_sign && starts_with nat_eq (byte ∷ text) (codes "://") || has_scheme_behind_sign (is_behind_sign || is_edge_byte byte) text
+
 -- it has a blank or a quotation mark, and behind a blank or a sign a URL begins, or a path goes on
 abbrev pub is_sentence : List ℕ → Bool
-is_sentence text = has_blank_or_quote text && (begins_again false text || has_slash_behind_sign false text)
+is_sentence text =
+    has_blank_or_quote text && (begins_again false text || has_slash_behind_sign false text || has_scheme_behind_sign false text)
 
 -- ---- a relative path
 
@@ -78,7 +86,7 @@ is_relative before url =
     not (list_any is_nothing url) && not (has_blank_or_quote (signs url)) && is_function (reverse (text_of before))
     && is_path is_edge_byte (map as_in_path (text_of url))
 
--- ---- all
+-- ---- for a pattern
 
 -- its first byte counts
 abbrev pub begins_with_sign : List SeenByte → Bool
@@ -94,3 +102,17 @@ is_one_url before url =
 abbrev pub is_for_pattern : (line : List SeenByte) → (virtual_start start : ℕ) → Pair → Bool
 is_for_pattern line virtual_start start pair =
     nat_le pair.piece start && is_one_url (slice_range line virtual_start start) (slice_range line start pair.start)
+
+-- ---- for a folder, or for a list without its query
+
+-- the query, which begins with the first `?` or `#`, has a byte that does not stand behind a name
+unfoldable pub has_barred_query : List SeenByte → Bool
+has_barred_query [] = false
+has_barred_query (seen ∷ url) = if begins_query seen.byte then list_any is_barred (seen ∷ url) else has_barred_query url
+
+abbrev pub is_no_sentence : (url : List SeenByte) → Bool
+is_no_sentence url = not (is_sentence (signs url)) && not (has_barred_query url)
+
+-- what stands from a byte to the pair is no sentence, and holds no pair
+abbrev pub is_for_folder : (line : List SeenByte) → (start : ℕ) → Pair → Bool
+is_for_folder line start pair = nat_le pair.piece start && is_no_sentence (slice_range line start pair.start)

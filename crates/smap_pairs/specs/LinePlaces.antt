@@ -4,7 +4,7 @@
 use Rattle.std.specs.Prelude.{◌≡◌, ◌≤◌, ℕ, ◌+◌, ◌-◌, ◌==◌, ◌&&◌, ◌||◌, Bool, true, false, nat_lt, List, Option, Some, None, length, if◌then◌else◌, take}
 use Rattle.std.specs.List.{All, filter_map, find, slice_get, slice_range}
 use Rattle.smap_pairs.specs.Behind.{is_in_folder, is_query_at}
-use Rattle.smap_pairs.specs.FrameUrl.{is_for_pattern}
+use Rattle.smap_pairs.specs.FrameUrl.{is_for_folder, is_for_pattern}
 use Rattle.smap_pairs.specs.Halved.{halved, has_doubled}
 use Rattle.smap_pairs.specs.Signs.{text_of}
 use Rattle.smap_pairs.specs.Known.{UrlsKnown}
@@ -40,11 +40,11 @@ span_url text span =
 module _ (known : UrlsKnown) (text : List ℕ) (seen : List SeenByte) where
   -- ---- in a frame
 
-  -- the URL of a frame that runs from a byte up to a pair has a map: by a name alone, where it stands in a string and has numbers
-  -- within it; or by a pattern, where it is one and no more
+  -- the URL of a frame that runs from a byte up to a pair has a map: by a name; or, where it is one and no more, by a folder, by a list
+  -- without its query, or by a pattern
   abbrev pub has_frame_url : (virtual : VirtualLine) → Pair → (start : ℕ) → (url : List ℕ) → Bool
   has_frame_url virtual pair start url =
-      (if nat_lt 0 virtual.unit && nat_lt start pair.piece then known.is_name url else known.has_own url)
+      known.has_own url && (known.is_name url || is_for_folder seen start pair)
       || is_for_pattern seen virtual.start start pair && known.has_pattern url
 
   -- in a string it may have two backslashes for one

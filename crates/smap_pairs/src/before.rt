@@ -2,9 +2,11 @@
 //!
 //! Each question goes through the bytes once, the last first; they are of one piece and of one virtual line.
 ghost use Rattle.std.specs.Prelude.{◌≡◌, ◌<◌, [], ◌∷◌, IfSome, MatchOption, false, not, length, reverse};
+ghost use Rattle.std.specs.Bool.{nat_eq};
+ghost use Rattle.std.specs.List.{starts_with};
 ghost use Rattle.smap_pairs.specs.Before.{before_in, closed_before, counts_of, ends_in, ends_in_a, ends_in_nothing, ends_stretch, has_path, has_scheme, is_behind_at};
-ghost use Rattle.smap_pairs.specs.Before.{is_behind_colour, is_behind_digit, is_blank, is_closing, is_cut, is_end_of_path, is_in_call};
-ghost use Rattle.smap_pairs.specs.Before.{is_in_word, is_separator, may_go_on, stretch};
+ghost use Rattle.smap_pairs.specs.Before.{is_behind_colour, is_behind_digit, is_behind_eval, is_behind_function, is_blank, is_closing, is_cut, is_end_of_path};
+ghost use Rattle.smap_pairs.specs.Before.{is_in_call, is_in_eval, is_in_text_of_call, is_in_word, is_separator, may_go_on, stretch};
 ghost use Rattle.smap_pairs.specs.Bytes.{is_edge_byte};
 ghost use Rattle.smap_pairs.specs.Signs.{signs};
 
@@ -53,9 +55,28 @@ fn is_cut(before: &[SeenByte]) -> bool
 fn is_end_of_path(before: &[SeenByte]) -> bool
     ensures { result ≡ is_end_of_path (reverse before.now) }
 {
-    has_path(before, true)
+    has_path(before, true) && !is_behind_function(before)
         || ends_in_blank(before) && has_path(before, false)
-        || is_in_call(before) && !is_behind_at(before)
+        || is_in_text_of_call(before)
+}
+
+fn is_in_text_of_call(before: &[SeenByte]) -> bool
+    ensures { result ≡ is_in_text_of_call (counts_of (reverse before.now)) }
+{
+    is_in_call(before) && !(is_behind_at(before) || is_behind_eval(before))
+}
+
+// Whether a function of Firefox without a name stands before, and its `@`.
+fn is_behind_function(before: &[SeenByte]) -> bool
+    ensures { result ≡ is_behind_function (stretch (reverse before.now)) }
+{
+    match previous(before, true) {
+        Some((b'@', function)) => match previous(function, true) {
+            Some((byte, _)) => byte == b'<',
+            None => false,
+        },
+        _ => false,
+    }
 }
 
 fn ends_in_closing(before: &[SeenByte]) -> bool
@@ -197,6 +218,51 @@ fn is_behind_at(before: &[SeenByte]) -> bool
         rest = more;
     }
     false
+}
+
+// Whether a `(` stands before, and `(eval at ` and a function before that.
+fn is_behind_eval(before: &[SeenByte]) -> bool
+    ensures { result ≡ is_behind_eval (counts_of (reverse before.now)) }
+{
+    match before.split_last() {
+        Some((seen, more)) => seen.counts == b'(' && is_in_eval(more),
+        None => false,
+    }
+}
+
+// Whether `(eval at ` stands before, and no bracket behind it. Each byte is passed once, and once where that may end.
+#[tactic(auto, using(crate::proofs::BackLaws::reversed))]
+fn is_in_eval(before: &[SeenByte]) -> bool
+    ensures { result ≡ is_in_eval (counts_of (reverse before.now)) }
+{
+    let mut rest = before;
+    while let Some((seen, more)) = rest.split_last() {
+        if ends_with(rest, b"(eval at ") {
+            return true;
+        }
+        if seen.counts == b'(' || seen.counts == b')' {
+            return false;
+        }
+        rest = more;
+    }
+    false
+}
+
+// Whether a text stands before.
+#[tactic(auto, using(crate::proofs::BackLaws::reversed))]
+fn ends_with(before: &[SeenByte], text: &[u8]) -> bool
+    ensures { result ≡ starts_with nat_eq (counts_of (reverse before.now)) (reverse text.now) }
+{
+    let mut rest = before;
+    let mut wanted = text;
+    while let Some((byte, others)) = wanted.split_last() {
+        match rest.split_last() {
+            Some((seen, more)) if seen.counts == *byte => rest = more,
+            _ => return false,
+        }
+        wanted = others;
+    }
+    true
 }
 
 fn ends_in_a(before: &[SeenByte]) -> bool

@@ -220,8 +220,8 @@ impl Piece {
     }
 }
 
-// Whether a byte does not stand behind a name, or what it counts as.
-fn is_barred(seen: SeenByte) -> bool
+/// Whether a byte does not stand behind a name, or what it counts as.
+pub fn is_barred(seen: SeenByte) -> bool
     ensures { result ≡ is_barred seen }
 {
     is_barred_byte(seen.byte) || is_barred_byte(seen.counts)
@@ -236,8 +236,8 @@ fn is_barred_byte(byte: u8) -> bool
     }
 }
 
-// Whether a query or a fragment begins with a byte.
-fn begins_query(byte: u8) -> bool
+/// Whether a query or a fragment begins with a byte.
+pub fn begins_query(byte: u8) -> bool
     ensures { result ≡ begins_query byte }
 {
     byte == b'?' || byte == b'#'

@@ -9,14 +9,34 @@ pub fn is_letter_or_digit(byte: u8) -> bool
     byte.is_ascii_alphanumeric() || byte >= 0x80
 }
 
+// Of each byte, whether a URL may begin behind it. A table, so that it costs one look-up.
+const EDGES: [bool; 256] = [
+    true, true, true, true, true, true, true, true, true, true, true, true, true, true, true, true,
+    true, true, true, true, true, true, true, true, true, true, true, true, true, true, true, true,
+    true, true, true, true, false, false, true, true, true, true, true, false, true, false, false,
+    false, false, false, false, false, false, false, false, false, false, false, false, true, true,
+    true, true, true, true, false, false, false, false, false, false, false, false, false, false,
+    false, false, false, false, false, false, false, false, false, false, false, false, false,
+    false, false, false, true, false, true, true, false, true, false, false, false, false, false,
+    false, false, false, false, false, false, false, false, false, false, false, false, false,
+    false, false, false, false, false, false, false, false, true, true, true, false, true, false,
+    false, false, false, false, false, false, false, false, false, false, false, false, false,
+    false, false, false, false, false, false, false, false, false, false, false, false, false,
+    false, false, false, false, false, false, false, false, false, false, false, false, false,
+    false, false, false, false, false, false, false, false, false, false, false, false, false,
+    false, false, false, false, false, false, false, false, false, false, false, false, false,
+    false, false, false, false, false, false, false, false, false, false, false, false, false,
+    false, false, false, false, false, false, false, false, false, false, false, false, false,
+    false, false, false, false, false, false, false, false, false, false, false, false, false,
+    false, false, false, false, false, false, false, false, false, false, false, false, false,
+    false, false, false, false, false, false, false, false, false, false,
+];
+
 /// Whether a URL may begin behind a byte.
 pub fn is_edge_byte(byte: u8) -> bool
     ensures { result ≡ is_edge_byte byte }
 {
-    match byte {
-        b'_' | b'-' | b'.' | b'/' | b'\\' | b'%' | b'~' | b'+' | b'$' | b':' => false,
-        _ => !is_letter_or_digit(byte),
-    }
+    EDGES[byte as usize]
 }
 
 /// Whether a byte is a blank or a control byte.

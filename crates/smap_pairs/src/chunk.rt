@@ -3,10 +3,14 @@ ghost use Rattle.std.specs.Prelude.{◌≡◌, ◌≢◌, ◌<◌, ◌≤◌, �
 ghost use Rattle.std.specs.List.{prefix_len};
 ghost use Rattle.smap_lines.specs.Limits.{most_line_bytes};
 ghost use Rattle.smap_lines.specs.Lines.{has_line_end};
-ghost use Rattle.smap_pairs.specs.Chunks.{begins_anew, chunk_of_long, cuts_from, first_chunk, goes_on_in_numbers, last_blank, last_quote, line_bytes, quote_begin, staying_bytes, stays_broken};
+ghost use Rattle.smap_pairs.specs.Chunks.{begins_anew, chunk_end, chunk_of_long, cuts_from, escape_size, first_chunk, goes_on_in_numbers, is_line_end, last_blank};
+ghost use Rattle.smap_pairs.specs.Chunks.{last_line_end, last_quote, line_bytes, quote_begin, staying_bytes, stays_broken};
 ghost use Rattle.smap_pairs.specs.Chunks.Cut.{stays};
+ghost use Rattle.smap_pairs.specs.Private.EscapeWithin.{IsWithin};
 
-use memchr::{memchr, memchr3, memrchr};
+use crate::escapes::{Escape, escape_of};
+use crate::token::bytes_of;
+use memchr::{memchr, memchr2, memchr3, memrchr};
 use smap_lines::MOST_LINE_BYTES;
 
 /// The first bytes of a text, whose places are found by themselves: how many there are, and whether a URL may go on behind
@@ -57,21 +61,14 @@ fn line_bytes(text: &[u8]) -> usize
     memchr(b'\n', text).unwrap_or(text.len())
 }
 
-// The first bytes of a long line up to a `"` or a blank, or else broken off.
+// The first bytes of a long line that are a chunk, or else broken off.
 fn chunk_of_long(front: &[u8]) -> Chunk
     ensures { result ≡ chunk_of_long front.now }
 {
-    let quote = quote_begin(front);
-    if quote > 0 {
+    let end = chunk_end(front);
+    if end > 0 {
         return Chunk {
-            bytes: quote,
-            is_broken: false,
-        };
-    }
-    let blank = last_blank(front);
-    if blank > 0 {
-        return Chunk {
-            bytes: blank,
+            bytes: end,
             is_broken: false,
         };
     }
@@ -79,6 +76,62 @@ fn chunk_of_long(front: &[u8]) -> Chunk
     Chunk {
         bytes: (front.len() - numbers).max(1),
         is_broken: true,
+    }
+}
+
+// Where the first bytes of a long line end that are a chunk: before a `"`, an escape of a line's end, or a blank; 0 where they
+// have none. Where a chunk is short for that, the same bytes have no second end of its kind, but for one that runs on behind
+// them. So each byte is looked at six times at most in each of the three ways.
+fn chunk_end(front: &[u8]) -> usize
+    ensures { result ≡ chunk_end front.now }
+{
+    let quote = quote_begin(front);
+    if quote > 0 {
+        return quote;
+    }
+    let line_end = last_line_end(front);
+    if line_end > 0 {
+        return line_end;
+    }
+    last_blank(front)
+}
+
+// Where the last escape of a line's end begins, 0 where there is none.
+fn last_line_end(text: &[u8]) -> usize
+    ensures { result ≡ last_line_end text.now }
+{
+    let mut last = 0;
+    let mut rest = text;
+    while let Some(at) = memchr2(b'\\', b'#', rest) {
+        let found = rest.split_at(at).1;
+        let escape = escape_of(found);
+        last = line_end_of(escape, text.len() - found.len(), last);
+        rest = found.split_at(escape_size(found, escape)).1;
+    }
+    last
+}
+
+// Where the last escape of a line's end begins: where this one does, if it is one, or else where the one before did.
+fn line_end_of(escape: Option<Escape>, here: usize, before: usize) -> usize
+    ensures { result ≡ (if is_line_end escape then here else before) }
+{
+    match escape {
+        Some(escape) if escape.means == 10 || escape.means == 13 => here,
+        _ => before,
+    }
+}
+
+// How many bytes a text begins with that are an escape, a run of backslashes that is none, or another byte.
+fn escape_size(text: &[u8], escape: Option<Escape>) -> usize
+    requires some { 0 < length text.now }
+    requires escape { IfSome escape (IsWithin text.now) }
+    ensures size { result ≡ escape_size text.now escape }
+    ensures some { 0 < result }
+    ensures within { result ≤ length text.now }
+{
+    match escape {
+        Some(escape) => escape.size,
+        None => bytes_of(text),
     }
 }
 

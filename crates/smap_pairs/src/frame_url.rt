@@ -1,20 +1,23 @@
-//! Which URL of a frame a pattern may have: one that is a URL and no more.
+//! Which URL of a frame a pattern may have, and which a folder, or a list without its query: one that is a URL and no more.
 //!
 //! Each question goes through the bytes once; but a URL that begins behind a blank is read on from there, which is done once
-//! for each blank, and up to the next.
+//! for each blank, and up to the next; and where a scheme may end, three bytes are read.
 ghost use Rattle.std.specs.Prelude.{◌≡◌, ◌∷◌, ◌≤◌, ◌<◌, [], IfSome, false, MatchOption, length, map, reverse};
 ghost use Rattle.std.specs.Bool.{nat_eq};
 ghost use Rattle.std.specs.List.{list_any, starts_with};
 ghost use Rattle.smap_pairs.specs.Before.{has_separator, is_behind_digit};
+ghost use Rattle.smap_pairs.specs.Behind.{is_barred};
 ghost use Rattle.smap_pairs.specs.Bytes.{is_edge_byte};
 ghost use Rattle.smap_pairs.specs.FrameUrl.{as_in_path, begins_again, begins_as_url, begins_with_sign, has_blank_or_quote, has_slash_behind_sign, is_behind_letter, is_blank_or_quote, is_bracket};
-ghost use Rattle.smap_pairs.specs.FrameUrl.{is_for_pattern, is_function, is_in_scheme, is_one_url, is_relative, is_sentence, scheme_end};
+ghost use Rattle.smap_pairs.specs.FrameUrl.{has_barred_query, has_scheme_behind_sign, is_for_folder, is_for_pattern, is_function, is_in_scheme};
+ghost use Rattle.smap_pairs.specs.FrameUrl.{is_no_sentence, is_one_url, is_relative, is_sentence, scheme_end};
 ghost use Rattle.smap_pairs.specs.Path.{is_path};
 ghost use Rattle.smap_pairs.specs.Private.FrameReading.{seen_as};
 ghost use Rattle.smap_pairs.specs.Signs.{is_nothing, signs, text_of};
 
 use crate::absolute::is_scheme_byte;
 use crate::before::is_separator;
+use crate::behind::{begins_query, is_barred};
 use crate::brackets::has_paired_brackets;
 use crate::bytes::{is_control, is_edge_byte};
 use crate::pairs::Pair;
@@ -31,6 +34,42 @@ pub fn is_for_pattern(line: &[SeenByte], virtual_start: usize, start: usize, pai
     ensures { result ≡ is_for_pattern line.now virtual_start start pair.now }
 {
     pair.piece <= start && is_one_url(&line[virtual_start..start], &line[start..pair.start])
+}
+
+/// Whether what stands from byte `start` of a line to a pair may be the URL of a folder, or of a list without its query.
+pub fn is_for_folder(line: &[SeenByte], start: usize, pair: &Pair) -> bool
+    requires start { start ≤ pair.now.start }
+    requires within { pair.now.start ≤ length line.now }
+    ensures { result ≡ is_for_folder line.now start pair.now }
+{
+    pair.piece <= start && is_no_sentence(&line[start..pair.start])
+}
+
+fn is_no_sentence(url: &[SeenByte]) -> bool
+    ensures { result ≡ is_no_sentence url.now }
+{
+    !is_sentence(url) && !has_barred_query(url)
+}
+
+// Whether the query of a URL has a byte that does not stand behind a name.
+#[tactic(auto, unfolding(crate::specs::FrameUrl::has_barred_query))]
+fn has_barred_query(url: &[SeenByte]) -> bool
+    ensures { result ≡ has_barred_query url.now }
+{
+    let mut rest = url;
+    while let Some((seen, behind)) = rest.split_first() {
+        if begins_query(seen.byte) {
+            return has_barred(rest);
+        }
+        rest = behind;
+    }
+    false
+}
+
+fn has_barred(url: &[SeenByte]) -> bool
+    ensures { result ≡ list_any is_barred url.now }
+{
+    url.iter().any(|seen| is_barred(*seen))
 }
 
 fn is_one_url(before: &[SeenByte], url: &[SeenByte]) -> bool
@@ -118,7 +157,8 @@ fn is_in_scheme(text: &[SeenByte], stands: bool) -> bool
 fn is_sentence(url: &[SeenByte]) -> bool
     ensures { result ≡ is_sentence (signs url.now) }
 {
-    has_blank_or_quote(url) && (begins_again(url) || has_slash_behind_sign(url))
+    has_blank_or_quote(url)
+        && (begins_again(url) || has_slash_behind_sign(url) || has_scheme_behind_sign(url))
 }
 
 fn has_blank_or_quote(url: &[SeenByte]) -> bool
@@ -169,6 +209,23 @@ fn has_slash_behind_sign(url: &[SeenByte]) -> bool
             return true;
         }
         is_behind_sign = is_edge_byte(byte) && !is_bracket(byte);
+        rest = behind;
+    }
+    false
+}
+
+// Whether `://` stands behind a sign.
+#[tactic(auto, unfolding(crate::specs::FrameUrl::has_scheme_behind_sign))]
+fn has_scheme_behind_sign(url: &[SeenByte]) -> bool
+    ensures { result ≡ has_scheme_behind_sign false (signs url.now) }
+{
+    let mut is_behind_sign = false;
+    let mut rest = url;
+    while let Some((byte, behind)) = next_sign(rest) {
+        if is_behind_sign && begins_with(rest, false, b"://") {
+            return true;
+        }
+        is_behind_sign = is_behind_sign || is_edge_byte(byte);
         rest = behind;
     }
     false

@@ -1,6 +1,7 @@
 //! Which URLs are known, for whoever seeks places in a text.
-ghost use Rattle.std.specs.Prelude.{◌≡◌, ◌≤◌, IfSome, ℕ, List, length, true};
-ghost use Rattle.smap_pairs.specs.Known.{IsFrameUrlWithin, UrlsKnown, is_among};
+ghost use Rattle.memchr.specs.Find.{FindsNeedle};
+ghost use Rattle.std.specs.Prelude.{◌≡◌, ◌≤◌, IfSome, MatchOption, Some, ℕ, List, length, true};
+ghost use Rattle.smap_pairs.specs.Known.{IsFrameUrlWithin, IsFrontKnown, UrlsKnown, is_among};
 ghost use Rattle.smap_pairs.specs.declared.known.NamedBy.{NamedBy};
 
 /// By what a file is named for a URL.
@@ -53,6 +54,15 @@ pub trait KnownUrls {
         ensures { (text : List ℕ) → (known self.now).is_prefix text ≡ true →
             is_among result.now (length text) ≡ true };
 
+    /// Where what all URLs begin with stands first in a text: a line without it has no place. At its beginning, where they
+    /// have nothing in common.
+    fn find_front(&self, text: &[u8]) -> Option<usize>
+        ensures { MatchOption (known self.now).front (result ≡ Some 0)
+            (λ front. FindsNeedle text.now front 0 result) };
+
     // The URL of a frame stands within its line.
     ghost within: { (urls : Self) (line : List ℕ) → IsFrameUrlWithin (known urls) line };
+
+    // They do begin with it.
+    ghost fronts: { (urls : Self) → IsFrontKnown (known urls) };
 }

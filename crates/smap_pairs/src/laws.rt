@@ -1,12 +1,12 @@
 //! Laws over the definitions, for all texts: a call does nothing, and its contract is the law.
-ghost use Rattle.std.specs.Prelude.{◌≡◌, ◌≤◌, ◌++◌, ℕ, IsSomeAnd, List, length, slice_get};
+ghost use Rattle.std.specs.Prelude.{◌≡◌, ◌≤◌, ◌++◌, [], ℕ, IsSomeAnd, List, length, slice_get};
 ghost use Rattle.std.specs.List.{All, flat_map};
 ghost use Rattle.smap_lines.specs.Lines.{IsWholeLines};
 ghost use Rattle.smap_pairs.specs.Apart.{AreAmong, AreApart, HasNoMark, HasNoQuotationMark};
 ghost use Rattle.smap_pairs.specs.Apart.{HasWhole, IsClearOf, in_turn};
 ghost use Rattle.smap_pairs.specs.Chunks.{IsCutOfLine, cut_bytes, cuts_of};
 ghost use Rattle.smap_pairs.specs.Json.{InString};
-ghost use Rattle.smap_pairs.specs.Known.{UrlsKnown};
+ghost use Rattle.smap_pairs.specs.Known.{AllBegin, IsNowhereIn, UrlsKnown};
 ghost use Rattle.smap_pairs.specs.LinePlaces.{places_in};
 ghost use Rattle.smap_pairs.specs.Marks.{marks_of};
 ghost use Rattle.smap_pairs.specs.Pairs.{IsPairOf};
@@ -81,4 +81,10 @@ pub fn places_stay_in_strings()
         All (StandsBetween state line) (places_in known line (seen_of line)) }
     ensures quotation_marks { (known : UrlsKnown) → AreForStrings known → (line : List ℕ) →
         All (IsWithoutQuotationMark known line) (places_in known line (seen_of line)) }
+{}
+
+/// A line without what all URLs begin with has no place.
+pub fn urls_begin_alike()
+    ensures { (known : UrlsKnown) (front line : List ℕ) → AllBegin known front →
+        IsNowhereIn line front → places_in known line (seen_of line) ≡ [] }
 {}

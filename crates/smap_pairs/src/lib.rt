@@ -49,7 +49,7 @@ pub use known::{KnownUrls, NamedBy};
 pub use line_places::{LinePlaces, Span};
 pub use marks::{Mark, marks_into};
 pub use numbers::numbers_after;
-pub use pairs::{Pair, next_pair, pairs_in_line};
+pub use pairs::{Pair, pairs_in_line};
 pub use seen::{NOTHING, SeenByte, see_into};
 pub use virtual_lines::{VirtualLine, line_of_byte, lines_of_strings_into, virtual_lines_into};
 pub use word::begin_by_word;

@@ -1,14 +1,15 @@
 //! The places of a line.
-ghost use Rattle.std.specs.Prelude.{◌≡◌, ◌≤◌, ◌<◌, IfOk, IfSome, IsOk, length, option_copied, vec_capacity};
+ghost use Rattle.std.specs.Prelude.{◌≡◌, ◌≤◌, ◌<◌, ◌∷◌, ◌&&◌, [], IfOk, IfSome, IsOk, length, option_copied, vec_capacity};
 ghost use Rattle.std.specs.List.{All, slice_get};
 ghost use Rattle.smap_pairs.specs.Behind.{HasRoom, KeepsRoom, most_noted};
 ghost use Rattle.smap_pairs.specs.LinePlaces.{IsLineSeen, IsLineWithin, frame_in, frame_span, has_frame_url, of_pair, or_else, pair_place, places_in, span_of, start_of};
+ghost use Rattle.smap_pairs.specs.Pairs.{AreInOrder, pairs_of};
 ghost use Rattle.smap_pairs.specs.Seen.{seen_of};
 ghost use Rattle.smap_pairs.specs.Spans.{AreSpansInOrder, none_found};
 ghost use Rattle.smap_pairs.specs.VirtualLines.{line_of_byte};
 
 use crate::behind::Behind;
-use crate::frame_url::is_for_pattern;
+use crate::frame_url::{is_for_folder, is_for_pattern};
 use crate::halved::{halve_into, has_doubled};
 use crate::known::{KnownUrls, NamedBy};
 use crate::marks::{Mark, marks_into};
@@ -88,8 +89,8 @@ impl LinePlaces {
         })
     }
 
-    /// Finds the places of a line. Each byte of it is gone through a few times, and those before a pair, at most 2,048 of
-    /// its piece, once for it. Names are looked up at the pair and at each query before it, once for each length that they
+    /// Finds the places of a line. Where it has a pair, and is no frame with a URL that is named, each byte of it is gone
+    /// through a few times, and those before a pair, at most 2,048 of its piece, once for it. Names are looked up at the pair and at each query before it, once for each length that they
     /// have; prefixes of folders at each byte of the whole piece behind which a URL may begin, once for each length of
     /// theirs. No memory is asked for where the line has no more bytes than there is room for.
     #[tactic(auto, using(crate::proofs::FewLaws::few))]
@@ -100,11 +101,19 @@ impl LinePlaces {
         ensures room { length text.now ≤ self.old.most_bytes → IsOk result }
         ensures same_room { self.new.most_bytes ≡ self.old.most_bytes }
     {
+        self.places.clear();
+        pairs_in_line(text, &mut self.pairs)?;
+        if self.pairs.is_empty() {
+            return Ok(());
+        }
+        if let Some(place) = named_frame(known, text, &self.pairs) {
+            self.places.push(place)?;
+            return Ok(());
+        }
         see_into(text, &mut self.seen)?;
         marks_into(&self.seen, &mut self.marks)?;
         lines_of_strings_into(&self.seen, &self.marks, &mut self.strings)?;
         virtual_lines_into(&self.seen, &self.marks, &mut self.lines)?;
-        pairs_in_line(text, &mut self.pairs)?;
         let line = LineSeen {
             text,
             seen: &self.seen,
@@ -315,11 +324,8 @@ impl LineSeen<'_> {
         ensures { result ≡ has_frame_url (K.known known.now) self.now.text.now
             self.now.seen.now line pair.now start url.now }
     {
-        let is_own = if 0 < line.unit && start < pair.piece {
-            known.is_name(url)
-        } else {
-            known.has_own(url)
-        };
+        let is_own = known.has_own(url)
+            && (known.is_name(url) || is_for_folder(self.seen, start, pair));
         is_own || (is_for_pattern(self.seen, line.start, start, pair) && known.has_pattern(url))
     }
 
@@ -368,6 +374,32 @@ impl LineSeen<'_> {
         let query = sought.query_of(NamedBy::Argument, cut);
         Ok(Some(span_of(pair, pair.start - cut, query, false)))
     }
+}
+
+// The place of the frame that a line is, where its URL is named: there is no other then.
+fn named_frame<K: KnownUrls>(known: &K, text: &[u8], pairs: &[Pair]) -> Option<Span>
+    requires pairs { pairs.now ≡ pairs_of text.now }
+    requires order { AreInOrder 0 (length text.now) pairs.now }
+    ensures { IfSome result (λ place.
+        places_in (K.known known.now) text.now (seen_of text.now) ≡ place ∷ []) }
+{
+    if known.name_lengths().is_empty() {
+        return None;
+    }
+    let (start, end) = known.frame_url(text)?;
+    let pair = pair_at(pairs, text.len(), end)?;
+    if is_own_name(known, &text[start..end]) {
+        Some(span_of(&pair, start, end, false))
+    } else {
+        None
+    }
+}
+
+// Whether a URL is named, and has its map by that.
+fn is_own_name<K: KnownUrls>(known: &K, url: &[u8]) -> bool
+    ensures { result ≡ ((K.known known.now).is_name url.now && (K.known known.now).has_own url.now) }
+{
+    known.is_name(url) && known.has_own(url)
 }
 
 // A frame has its own pair alone.

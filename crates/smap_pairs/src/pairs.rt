@@ -43,11 +43,11 @@ pub fn pairs_in_line(line: &[u8], pairs: &mut Vec<Pair>) -> Result<(), AllocErro
     Ok(())
 }
 
-/// The first pair of a line behind this byte, at which its piece begins. For all pairs of a line together each byte is read
-/// at most twelve times: to find a `:`; behind that as one of `//[`, of an address, or of a line or a column, whose digits
-/// are counted and then read; and behind these, where numbers may go on. No address is read twice, since in none begins
-/// another.
-pub fn next_pair(line: &[u8], piece: usize) -> Option<Pair>
+// The first pair of a line behind this byte, at which its piece begins. For all pairs of a line together each byte is read
+// at most twelve times: to find a `:`; behind that as one of `//[`, of an address, or of a line or a column, whose digits
+// are counted and then read; and behind these, where numbers may go on. No address is read twice, since in none begins
+// another.
+fn next_pair(line: &[u8], piece: usize) -> Option<Pair>
     requires { piece ≤ length line.now }
     ensures pair { MatchOption result (pairs_behind line.now piece ≡ []) (λ pair.
         pairs_behind line.now piece ≡ pair ∷ pairs_behind line.now pair.end) }

@@ -1,12 +1,55 @@
 //! Whether a URL without a scheme is a path.
 ghost use Rattle.std.specs.Prelude.{◌≡◌};
-ghost use Rattle.smap_pairs.specs.Path.{is_path, is_strange};
-ghost use Rattle.smap_pairs.specs.Private.PathReading.{first_after, first_begins, is_path_begun, is_path_read, path_after};
+ghost use Rattle.smap_pairs.specs.Path.{before_next, is_of_no_path, is_path, is_strange};
+ghost use Rattle.smap_pairs.specs.Private.PathReading.{first_after, first_begins, is_name_with, is_path_begun, is_path_read, path_after, start_after};
 ghost use Rattle.smap_pairs.specs.Signs.{signs};
 
 use crate::bytes::{is_edge_byte, is_letter_or_digit};
 use crate::root::Root;
 use crate::seen::{NOTHING, SeenByte};
+
+/// As what the first piece of a path begins.
+#[derive(Clone, Copy)]
+pub enum Start {
+    Nothing,
+    /// Dots alone.
+    Dots,
+    /// A `~` alone.
+    Home,
+    /// A `+` or a `-`, as before what a list or a difference has.
+    Mark,
+    /// Other bytes.
+    Name,
+}
+
+impl Start {
+    fn after(self, byte: u8) -> Self
+        ensures { result ≡ start_after self byte }
+    {
+        match self {
+            Start::Nothing => match byte {
+                b'.' => Start::Dots,
+                b'~' => Start::Home,
+                b'+' | b'-' => Start::Mark,
+                _ => Start::Name,
+            },
+            Start::Dots if byte == b'.' => Start::Dots,
+            Start::Mark => Start::Mark,
+            _ => Start::Name,
+        }
+    }
+
+    // Whether it is a name, where a letter or a digit is in it or not; or dots, `~` or nothing.
+    fn is_name_with(self, has_letter: bool) -> bool
+        ensures { result ≡ is_name_with has_letter self }
+    {
+        match self {
+            Start::Name => has_letter,
+            Start::Mark => false,
+            _ => true,
+        }
+    }
+}
 
 /// What has been read of the first piece of a path.
 #[derive(Clone, Copy)]
@@ -14,8 +57,9 @@ pub struct FirstPiece {
     pub root: Root,
     /// The last byte, and a `/` before the first.
     pub last: u8,
-    pub is_empty: bool,
-    pub has_name: bool,
+    pub start: Start,
+    /// Whether a letter or a digit is in it.
+    pub has_letter: bool,
     pub has_strange: bool,
     pub has_colon: bool,
 }
@@ -27,8 +71,8 @@ impl FirstPiece {
         FirstPiece {
             root: self.root.after(byte),
             last: byte,
-            is_empty: false,
-            has_name: self.has_name || is_letter_or_digit(byte),
+            start: self.start.after(byte),
+            has_letter: self.has_letter || is_letter_or_digit(byte),
             has_strange: self.has_strange || is_strange,
             has_colon: self.has_colon || byte == b':',
         }
@@ -43,8 +87,7 @@ impl FirstPiece {
         if self.has_colon || is_edge_byte(self.last) {
             return false;
         }
-        self.is_empty
-            || (self.has_name || self.last == b'.' || self.last == b'~') && !self.has_strange
+        self.start.is_name_with(self.has_letter) && !self.has_strange
     }
 }
 
@@ -52,7 +95,7 @@ impl FirstPiece {
 #[derive(Clone, Copy)]
 pub enum PathReader {
     First(FirstPiece),
-    /// More than the first piece: its last byte.
+    /// More than the first piece: its last byte, but for dots and `~` behind an edge.
     Later(u8),
     /// All that decides whether it is a path.
     Read(bool),
@@ -65,8 +108,8 @@ impl PathReader {
         PathReader::First(FirstPiece {
             root: Root::Begins,
             last: b'/',
-            is_empty: true,
-            has_name: false,
+            start: Start::Nothing,
+            has_letter: false,
             has_strange: false,
             has_colon: false,
         })
@@ -85,9 +128,9 @@ impl PathReader {
             },
             PathReader::Later(last) => match byte {
                 b'?' => PathReader::Read(true),
-                b':' => PathReader::Read(false),
+                b':' | b'<' | b'>' => PathReader::Read(false),
                 b'/' if is_edge_byte(last) => PathReader::Read(false),
-                _ => PathReader::Later(byte),
+                _ => PathReader::Later(before_next(last, byte)),
             },
             PathReader::Read(is_path) => PathReader::Read(is_path),
         }
@@ -115,6 +158,16 @@ pub fn is_path(url: &[SeenByte]) -> bool
         }
     }
     reader.is_path()
+}
+
+// What stands before the next byte: dots and `~` behind an edge are passed over.
+fn before_next(last: u8, byte: u8) -> u8
+    ensures { result ≡ before_next last byte }
+{
+    match byte {
+        b'.' | b'~' if is_edge_byte(last) => last,
+        _ => byte,
+    }
 }
 
 // Whether a character begins with a byte that is no name of a path.

@@ -1,4 +1,5 @@
 //! What the bytes of a line count as.
+ghost use Rattle.std.specs.List.{prefix_len};
 ghost use Rattle.std.specs.Prelude.{◌≡◌, ◌<◌, ◌≤◌, ◌+◌, ◌++◌, length, map, take, vec_capacity, IfOk, IsOk};
 ghost use Rattle.smap_pairs.specs.Bytes.{is_edge_byte};
 ghost use Rattle.smap_pairs.specs.Seen.{by_itself, counted, counted_from, counts_as, is_by_itself, seen_of, token_bytes, token_size, within};
@@ -7,6 +8,7 @@ ghost use Rattle.smap_pairs.specs.Signs.{text_of};
 use crate::bytes::is_edge_byte;
 use crate::settled::settle;
 use crate::token::{Token, token_of, token_size};
+use memchr::memchr3;
 use std::alloc::AllocError;
 
 /// A byte of a line, and what it counts as. An escape, as in JSON, counts at its last byte as what it means.
@@ -29,8 +31,11 @@ const _: () = prove!(size_of::<SeenByte>() == 16);
 /// What a byte counts as within an escape or a colour.
 pub const NOTHING: u8 = 0xff;
 
-// What an escaped letter beyond ASCII counts as.
+// What an escaped letter up to U+07FF counts as.
 const LETTER: u8 = 0xc3;
+
+// What an escaped character up to U+1FFF does.
+const SCRIPT: u8 = 0xe1;
 
 /// What another escaped character beyond ASCII counts as, and an apostrophe.
 pub const SIGN: u8 = 0xe2;
@@ -38,10 +43,10 @@ pub const SIGN: u8 = 0xe2;
 /// What the bytes of a line count as, one element a byte. The elements of before go, their room stays: where it is enough,
 /// no memory is asked for. After an error some of the line's elements are there.
 ///
-/// Fewer than 20 bytes are read for each byte of a line, whatever stands there. Each is read when it is looked at, as a part
+/// Fewer than 20 bytes are read for each byte of a line, whatever stands there. Each is read when it is sought, as a part
 /// of what begins there, when that is added and when it is settled; a backslash also for the escape before its run and when
 /// the run is counted, and five bytes behind a run, twice; a parameter for a colour that breaks off; and nine bytes beside a
-/// `:`.
+/// `:`, and those of a character before a drive or `file:`.
 pub fn see_into(line: &[u8], seen: &mut Vec<SeenByte>) -> Result<(), AllocError>
     ensures seen { IfOk result (λ _. seen.new.items ≡ seen_of line.now) }
     ensures stands { IfOk result (λ _. text_of seen.new.items ≡ line.now) }
@@ -65,24 +70,36 @@ fn count_into(line: &[u8], seen: &mut Vec<SeenByte>) -> Result<(), AllocError>
     seen.clear();
     seen.reserve(line.len())?;
     let mut rest = line;
-    while let Some((byte, behind)) = rest.split_first() {
-        if is_by_itself(*byte) {
-            seen.push(by_itself(*byte))?;
-            rest = behind;
-            continue;
+    loop {
+        let (run, behind) = rest.split_at(bytes_by_themselves(rest));
+        push_run(run, seen);
+        if behind.is_empty() {
+            return Ok(());
         }
-        let token = token_of(rest);
-        push_token(token, rest, seen)?;
-        rest = rest.split_at(token_size(token)).1;
+        let token = token_of(behind);
+        push_token(token, behind, seen)?;
+        rest = behind.split_at(token_size(token)).1;
     }
-    Ok(())
 }
 
-// Whether neither an escape nor a colour begins with a byte.
-fn is_by_itself(byte: u8) -> bool
-    ensures { result ≡ is_by_itself byte }
+// How many bytes a text begins with, with none of which an escape or a colour begins.
+fn bytes_by_themselves(text: &[u8]) -> usize
+    ensures bytes { result ≡ prefix_len is_by_itself text.now }
+    ensures within { result ≤ length text.now }
 {
-    !(byte == b'\\' || byte == b'#' || byte == 0x1b)
+    memchr3(b'\\', b'#', 0x1b, text).unwrap_or(text.len())
+}
+
+// Adds bytes that count by themselves, for which there is room.
+fn push_run(run: &[u8], seen: &mut Vec<SeenByte>)
+    requires room { length seen.old.items + length run.now ≤ vec_capacity seen.old }
+    ensures added { seen.new.items ≡ seen.old.items ++ map by_itself run.now }
+    ensures size { length seen.new.items ≡ length seen.old.items + length run.now }
+    ensures capacity { vec_capacity seen.new ≡ vec_capacity seen.old }
+{
+    for byte in run {
+        seen.push_reserved(by_itself(*byte));
+    }
 }
 
 fn by_itself(byte: u8) -> SeenByte
@@ -183,6 +200,7 @@ fn counts_as(means: u16) -> u8
     match means {
         0..=0x7f => means as u8,
         0xc0..=0x7ff => LETTER,
+        0x800..=0x1fff => SCRIPT,
         _ => SIGN,
     }
 }

@@ -55,8 +55,8 @@ fn escape_or_colour(is_esc: bool, size: usize, otherwise: Token, text: &[u8]) ->
     }
 }
 
-// How many bytes a run of backslashes has, or else one byte.
-fn bytes_of(text: &[u8]) -> usize
+/// How many bytes a run of backslashes has, or else one byte.
+pub fn bytes_of(text: &[u8]) -> usize
     requires { 0 < length text.now }
     ensures count { result ≡ max 1 (prefix_len is_backslash text.now) }
     ensures some { 0 < result }

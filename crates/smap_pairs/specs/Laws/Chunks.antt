@@ -1,5 +1,5 @@
 -- How a text is cut: the cuts have its bytes, those of whole lines are cut by themselves, and a chunk stands in one line.
-use Rattle.std.proofs.Common.{◌≡◌, ◌<◌, ◌≤◌, ◌-◌, ◌⊎◌, ◌++◌, ◌&&◌, ℕ, zero, suc, Bool, true, false, List, [], ◌∷◌, length, take, drop, codes, refl, ap, sym, ◌∙◌, inl, inr, arith, min, max}
+use Rattle.std.proofs.Common.{◌≡◌, ◌<◌, ◌≤◌, ◌+◌, ◌-◌, ◌⊎◌, ◌++◌, ◌&&◌, ℕ, zero, suc, Bool, true, false, List, [], ◌∷◌, length, take, drop, codes, refl, ap, sym, ◌∙◌, inl, inr, arith, min, max}
 use Rattle.std.specs.Prelude.{◌==◌, ◌||◌, not, nat_lt, if◌then◌else◌, slice_index}
 use Rattle.std.specs.List.{All, flat_map}
 use Rattle.std.proofs.lemmas.Bool.{cases_lt, cond-false, cond-true, eq-eqb, le-leb, lt-leb, ltb-true, or_right}
@@ -8,7 +8,8 @@ use Rattle.std.proofs.lemmas.List.Elements.{All-cons, All-nil}
 use Rattle.smap_lines.specs.Limits.{most_line_bytes}
 use Rattle.smap_lines.specs.Lines.{IsWholeLines, has_line_end}
 use Rattle.smap_pairs.specs.declared.chunk.Chunk.{Chunk}
-use Rattle.smap_pairs.specs.Chunks.{IsCutOfLine, IsInOneLine, begins_anew, chunk_of_long, cut_bytes, cuts_from, cuts_of, first_chunk, goes_on_in_numbers, last_blank, last_quote, line_bytes, quote_begin, without_end}
+use Rattle.smap_pairs.specs.Chunks.{IsCutOfLine, IsInOneLine, begins_anew, chunk_end, chunk_of_long, cut_bytes, cuts_from, cuts_of, escape_size, first_chunk, goes_on_in_numbers, is_line_end, last_blank, last_line_end, last_quote, line_bytes, line_end_from, quote_begin, without_end}
+use Rattle.smap_pairs.specs.Escapes.{escape_of}
 use Rattle.smap_pairs.specs.Chunks.Cut.{chunk, stays}
 use Rattle.smap_pairs.specs.Laws.FirstLine.{line_ends, line_grows, line_of_front, line_stays, line_within}
 
@@ -27,23 +28,40 @@ first_of_long text long = cond-false _ _ _ (lt-leb _ _ long)
 abbrev pub HasBytesOf : (text : List ℕ) → Chunk → Type 0
 HasBytesOf text first = (0 < first.bytes) × (first.bytes ≤ length text)
 
-quote_within : (front : List ℕ) → quote_begin front ≤ length front
-quote_within front = omega (arith, length-take (last_quote front) front)
+line_end_within : (last at skip : ℕ) (text : List ℕ) → last ≤ at → line_end_from last at skip text ≤ at + length text
+line_end_within last at skip [] order = omega arith
+line_end_within last at (suc skip) (byte ∷ text) order =
+    let more = line_end_within last (suc at) skip text (omega arith) in omega (arith, more)
+line_end_within last at zero (byte ∷ text) order =
+    let skip = escape_size (byte ∷ text) (escape_of (byte ∷ text)) - 1 in
+    let more = line_end_within (if is_line_end (escape_of (byte ∷ text)) then at else last) (suc at) skip text
+    (one_of (is_line_end (escape_of (byte ∷ text)))) in
+    omega (arith, more)
+  where
+    one_of : (is_end : Bool) → (if is_end then at else last) ≤ suc at
+    one_of true = omega arith
+    one_of false = omega arith
 
-blank_within : (front : List ℕ) → last_blank front ≤ length front
-blank_within front = omega arith
+last_line_end_within : (front : List ℕ) → last_line_end front ≤ length front
+unfolding last_line_end
+last_line_end_within front = let more = line_end_within 0 0 0 front (omega arith) in omega (arith, more)
+
+pub chunk_end_within : (front : List ℕ) → chunk_end front ≤ length front
+chunk_end_within front = go (nat_lt 0 (quote_begin front)) (nat_lt 0 (last_line_end front))
+  where
+    go : (b c : Bool) → (if b then quote_begin front else if c then last_line_end front else last_blank front) ≤ length front
+    go true c = omega (arith, length-take (last_quote front) front)
+    go false true = last_line_end_within front
+    go false false = omega arith
 
 pub long_within : (front : List ℕ) → 0 < length front → HasBytesOf front (chunk_of_long front)
 long_within front some =
-    go (quote_begin front) (last_blank front) (without_end goes_on_in_numbers front) (nat_lt 0 (quote_begin front)) (nat_lt 0 (last_blank front)) refl refl
-    (quote_within front) (blank_within front) (omega arith)
+    go (chunk_end front) (without_end goes_on_in_numbers front) (nat_lt 0 (chunk_end front)) refl (chunk_end_within front) (omega arith)
   where
-    go : (quote blank numbers : ℕ) (b c : Bool) → nat_lt 0 quote ≡ b → nat_lt 0 blank ≡ c → quote ≤ length front → blank ≤ length front → numbers ≤ length front
-        → HasBytesOf front (if b then record { bytes = quote; is_broken = false } else if c then record { bytes = blank; is_broken = false }
-        else record { bytes = max 1 numbers; is_broken = true })
-    go quote blank numbers true c found other within within_blank few = let h = ltb-true 0 quote found in (omega arith, omega arith)
-    go quote blank numbers false true none found within within_blank few = let h = ltb-true 0 blank found in (omega arith, omega arith)
-    go quote blank numbers false false none other within within_blank few = (omega arith, omega arith)
+    go : (end numbers : ℕ) (b : Bool) → nat_lt 0 end ≡ b → end ≤ length front → numbers ≤ length front
+        → HasBytesOf front (if b then record { bytes = end; is_broken = false } else record { bytes = max 1 numbers; is_broken = true })
+    go end numbers true found within few = let h = ltb-true 0 end found in (omega arith, omega arith)
+    go end numbers false none within few = (omega arith, omega arith)
 
 -- the first chunk of a text that has bytes has some, and no others
 pub first_within : (text : List ℕ) → 0 < length text → HasBytesOf text (first_chunk text)

@@ -3,10 +3,13 @@ use Rattle.std.specs.Prelude.{ℕ, ◌==◌, ◌&&◌, ◌||◌, Bool, true, fal
 use Rattle.std.specs.Char.{is_ascii_alphabetic, is_ascii_digit}
 use Rattle.std.specs.List.{fold}
 use Rattle.smap_pairs.specs.Bytes.{is_edge_byte, is_letter_or_digit}
+use Rattle.smap_pairs.specs.Path.{before_next, is_of_no_path}
 use Rattle.smap_pairs.specs.Root.{is_host_byte, is_of_name}
 use Rattle.smap_pairs.specs.declared.path.FirstPiece.{FirstPiece}
 use Rattle.smap_pairs.specs.declared.path.PathReader.{PathReader}
 use Rattle.smap_pairs.specs.declared.path.PathReader.TheVariants.{First, Later, Read}
+use Rattle.smap_pairs.specs.declared.path.Start.{Start}
+use Rattle.smap_pairs.specs.declared.path.Start.TheVariants.{Nothing, Dots, Home, Mark, Name}
 use Rattle.smap_pairs.specs.declared.root.Root.{Root}
 use Rattle.smap_pairs.specs.declared.root.Root.TheVariants.{Begins, Drive, F, Fi, Fil, File, Host, Colon, Port, Other}
 
@@ -38,31 +41,44 @@ is_root_read _ = false
 
 -- ---- the first piece
 
+abbrev pub start_after : Start → (byte : ℕ) → Start
+start_after Nothing byte = if byte == 46 then Dots else if byte == 126 then Home else if byte == 43 || byte == 45 then Mark else Name
+start_after Dots byte = if byte == 46 then Dots else Name
+start_after Home byte = Name
+start_after Mark byte = Mark
+start_after Name byte = Name
+
 abbrev pub first_begins : FirstPiece
-first_begins = record { root = Begins; last = 47; is_empty = true; has_name = false; has_strange = false; has_colon = false }
+first_begins = record { root = Begins; last = 47; start = Nothing; has_letter = false; has_strange = false; has_colon = false }
 
 abbrev pub first_after : (is_strange : Bool) → (byte : ℕ) → FirstPiece → FirstPiece
 first_after is_strange byte first = record {
   root = root_after first.root byte;
   last = byte;
-  is_empty = false;
-  has_name = first.has_name || is_letter_or_digit byte;
+  start = start_after first.start byte;
+  has_letter = first.has_letter || is_letter_or_digit byte;
   has_strange = first.has_strange || is_strange;
   has_colon = first.has_colon || byte == 58;
 }
 
-abbrev pub is_empty_or_name : FirstPiece → Bool
-is_empty_or_name first = first.is_empty || (first.has_name || first.last == 46 || first.last == 126) && not first.has_strange
+abbrev pub is_name_with : (has_letter : Bool) → Start → Bool
+is_name_with has_letter Name = has_letter
+is_name_with has_letter Mark = false
+is_name_with has_letter _ = true
 
 abbrev pub is_path_begun : FirstPiece → Bool
-is_path_begun first = is_root_read first.root || not first.has_colon && not (is_edge_byte first.last) && is_empty_or_name first
+is_path_begun first =
+    is_root_read first.root
+    || not first.has_colon && not (is_edge_byte first.last) && (is_name_with first.has_letter first.start && not first.has_strange)
 
 -- ---- all
 
 abbrev pub path_after : (is_strange : Bool) → (byte : ℕ) → PathReader → PathReader
 path_after is_strange byte (First first) =
     if byte == 63 then Read true else (if byte == 47 then (if is_path_begun first then Later 47 else Read false) else First (first_after is_strange byte first))
-path_after is_strange byte (Later last) = if byte == 63 then Read true else (if byte == 58 || byte == 47 && is_edge_byte last then Read false else Later byte)
+path_after is_strange byte (Later last) =
+    if byte == 63 then Read true
+    else (if is_of_no_path byte || byte == 47 && is_edge_byte last then Read false else Later (before_next last byte))
 path_after is_strange byte (Read is_path) = Read is_path
 
 abbrev pub is_path_read : PathReader → Bool

@@ -1,40 +1,56 @@
-use Rattle.std.proofs.Common.{◌++◌, ◌∷◌, [], ap, arith, length, length-append, sym, ◌∙◌}
-use Rattle.smap_pairs.proofs.SeenLaws.{all_added, byte_added, token_added}
-use Rattle.smap_pairs.proofs.StandLaws.{byte_line, token_line}
+use Rattle.std.proofs.Common.{◌≡◌, ◌++◌, [], ap, arith, length, length-append, sym, ◌∙◌}
+use Rattle.std.proofs.lemmas.Bool.{eqb-true}
+use Rattle.std.proofs.lemmas.List.{append-nil, nil_from_length}
+use Rattle.smap_pairs.specs.Signs.{text_of}
+use Rattle.smap_pairs.proofs.SeenLaws.{all_added, run_added, token_added}
+use Rattle.smap_pairs.proofs.StandLaws.{run_line, token_line}
 use Rattle.smap_pairs.proofs.seen.count_into.Goals as goal
 
-pub loop-byte-preserved-then-is_by_itself : goal.loop-byte-preserved-then-is_by_itself
-loop-byte-preserved-then-is_by_itself c =
-    let more = c.in_ok-push.ensures.items in
+pub loop-behind-preserved : goal.loop-behind-preserved
+loop-behind-preserved c =
+    let token = c.token_of-token.ensures in
+    let behind = c.split_at.result.1.now in
+    let counted =
+    run_added c.loop-behind.seen.items c.push_run.new.seen.items c.loop-behind.rest.now c.split_at.result.0.now c.split_at.result.1.now
+    c.bytes_by_themselves.result c.bytes_by_themselves.ensures.bytes c.split_at.ensures.front c.split_at.ensures.back c.push_run.ensures.added
+    ∙ c.loop-behind.invariant.counted in
+    let stands =
+    run_line c.loop-behind.seen.items c.push_run.new.seen.items c.loop-behind.rest.now c.split_at.result.0.now c.split_at.result.1.now
+    c.bytes_by_themselves.result c.push_run.ensures.added c.split_at.ensures.front c.split_at.ensures.back
+    ∙ c.loop-behind.invariant.stands in
     record {
-      counted = byte_added c.loop-byte.seen.items c.push.new.self.items c.loop-byte.rest.now c.in-Some.byte.now c.in-Some.behind.now c.in-Some.ensures.cases.0
-          (sym c.is_by_itself.ensures ∙ c.if-is_by_itself.true)
-          (more ∙ ap (λ one. c.loop-byte.seen.items ++ one ∷ []) c.by_itself.ensures) ∙ c.loop-byte.invariant.counted;
-      stands = byte_line c.loop-byte.seen.items c.push.new.self.items c.by_itself.result c.in-Some.byte.now c.loop-byte.rest.now c.in-Some.behind.now c.args.line.now
-          more c.by_itself.ensures c.in-Some.ensures.cases.0 c.loop-byte.invariant.stands;
+      counted = token_added c.push_run.new.seen.items c.push_token.new.seen.items behind c.token_of-token.result c.token_size.result
+          c.split_at-in-loop-behind.result.1.now (omega (arith, token.some, token.within)) token.token token.some c.token_size.ensures
+          c.split_at-in-loop-behind.ensures.back c.in_ok-push_token.ensures.added ∙ counted;
+      stands = token_line c.push_run.new.seen.items c.push_token.new.seen.items behind c.split_at-in-loop-behind.result.1.now c.args.line.now
+          c.token_of-token.result c.token_size.result c.in_ok-push_token.ensures.added token.some token.within c.token_size.ensures
+          c.split_at-in-loop-behind.ensures.back stands;
       one_a_byte = omega (
         arith,
-        ap length more,
-        length-append c.loop-byte.seen.items (c.by_itself.result ∷ []),
-        c.in-Some.ensures.cases.1,
-        c.loop-byte.invariant.one_a_byte,
+        c.in_ok-push_token.ensures.size,
+        c.split_at-in-loop-behind.ensures.back_len,
+        c.token_size.ensures,
+        c.push_run.ensures.size,
+        c.split_at.ensures.front_len,
+        c.split_at.ensures.back_len,
+        c.loop-behind.invariant.one_a_byte,
       );
-      capacity = omega (arith, c.loop-byte.invariant.capacity, c.in_ok-push.ensures.capacity);
+      spare = omega (arith, c.loop-behind.invariant.spare, c.push_run.ensures.capacity, c.in_ok-push_token.ensures.capacity);
+      capacity = omega (arith, c.loop-behind.invariant.capacity, c.push_run.ensures.capacity, c.in_ok-push_token.ensures.capacity);
     }
 
-pub loop-byte-preserved : goal.loop-byte-preserved
-loop-byte-preserved c =
-    let token = c.token_of-token.ensures in
-    record {
-      counted = token_added c.loop-byte.seen.items c.push_token.new.seen.items c.loop-byte.rest.now c.in-Some.byte.now c.in-Some.behind.now
-          c.token_of-token.result c.token_size.result c.split_at.result.1.now c.in-Some.ensures.cases.0 token.token token.some c.token_size.ensures
-          c.split_at.ensures.back c.in_ok-push_token.ensures.added ∙ c.loop-byte.invariant.counted;
-      stands = token_line c.loop-byte.seen.items c.push_token.new.seen.items c.loop-byte.rest.now c.split_at.result.1.now c.args.line.now c.token_of-token.result
-          c.token_size.result c.in_ok-push_token.ensures.added token.some token.within c.token_size.ensures c.split_at.ensures.back c.loop-byte.invariant.stands;
-      one_a_byte = omega (arith, c.in_ok-push_token.ensures.size, c.split_at.ensures.back_len, c.token_size.ensures, c.loop-byte.invariant.one_a_byte);
-      capacity = omega (arith, c.loop-byte.invariant.capacity, c.in_ok-push_token.ensures.capacity);
-    }
+pub returns-then-is_empty-clause-counted : goal.returns-then-is_empty-clause-counted
+returns-then-is_empty-clause-counted c =
+    all_added c.push_run.new.seen.items c.split_at.result.1.now c.args.line.now
+    (eqb-true (length c.split_at.result.1.now) 0 (sym c.is_empty.ensures ∙ c.if-is_empty.true))
+    (run_added c.loop-behind.seen.items c.push_run.new.seen.items c.loop-behind.rest.now c.split_at.result.0.now c.split_at.result.1.now
+    c.bytes_by_themselves.result c.bytes_by_themselves.ensures.bytes c.split_at.ensures.front c.split_at.ensures.back c.push_run.ensures.added
+    ∙ c.loop-behind.invariant.counted)
 
-pub returns-clause-counted : goal.returns-clause-counted
-returns-clause-counted c =
-    all_added c.loop-byte.seen.items c.loop-byte.rest.now c.args.line.now c.in_default.ensures.cases c.loop-byte.invariant.counted
+pub returns-then-is_empty-clause-stands : goal.returns-then-is_empty-clause-stands
+returns-then-is_empty-clause-stands c =
+    let none = nil_from_length c.split_at.result.1.now (eqb-true (length c.split_at.result.1.now) 0 (sym c.is_empty.ensures ∙ c.if-is_empty.true)) in
+    sym (append-nil (text_of c.push_run.new.seen.items)) ∙ ap (λ l. text_of c.push_run.new.seen.items ++ l) (sym none)
+    ∙ run_line c.loop-behind.seen.items c.push_run.new.seen.items c.loop-behind.rest.now c.split_at.result.0.now c.split_at.result.1.now
+    c.bytes_by_themselves.result c.push_run.ensures.added c.split_at.ensures.front c.split_at.ensures.back
+    ∙ c.loop-behind.invariant.stands

@@ -1,4 +1,4 @@
-use Rattle.std.proofs.Common.{◌≡◌, ◌+◌, ◌-◌, ◌<◌, ap, arith, get_or, length, reverse, take, ◌∙◌}
+use Rattle.std.proofs.Common.{◌≡◌, ◌+◌, ◌-◌, ◌<◌, ap, arith, get_or, length, reverse, sym, take, ◌∙◌}
 use Rattle.std.proofs.lemmas.List.{take_rest}
 use Rattle.smap_pairs.specs.Seen.{settled}
 use Rattle.smap_pairs.proofs.SeenLaws.{all_settled, leaves, no_byte, none_settled, settled_to, settles}
@@ -33,5 +33,6 @@ loop-i-preserved c =
     record {
       within = omega arith;
       settled = leaves c.args.line.now c.args.seen.now c.loop-i.seen i here
-          (c.loop-i.invariant.settled ∙ ap (settled_to c.args.line.now c.args.seen.now) next) c.if-one-eq58.false c.if-one-eq39.false;
+          (c.loop-i.invariant.settled ∙ ap (settled_to c.args.line.now c.args.seen.now) next) c.if-seen-i-eq58.false c.if-seen-i-eq39.false
+          (sym c.may_end_sign.ensures ∙ c.if-may_end_sign.false);
     }

@@ -1,19 +1,7 @@
 use Rattle.std.proofs.Common.{◌∙◌}
 use Rattle.std.proofs.lemmas.Result.{err_from_is_err_and}
-use Rattle.smap_anywhere.proofs.ChunkPutLaws.{chunk_fails, chunk_puts, none_here, parts_are, plain_fails, plain_puts, spans_in_text}
+use Rattle.smap_anywhere.proofs.ChunkPutLaws.{chunk_fails, chunk_puts, parts_are, spans_in_text}
 use Rattle.smap_anywhere.proofs.chunk_writer.ChunkWriter.put_chunk.Goals as goal
-
-pub returns-then-is_none-clause-puts : goal.returns-then-is_none-clause-puts
-returns-then-is_none-clause-puts g c =
-    let none = none_here c.next_pair.result _ _ c.is_none.result c.next_pair.ensures.pair c.is_none.ensures c.if-is_none.true in
-    plain_puts g.W.ByteSink.seen (g.K.KnownUrls.known c.args.self.now.known.now) c.args.text.now c.line_of-line.result.now _ _ c.line_of-line.ensures.line none
-    g.M.Maps.Finds g.M.Maps.found c.args.self.now c.put.result c.put.ensures
-
-pub returns-then-is_none-clause-fails : goal.returns-then-is_none-clause-fails
-returns-then-is_none-clause-fails g c =
-    let none = none_here c.next_pair.result _ _ c.is_none.result c.next_pair.ensures.pair c.is_none.ensures c.if-is_none.true in
-    plain_fails g.W.ByteSink.seen (g.K.KnownUrls.known c.args.self.now.known.now) c.args.text.now c.line_of-line.result.now _ _ c.line_of-line.ensures.line none
-    (g.M.Maps.Gives c.args.self.now.writer.maps.now) c.put.result c.put.ensures
 
 pub put_parts-requires-clause-order : goal.put_parts-requires-clause-order
 put_parts-requires-clause-order g c =

@@ -14,4 +14,5 @@ invariant_of-result c =
       of_names = λ url on. c.in_ok-names.ensures (length url) (name_among maps c.deref-2.result.now all url on);
       of_prefixes = λ text on. c.in_ok-prefixes.ensures (length text)
           (ap (λ l. is_among l (length text)) folders ∙ text_among maps.locations.folders text on);
+      front_is = c.front_of_urls.ensures;
     }

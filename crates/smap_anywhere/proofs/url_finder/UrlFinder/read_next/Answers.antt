@@ -30,8 +30,8 @@ returns-then-bytes-gt0-clause-left c =
     ∙ sym (none_waits c.args.text.now old none)
     ∙ ap (urls_waiting c.args.text.now) c.self.view_is
 
-pub find_in-self-inside-requires-clause-one : goal.find_in-self-inside-requires-clause-one
-find_in-self-inside-requires-clause-one c =
+pub find_in_chunk-requires-clause-one : goal.find_in_chunk-requires-clause-one
+find_in_chunk-requires-clause-one c =
     let rest = take (length c.args.text.now - c.self.inside.end) (drop c.self.inside.end c.args.text.now) in
     subst (λ (first : Chunk). IsInOneLine (take first.bytes rest)) (sym c.in-Some.ensures.chunk)
     (first_in_line rest (omega (arith, c.in-Some.ensures.within)))
@@ -49,7 +49,7 @@ returns-clause-left c =
     ] in
     let old = seen_of c.self.inside.places.places c.self.inside.given c.self.inside.begin c.self.inside.next c.self.inside.end c.self.inside.is_broken in
     chunk_read c.args.text.now rest c.self.inside.end c.self.inside.is_broken c.in-Some.chunk
-    (drop c.find_in-self-inside.result c.find_in-self-inside.new.places.places) (take_rest c.args.text.now c.self.inside.end) some begins
-    c.in-Some.ensures.chunk c.in-Some.ensures.within.1 c.find_in-self-inside.ensures.spans c.find_in-self-inside.ensures.order
+    c.find_in_chunk.new.places.places (take_rest c.args.text.now c.self.inside.end) some begins
+    c.in-Some.ensures.chunk c.in-Some.ensures.within.1 c.find_in_chunk.ensures.spans c.find_in_chunk.ensures.order
     ∙ sym (none_waits c.args.text.now old none)
     ∙ ap (urls_waiting c.args.text.now) c.self.view_is

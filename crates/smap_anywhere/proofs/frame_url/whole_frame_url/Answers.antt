@@ -1,7 +1,7 @@
 use Rattle.std.proofs.Common.{option_map, ap, arith, sym, ◌∙◌}
 use Rattle.smap_trace.specs.FrameSeen.{parts_seen}
 use Rattle.smap_anywhere.specs.Laws.FrameUrl.{url_within}
-use Rattle.smap_anywhere.proofs.frame_url.frame_url.Goals as goal
+use Rattle.smap_anywhere.proofs.frame_url.whole_frame_url.Goals as goal
 
 pub returns-clause-within : goal.returns-clause-within
 returns-clause-within c =
