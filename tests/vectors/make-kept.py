@@ -1,5 +1,6 @@
 #!/usr/bin/env python3
-"""make-kept.py FILE: writes random runs over what is kept of URLs, with what store.py, a model, answers: the rows of kept.rt.in."""
+"""make-kept.py FILE: writes random runs over what is kept of URLs, with what store.py, a model, answers: kept_rows.rt of
+smap_trace_tests."""
 
 import random
 import sys
@@ -37,12 +38,14 @@ def run(chance, most, steps):
             rows.append("forget_none")
         elif deed < 0.8:
             rows.append(f"ask {url}|{now} {answered(store.ask(key, now))}")
-        elif deed < 0.92:
+        elif deed < 0.84:
+            rows.append(f"key {url}|{store.key(key).decode()}")
+        elif deed < 0.93:
             rows.append(f"peek {url}|{now} {answered(store.peek(key, now))}")
         else:
             order = store.order
-            rows.append(f"state {store.counted('value')} {store.counted('none')} {len(order['value'])} {len(order['none'])} "
-                        f"{store.asked} {store.hits} {store.dropped}")
+            rows.append(f"state {store.counted('value')} {store.counted('none')} {store.own_counted(store.own)} "
+                        f"{len(order['value'])} {len(order['none'])} {store.asked} {store.hits} {store.dropped}")
     return rows
 
 

@@ -1,5 +1,5 @@
-"""A model of what is kept of URLs within a bound, by the rule alone: a dict and two lists, of which the last used stands first.
-It knows nothing of trees, and serves as the oracle of random runs."""
+"""A model of what is kept of URLs within a bound, by the rule alone: a dict, two lists, of which the last used stands first, and
+the set of URLs that stand for themselves. It knows nothing of trees, and serves as the oracle of random runs."""
 
 MOST = 2 ** 64 - 1
 
@@ -15,6 +15,7 @@ class Store:
     def __init__(self, most):
         self.known, self.most = {}, {"value": most, "none": most // 16}
         self.order = {"value": [], "none": []}
+        self.own, self.are_all_own = set(), False
         self.hits = self.asked = self.dropped = 0
 
     def counted(self, kind):
@@ -29,8 +30,20 @@ class Store:
         for url in list(self.order["none"]):
             self.forget(url)
 
+    def own_up(self, url):
+        """A URL that is cut for others stands for itself from now on; so do all where it has no room beside these."""
+        if cut(url) != url and not self.are_all_own:
+            with_it = self.own | {url}
+            self.are_all_own = self.own_counted(with_it) > self.most["none"]
+            self.own = self.own if self.are_all_own else with_it
+
+    def own_counted(self, own):
+        """For how many bytes URLs count that stand for themselves."""
+        return sum(len(url) + 128 for url in own)
+
     def put(self, url, kind, what, count, until=None):
         """Puts a value, or why there is none, in the place of what there was; then the longest unused of its kind go."""
+        self.own_up(url)
         self.forget(url)
         self.known[url] = kind, what, min(count + len(url) + 128, MOST), until
         self.order[kind].insert(0, url)
@@ -38,12 +51,14 @@ class Store:
             self.forget(self.order[kind][-1])
             self.dropped += 1
 
+    def key(self, url):
+        """The URL under which the answer stands: this one, if it stands for itself, or else it without its query."""
+        return url if self.are_all_own or url in self.own else cut(url)
+
     def answering(self, url, now):
-        """The URL under which the answer stands: this one, or else it without its query; or None."""
-        for one in (url, cut(url)):
-            if one in self.known and (self.known[one][3] is None or now < self.known[one][3]):
-                return one
-        return None
+        """This URL, where there is an answer; or None."""
+        one = self.key(url)
+        return one if one in self.known and (self.known[one][3] is None or now < self.known[one][3]) else None
 
     def peek(self, url, now):
         one = self.answering(url, now)

@@ -2,4 +2,7 @@ mod Numbers
 mod Moves
 mod TextKeys
 mod Fitting
+mod UnderLaws
+mod OwnLaws
+mod RunLaws
 mod Examples

@@ -1,6 +1,6 @@
 -- Entries with a number each: what is under a text, and what is left without it.
-use Rattle.std.proofs.Common.{◌≡◌, ◌≢◌, ℕ, ◌+◌, ◌<◌, Bool, true, false, cond, List, [], ◌∷◌, ◌++◌, Option, Some, None, length, refl, sym, ap, subst, arith, eq-eqb, eqb-true, ne_eqb, ◌∙◌, ◌⊎◌, inl, inr, nat_eq}
-use Rattle.std.proofs.lemmas.Bool.{cases_Bool, false≢true}
+use Rattle.std.proofs.Common.{◌≡◌, ℕ, ◌+◌, ◌<◌, Bool, true, false, cond, List, [], ◌∷◌, Option, Some, None, length, refl, sym, ap, subst, arith, eq-eqb, ne_eqb, ◌∙◌, nat_eq}
+use Rattle.std.proofs.lemmas.Bool.{false≢true}
 use Rattle.std.proofs.lemmas.Slice.Eq.{bytes_eq-Decides}
 use Rattle.std.specs.Map.{lookup, lookup_entry, remove_entry}
 use Rattle.std.specs.Str.{bytes_eq}
@@ -21,7 +21,7 @@ turned one other apart = go (bytes_eq other one) refl
     go true is = absurd (false≢true (sym apart ∙ (bytes_eq-Decides one other).1 (sym ((bytes_eq-Decides other one).0 is))))
     go false is = refl
 
-passed : {A : Type 0} (b : Bool) (value : A) (rest : Option A) → cond b (Some value) rest ≡ None → (b ≡ false) × (rest ≡ None)
+pub passed : {A : Type 0} (b : Bool) (value : A) (rest : Option A) → cond b (Some value) rest ≡ None → (b ≡ false) × (rest ≡ None)
 passed true value rest is = cc
 passed false value rest is = (refl, is)
 

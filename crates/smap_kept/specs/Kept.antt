@@ -1,8 +1,8 @@
 -- What is known of URLs, within a bound (this project's own): the value of each, or why it has none.
 use Rattle.std.specs.Prelude.{◌≡◌, ℕ, ◌+◌, ◌-◌, ◌/◌, ◌^◌, Bool, true, false, List, [], ◌∷◌, Option, Some, None, if◌then◌else◌, length, min, nat_lt}
-use Rattle.smap_locations.specs.Paths.{without_query}
 use Rattle.smap_kept.specs.Bounded.{kept_within, known_under}
 use Rattle.smap_kept.specs.InOrder.{used, without}
+use Rattle.smap_kept.specs.OwnUrls.{OwnSeen, key_of, own_with}
 use Rattle.smap_kept.specs.declared.answer.Answer.{Answer}
 use Rattle.smap_kept.specs.declared.answer.Answer.TheVariants.{Known, NoneKnown, Wanted}
 use Rattle.smap_kept.specs.declared.answer.NoValue.{NoValue}
@@ -11,11 +11,13 @@ use Rattle.smap_kept.specs.declared.kept.Absence.{Absence}
 use Rattle.smap_kept.specs.declared.kept.Kept.TheInside.{Inside}
 
 -- the values, and why others have none, each under its URL; what was used last stands first. Both are within a bound of
--- bytes. With how many look-ups were asked, how many of them were answered, and how much was dropped for room
+-- bytes. With the URLs that stand for themselves, how many look-ups were asked, how many of them were answered, and how much
+-- was dropped for room
 pub record KeptSeen (T : Type 0) : Type 0 where
   pub values : List (List ℕ × Counted T)
   pub nones : List (List ℕ × Counted Absence)
   pub most : ℕ
+  pub own : OwnSeen
   pub asked : ℕ
   pub hits : ℕ
   pub dropped : ℕ
@@ -42,14 +44,9 @@ module _ {T : Type 0} where
   abbrev pub own_answer : (now : ℕ) → KeptSeen T → (url : List ℕ) → Answer T
   own_answer now kept url = answer_of (known_under url kept.values) (why_none now (known_under url kept.nones))
 
-  abbrev pub or_else : Answer T → Answer T → Answer T
-  or_else Wanted other = other
-  or_else (Known value) other = Known value
-  or_else (NoneKnown why) other = NoneKnown why
-
-  -- what is known under the URL, or else under it without its query and its fragment
+  -- what is known of a URL is what is known under its key
   abbrev pub answer : (now : ℕ) → KeptSeen T → (url : List ℕ) → Answer T
-  answer now kept url = or_else (own_answer now kept url) (own_answer now kept (without_query url))
+  answer now kept url = own_answer now kept (key_of kept.own url)
 
   abbrev pub is_wanted : Answer T → Bool
   is_wanted Wanted = true
@@ -69,6 +66,17 @@ abbrev pub more : (count some : ℕ) → ℕ
 more count some = min (count + some) (2 ^ 64 - 1)
 
 module _ {T : Type 0} where
+  abbrev pub kept_at_first : (most : ℕ) → KeptSeen T
+  kept_at_first most = record {
+    values = [];
+    nones = [];
+    most = most;
+    own = record { urls = []; most = most / 16; are_all = false };
+    asked = 0;
+    hits = 0;
+    dropped = 0;
+  }
+
   -- what gave an answer under this URL is now the last used
   abbrev pub used_by : Answer T → (url : List ℕ) → KeptSeen T → KeptSeen T
   used_by (Known value) url kept = record kept { values = used url kept.values }
@@ -78,13 +86,9 @@ module _ {T : Type 0} where
   abbrev pub own_used : (now : ℕ) → KeptSeen T → (url : List ℕ) → KeptSeen T
   own_used now kept url = used_by (own_answer now kept url) url kept
 
-  -- what gave the answer for a URL is now the last used
-  abbrev pub answer_used : (now : ℕ) → KeptSeen T → (url : List ℕ) → KeptSeen T
-  answer_used now kept url = own_used now kept (if is_wanted (own_answer now kept url) then without_query url else url)
-
   -- a look-up is counted, and what gave the answer is now the last used
   abbrev pub asked_for : (now : ℕ) → KeptSeen T → (url : List ℕ) → KeptSeen T
-  asked_for now kept url = record (answer_used now kept url) {
+  asked_for now kept url = record (own_used now kept (key_of kept.own url)) {
     asked = more kept.asked 1;
     hits = if is_wanted (answer now kept url) then kept.hits else more kept.hits 1;
   }
@@ -96,6 +100,7 @@ module _ {T : Type 0} where
       record kept {
         values = kept_within kept.most all;
         nones = without url kept.nones;
+        own = own_with url kept.own;
         dropped = more kept.dropped (length all - length (kept_within kept.most all));
       }
 
@@ -106,6 +111,7 @@ module _ {T : Type 0} where
       record kept {
         values = without url kept.values;
         nones = kept_within (kept.most / 16) all;
+        own = own_with url kept.own;
         dropped = more kept.dropped (length all - length (kept_within (kept.most / 16) all));
       }
 
@@ -119,10 +125,13 @@ module _ {T : Type 0} where
     values = inside.values.entries;
     nones = inside.nones.entries;
     most = inside.values.most;
+    own = inside.own;
     asked = inside.asked;
     hits = inside.hits;
     dropped = inside.dropped;
   }
 
-  abbrev pub IsKept : Inside T → Type 0
-  IsKept inside = inside.nones.most ≡ inside.values.most / 16
+  -- each bound is part of that of the values
+  pub record IsKept (inside : Inside T) : Type 0 where
+    pub nones : inside.nones.most ≡ inside.values.most / 16
+    pub own : inside.own.most ≡ inside.values.most / 16

@@ -1,4 +1,6 @@
 pub mod InOrder
 pub mod Bounded
+pub mod OwnUrls
 pub mod Kept
+pub mod Runs
 pub mod Private

@@ -16,6 +16,6 @@ pub enum Answer<V> {
     Known(V),
     /// That it has none, for this.
     NoneKnown(NoValue),
-    /// Nothing: its value is to be asked for, under the URL without its query and its fragment.
+    /// Nothing: its value is to be put, under the URL's key.
     Wanted,
 }

@@ -1,5 +1,5 @@
 //! Values under texts within a bound.
-ghost use Rattle.std.specs.Prelude.{◌≡◌, ◌∷◌, ◌++◌, ◌+◌, ◌-◌, [], drop, is_some, length, option_copied, take, IfErr, IfOk, OnErr, OnOk, true};
+ghost use Rattle.std.specs.Prelude.{◌≡◌, ◌∷◌, ◌++◌, ◌+◌, ◌-◌, [], drop, is_some, length, nat_le, option_copied, take, IfErr, IfOk, OnErr, OnOk, true};
 ghost use Rattle.std.specs.Option.{option_map_or};
 ghost use Rattle.smap_by_text.specs.ByText.{value_under};
 ghost use Rattle.smap_kept.specs.InOrder.{used, without};
@@ -70,6 +70,14 @@ impl<V: Drop> Bounded<V> {
             Some(one) => Some(&one.value),
             None => None,
         }
+    }
+
+    /// Whether there is room for a value of so many bytes beside all others, under a text that has none.
+    pub(crate) fn has_room(&self, text: &[u8], bytes: u64) -> bool
+        ensures { result ≡ nat_le
+            (count_with (length text.now) bytes + bytes_of self.now.entries) self.now.most }
+    {
+        count_with(text.len(), bytes) <= self.most.saturating_sub(self.bytes)
     }
 
     /// Puts what is under a text first, and says whether there is something.

@@ -1,11 +1,12 @@
 //! What is known of URLs.
 ghost use Rattle.std.specs.Prelude.{◌≡◌, ◌/◌, [], length, option_copied, IfErr, IfOk, OnErr, OnOk, true};
 ghost use Rattle.smap_kept.specs.Bounded.{bytes_of, is_within};
-ghost use Rattle.smap_kept.specs.Kept.{answer, answer_seen, answer_used, asked_for, forgotten, own_answer, own_used, why_none, with_none, with_value};
+ghost use Rattle.smap_kept.specs.Kept.{answer, answer_seen, asked_for, forgotten, kept_at_first, own_answer, own_used, why_none, with_none, with_value};
+ghost use Rattle.smap_kept.specs.OwnUrls.{key_of};
 
 use crate::answer::{Answer, NoValue};
 use crate::bounded::Bounded;
-use smap_locations::without_query;
+use crate::own_urls::OwnUrls;
 use std::alloc::{AllocError, AllocFailed, Global};
 use std::marker::Model;
 
@@ -16,14 +17,21 @@ pub(crate) struct Absence {
     pub(crate) until: Option<u64>,
 }
 
-/// What is known of URLs: the value of each, or why it has none, as it was put last. A value counts for its bytes, those of
-/// its URL, and 128; their sum is within a bound, or one value stands alone. What is known to have none counts for the bytes
-/// of its URL and 128, within a sixteenth of that bound for itself. Where there is no room for one more, what was longest not
-/// asked for is dropped. A look-up compares a URL with as many others as the number of them has binary digits.
+/// What is known of URLs: the value of each, or why it has none, as it was put last. A value counts for its bytes, those
+/// of its URL, and 128; their sum is within a bound, or one value stands alone. What is known to have none counts for the
+/// bytes of its URL and 128, within a sixteenth of that bound for itself. Where there is no room for one more, what was
+/// longest not asked for is dropped.
+///
+/// A URL without query and fragment also answers for those that have them, but for none under which something was put: such
+/// a URL has its own answer, and is wanted again where that is dropped or forgotten. These URLs count for their bytes and
+/// 128 each, within another sixteenth; once they are more, every URL has its own answer.
+///
+/// A look-up compares a URL with as many others as the number of them has binary digits.
 #[derive(Drop)]
 pub struct Kept<T> {
     values: Bounded<T>,
     nones: Bounded<Absence>,
+    own: OwnUrls,
     asked: u64,
     hits: u64,
     dropped: u64,
@@ -42,20 +50,15 @@ impl<T> Model for Kept<T> {
 impl<T: Drop> Kept<T> {
     /// Nothing is known, and a bound in bytes.
     pub fn new(alloc: Global, most: u64) -> Result<Kept<T>, AllocError>
-        ensures { IfOk result (λ kept. kept ≡ record {
-          values = [];
-          nones = [];
-          most = most;
-          asked = 0;
-          hits = 0;
-          dropped = 0;
-        }) }
+        ensures { IfOk result (λ kept. kept ≡ kept_at_first most) }
     {
         let values = Bounded::new(alloc, most)?;
         let nones = Bounded::new(alloc, most / 16)?;
+        let own = OwnUrls::new(alloc, most / 16)?;
         Ok(Kept {
             values,
             nones,
+            own,
             asked: 0,
             hits: 0,
             dropped: 0,
@@ -76,6 +79,14 @@ impl<T: Drop> Kept<T> {
         ensures within { is_within (self.now.most / 16) self.now.nones ≡ true }
     {
         self.nones.bytes()
+    }
+
+    /// For how many bytes count the URLs with a query or a fragment that have their own answers.
+    pub fn own_bytes(&self) -> u64
+        ensures sum { result ≡ bytes_of self.now.own.urls }
+        ensures within { is_within (self.now.most / 16) self.now.own.urls ≡ true }
+    {
+        self.own.bytes()
     }
 
     /// How many values there are.
@@ -127,10 +138,20 @@ impl<T: Drop> Kept<T> {
         ensures kept { OnErr result (self.new ≡ self.old) }
         ensures back { IfErr result (λ failed. failed.value ≡ value) }
     {
-        let dropped = self.values.put(alloc, url, value, bytes)?;
-        self.nones.remove(url);
-        self.dropped = self.dropped.saturating_add(dropped as u64);
-        Ok(())
+        let Ok(added) = self.own.add(alloc, url) else {
+            return Err(AllocFailed { value });
+        };
+        match self.values.put(alloc, url, value, bytes) {
+            Ok(dropped) => {
+                self.nones.remove(url);
+                self.dropped = self.dropped.saturating_add(dropped as u64);
+                Ok(())
+            }
+            Err(failed) => {
+                self.own.take_back(url, added);
+                Err(failed)
+            }
+        }
     }
 
     /// Puts why a URL has no value, in the place of what was known under this very URL. That holds until a time in what the
@@ -146,13 +167,17 @@ impl<T: Drop> Kept<T> {
             (record { value = record { why = why; until = until }; bytes = 0 }) self.old) }
         ensures kept { OnErr result (self.new ≡ self.old) }
     {
+        let added = self.own.add(alloc, url)?;
         match self.nones.put(alloc, url, Absence { why, until }, 0) {
             Ok(dropped) => {
                 self.values.remove(url);
                 self.dropped = self.dropped.saturating_add(dropped as u64);
                 Ok(())
             }
-            Err(_) => Err(AllocError),
+            Err(_) => {
+                self.own.take_back(url, added);
+                Err(AllocError)
+            }
         }
     }
 
@@ -177,24 +202,14 @@ impl<T: Drop> Kept<T> {
         ensures answer { result ≡ answer_seen (λ _. tt) (answer now self.old url.now) }
         ensures used { self.new ≡ asked_for now self.old url.now }
     {
-        let answer = self.use_for(url, now);
+        let key = self.own.key_for(url);
+        let answer = self.use_own(key, now);
         self.asked = self.asked.saturating_add(1);
         if let Answer::Wanted = answer {
             return answer;
         }
         self.hits = self.hits.saturating_add(1);
         answer
-    }
-
-    // Puts first what gives the answer for a URL.
-    fn use_for(&mut self, url: &[u8], now: u64) -> Answer<()>
-        ensures answer { result ≡ answer_seen (λ _. tt) (answer now self.old url.now) }
-        ensures used { self.new ≡ answer_used now self.old url.now }
-    {
-        match self.use_own(url, now) {
-            Answer::Wanted => self.use_own(without_query(url), now),
-            known => known,
-        }
     }
 
     // Puts first what is known under this very URL.
@@ -214,19 +229,23 @@ impl<T: Drop> Kept<T> {
         }
     }
 
-    /// What is known of a URL: what was put under it, or else under it without its query and its fragment. The call changes
-    /// nothing, and counts nothing.
+    /// The URL under which is what is known of a URL, and under which it is to be put where it is wanted: the URL itself,
+    /// where something was put under it, or else the URL without its query and its fragment.
+    pub fn key_for<'u>(&self, url: &'u [u8]) -> &'u [u8]
+        ensures { result.now ≡ key_of self.now.own url.now }
+    {
+        self.own.key_for(url)
+    }
+
+    /// What is known of a URL, which is what is known under its key. The call changes nothing, and counts nothing.
     pub fn peek(&self, url: &[u8], now: u64) -> Answer<&T>
         ensures { answer_seen (λ value. value.now) result ≡ answer now self.now url.now }
     {
-        match self.own(url, now) {
-            Answer::Wanted => self.own(without_query(url), now),
-            known => known,
-        }
+        self.own_answer(self.key_for(url), now)
     }
 
     // What is known under this very URL.
-    fn own(&self, url: &[u8], now: u64) -> Answer<&T>
+    fn own_answer(&self, url: &[u8], now: u64) -> Answer<&T>
         ensures { answer_seen (λ value. value.now) result ≡ own_answer now self.now url.now }
     {
         if let Some(value) = self.values.get(url) {

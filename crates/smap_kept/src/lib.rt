@@ -7,12 +7,16 @@
 //! let answer = maps.ask(b"https://example.test/app.js?v=2", now); // Known
 //! let map = maps.peek(b"https://example.test/app.js?v=2", now);
 //! ```
+//!
+//! What is wanted is put under its key, `maps.key_for(url)`.
 #![tactic(auto)]
 
 mod answer;
 mod bounded;
 mod in_order;
 mod kept;
+pub mod laws;
+mod own_urls;
 
 pub use answer::{Answer, NoValue};
 pub use kept::Kept;

@@ -1,5 +1,5 @@
 use Rattle.std.proofs.Common.{◌≡◌, ℕ, List, [], ◌∷◌, ◌++◌, ap, arith, drop, length, take, take-append-drop, sym, ◌∙◌}
-use Rattle.smap_kept.specs.Bounded.{bytes_of, count_with, entry_bytes, fitting}
+use Rattle.smap_kept.specs.Bounded.{bytes_of, count_with, fitting}
 use Rattle.smap_kept.specs.declared.bounded.Counted.{Counted}
 use Rattle.smap_kept.proofs.Fitting.{all_fit, is_step}
 use Rattle.smap_kept.proofs.bounded.drop_past.Goals as goal

@@ -1,5 +1,5 @@
 use Rattle.std.proofs.Common.{◌≡◌, ℕ, ◌-◌, ◌≤◌, true, List, ◌∷◌, ◌++◌, ap, arith, drop, length, subst, sym, take, ◌∙◌}
-use Rattle.smap_kept.specs.Bounded.{bytes_of, count_with, entry_bytes, fitting, is_within}
+use Rattle.smap_kept.specs.Bounded.{bytes_of, entry_bytes, fitting, is_within}
 use Rattle.smap_kept.specs.InOrder.{without}
 use Rattle.smap_kept.specs.declared.bounded.Counted.{Counted}
 use Rattle.smap_kept.proofs.Fitting.{bytes_out, bytes_with, fewer, fits, within_kept}

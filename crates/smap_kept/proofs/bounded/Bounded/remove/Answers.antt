@@ -1,4 +1,4 @@
-use Rattle.std.proofs.Common.{◌≡◌, true, ap, arith, subst, sym, ◌∙◌}
+use Rattle.std.proofs.Common.{◌≡◌, true, ap, arith, subst, sym}
 use Rattle.smap_kept.specs.Bounded.{bytes_of, is_within}
 use Rattle.smap_kept.specs.InOrder.{without}
 use Rattle.smap_kept.proofs.Fitting.{bytes_out, count_out, within_fewer}

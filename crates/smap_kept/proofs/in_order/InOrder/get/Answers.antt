@@ -1,8 +1,6 @@
-use Rattle.std.proofs.Common.{◌≡◌, Some, None, ap, option_copied, option_map, sym, ◌∙◌}
-use Rattle.std.specs.Map.{lookup}
+use Rattle.std.proofs.Common.{ap, option_copied, option_map, sym, ◌∙◌}
 use Rattle.smap_by_text.specs.ByText.{value_under}
-use Rattle.smap_kept.specs.Private.Numbered.{in_order, numbers_of}
-use Rattle.smap_kept.proofs.Numbers.{Found, found, no_value}
+use Rattle.smap_kept.proofs.Numbers.{found, no_value}
 use Rattle.smap_kept.proofs.in_order.InOrder.get.Goals as goal
 
 pub returns-in_err-number : goal.returns-in_err-number

@@ -1,10 +1,10 @@
-use Rattle.std.proofs.Common.{◌≡◌, ℕ, arith, length, ◌++◌, ◌∷◌, [], Some, None, ap, cond, option_copied, sym, subst, ◌∙◌}
-use Rattle.std.specs.Map.{lookup, remove_entry}
+use Rattle.std.proofs.Common.{ℕ, arith, length, ◌++◌, ◌∷◌, [], None, ap, cond, sym, subst, ◌∙◌}
+use Rattle.std.specs.Map.{lookup}
 use Rattle.std.specs.Str.{bytes_eq}
 use Rattle.smap_by_text.specs.ByText.{value_under}
 use Rattle.smap_kept.specs.Private.Numbered.{IsOnce, in_order, numbers_of}
 use Rattle.smap_kept.specs.declared.in_order.Named.{Named}
-use Rattle.smap_kept.proofs.Numbers.{Found, found}
+use Rattle.smap_kept.proofs.Numbers.{found}
 use Rattle.smap_kept.proofs.Moves.{last_number, last_order, last_rest}
 use Rattle.smap_kept.proofs.TextKeys.{after_change, is_under}
 use Rattle.smap_kept.proofs.in_order.InOrder.pop_last.Goals as goal

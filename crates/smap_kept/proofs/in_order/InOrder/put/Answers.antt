@@ -1,8 +1,8 @@
-use Rattle.std.proofs.Common.{◌≡◌, ℕ, ◌+◌, ◌-◌, ◌^◌, ◌<◌, ◌∷◌, List, Some, None, ap, arith, length, nat_eq, option_map, refl, sym, subst, ◌∙◌}
+use Rattle.std.proofs.Common.{◌≡◌, ℕ, ◌∷◌, None, ap, arith, length, nat_eq, option_map, sym, subst, ◌∙◌}
 use Rattle.std.specs.Map.{lookup, remove_entry}
 use Rattle.smap_by_text.specs.ByText.{value_under}
 use Rattle.smap_kept.specs.InOrder.{without}
-use Rattle.smap_kept.specs.Private.Numbered.{IsNumbered, IsOnce, in_order, numbers_of}
+use Rattle.smap_kept.specs.Private.Numbered.{IsOnce, in_order, numbers_of}
 use Rattle.smap_kept.specs.declared.in_order.Named.{Named}
 use Rattle.smap_kept.proofs.Moves.{IsWithout, looked_past, none_out, numbered_with, one_out, order_with, out_again, passed_in_front, put_first, put_wide, seen_again}
 use Rattle.smap_kept.proofs.Numbers.{Found, found, no_value}

@@ -1,4 +1,4 @@
-use Rattle.std.proofs.Common.{◌≡◌, Some, None, ap, arith, length, cond, option_copied, option_map, sym, subst, ◌∙◌}
+use Rattle.std.proofs.Common.{◌≡◌, None, ap, arith, length, cond, option_map, sym, subst, ◌∙◌}
 use Rattle.std.specs.Str.{bytes_eq}
 use Rattle.smap_by_text.specs.ByText.{value_under}
 use Rattle.smap_kept.specs.InOrder.{without}
