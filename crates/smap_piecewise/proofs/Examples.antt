@@ -1,11 +1,15 @@
 -- Worked examples of the definitions: each holds by computing both sides.
-use Rattle.std.proofs.Common.{◌≡◌, ℕ, true, false, List, [], Some, None, refl, codes, arith}
+use Rattle.std.proofs.Common.{◌≡◌, ℕ, true, false, List, [], ◌∷◌, Some, None, refl, codes, arith}
+use Rattle.smap_anywhere.specs.Replaced.{replacement}
 use Rattle.smap_lines.specs.Edited.{edited}
+use Rattle.smap_pairs.specs.Chunks.{cuts_from}
+use Rattle.smap_pairs.specs.Known.{UrlsKnown}
 use Rattle.smap_trace.specs.FrameOf.{frame_of}
 use Rattle.smap_trace.specs.Hiding.{HidingSeen}
 use Rattle.smap_trace.specs.MapsOf.{MapsByUrl, counts_by}
 use Rattle.smap_piecewise.specs.FirstLine.{behind_line, line_at, through_line}
 use Rattle.smap_piecewise.specs.Frames.{FramesNow, IsAllDone, IsBeforeUnknown, next_url, outcome_of, rest_of}
+use Rattle.smap_piecewise.specs.Places.{AnywhereNow, ArePlacesDone, IsBeforePlace, lines_left, nothing_given, places_outcome}
 
 abbrev no_maps : MapsByUrl
 no_maps url = None
@@ -61,3 +65,49 @@ passing : rest_of no_maps hide_none true (codes "end\nat /b.js:1:6")
     ≡ record { text = codes "end\nat /b.js:1:6"; lines = 1; frames = 1; mapped = 0; hidden = 0 }
 unfolding frame_of edited counts_by
 passing = refl
+
+-- ---- places
+
+-- what stands before a place is written, whose chunk is begun
+abbrev before_place : AnywhereNow
+before_place = record {
+  left = codes "at /u:1:2 x";
+  chunk = 11;
+  from = 3;
+  waiting = record { start = 3; url_end = 5; end = 9; line = 1; column = 2; is_halved = false } ∷ [];
+  wanted = Some (codes "/u");
+  is_broken = false;
+  is_open = false;
+  is_ended = true;
+  output = codes "at ";
+  counts = record { lines = 0; frames = 0; mapped = 0; hidden = 0 };
+}
+
+-- what map its URL has is wanted in the middle of the line, since nothing is known
+place_is_wanted : IsBeforePlace (λ url. None) before_place
+place_is_wanted = record { url = codes "/u"; next = refl; wanted = refl; unknown = refl; here = refl }
+
+-- what it comes to over no maps, whichever URLs are known later
+place_comes_to : (urls : UrlsKnown) → places_outcome urls no_maps before_place []
+    ≡ record { text = codes "at /u:1:2 x"; lines = 1; frames = 1; mapped = 0; hidden = 0 }
+unfolding cuts_from replacement
+place_comes_to urls = refl
+
+-- the rest of a line that was counted, and the lines behind it
+lines_behind : lines_left true (codes "end\nb\nc") ≡ 2
+lines_behind = refl
+
+-- a line is not yet a chunk where it may go on, as to `/u:1:62`
+abbrev in_open_line : AnywhereNow
+in_open_line = record nothing_given { left = codes "/u:1:6" }
+
+places_are_done : ArePlacesDone in_open_line
+places_are_done = record {
+  none_begun = refl;
+  none_waits = refl;
+  none_wanted = refl;
+  no_end = refl;
+  short = omega arith;
+  none_stays = λ e. absurd (cc);
+  none_ended = λ e. absurd (cc);
+}

@@ -1,6 +1,6 @@
 -- What a rewriting of frames comes to, when it goes on by a line, or by a part of one that is too long.
 use Rattle.std.proofs.Common.{◌≡◌, ◌+◌, ◌<◌, ◌≤◌, ◌&&◌, ◌||◌, ℕ, Bool, true, false, cond, List, [], ◌∷◌, ◌++◌, None, length, take, drop, refl, sym, ap, ◌∙◌, arith}
-use Rattle.std.proofs.Common.{add-zero, zero-add, append_assoc, append-nil, drop_of_length-le, length-append, length-drop, length-take-le}
+use Rattle.std.proofs.Common.{add-zero, append_assoc, append-nil, drop_of_length-le, length-append, length-drop, length-take-le}
 use Rattle.std.specs.Prelude.{is_some, not}
 use Rattle.std.proofs.lemmas.Bool.{cond-false, cond_both}
 use Rattle.std.proofs.lemmas.List.{append_cancel_right, take-append-drop}
@@ -23,7 +23,7 @@ use Rattle.smap_piecewise.specs.Private.PutLine.{IsLinePut}
 use Rattle.smap_piecewise.specs.declared.given.FirstLine.{FirstLine}
 use Rattle.smap_piecewise.specs.declared.put_line.LineKind.{LineKind}
 use Rattle.smap_piecewise.proofs.LineLaws.{behind_ended, behind_open, first_of, line_ended, line_open, lines_first_of, through_ended, through_is, through_open}
-use Rattle.smap_piecewise.proofs.OutcomeLaws.{both_assoc, moved, of_lines, of_next, of_one, texts_alone}
+use Rattle.smap_piecewise.proofs.OutcomeLaws.{both_assoc, both_zero, moved, of_lines, of_next, of_one, texts_alone, zero_both}
 
 -- ---- bytes that begin with a line
 
@@ -294,24 +294,6 @@ goes_twice known old mid new first second = record {
 }
 
 -- ---- the beginning and the end
-
-zero_both : (x : Outcome) → both (text_alone []) x ≡ x
-zero_both x = λ i. record {
-  text = x.text;
-  lines = zero-add x.lines i;
-  frames = zero-add x.frames i;
-  mapped = zero-add x.mapped i;
-  hidden = zero-add x.hidden i;
-}
-
-both_zero : (x : Outcome) → both x (text_alone []) ≡ x
-both_zero x = λ i. record {
-  text = append-nil x.text i;
-  lines = add-zero x.lines i;
-  frames = add-zero x.frames i;
-  mapped = add-zero x.mapped i;
-  hidden = add-zero x.hidden i;
-}
 
 pub begins_whole : (maps : MapsByUrl) (hide : HidingSeen) (text : List ℕ) → outcome_of maps (frames_start hide) text ≡ of_text maps hide text
 begins_whole maps hide text = zero_both (of_text maps hide text)

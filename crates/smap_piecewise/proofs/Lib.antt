@@ -6,3 +6,8 @@ pub mod OutcomeLaws
 pub mod FramesLaws
 pub mod PutLaws
 pub mod StepLaws
+pub mod KeptLaws
+pub mod PlacePartsLaws
+pub mod ChunkLinesLaws
+pub mod PlacesLaws
+pub mod PlaceStepLaws

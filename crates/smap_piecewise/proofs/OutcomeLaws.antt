@@ -1,5 +1,5 @@
 -- What lines come to, one after another.
-use Rattle.std.proofs.Common.{◌≡◌, ◌+◌, ℕ, Bool, true, false, cond, List, ◌∷◌, ◌++◌, length, sym, ap, ◌∙◌, arith, append_assoc}
+use Rattle.std.proofs.Common.{◌≡◌, ◌+◌, ℕ, Bool, true, false, cond, List, [], ◌∷◌, ◌++◌, length, sym, ap, ◌∙◌, arith, add-zero, append_assoc, append-nil, zero-add}
 use Rattle.std.specs.List.{filter, flat_map}
 use Rattle.smap_lines.specs.Edited.{edited_line}
 use Rattle.smap_lines.specs.Lines.{Line}
@@ -14,9 +14,29 @@ both_assoc a b c =
     let hiding : (a.hidden + b.hidden) + c.hidden ≡ a.hidden + (b.hidden + c.hidden) = omega arith in
     λ i. record { text = append_assoc a.text b.text c.text i; lines = lines i; frames = frames i; mapped = mapped i; hidden = hiding i }
 
-one_more : {A : Type 0} (t : Bool) (x : A) (xs : List A) → length (cond t (x ∷ xs) xs) ≡ cond t 1 0 + length xs
+-- one more, where it passes a test
+pub one_more : {A : Type 0} (t : Bool) (x : A) (xs : List A) → length (cond t (x ∷ xs) xs) ≡ cond t 1 0 + length xs
 one_more true x xs = omega arith
 one_more false x xs = omega arith
+
+-- nothing before it, and nothing behind it
+pub zero_both : (x : Outcome) → both (text_alone []) x ≡ x
+zero_both x = λ i. record {
+  text = x.text;
+  lines = zero-add x.lines i;
+  frames = zero-add x.frames i;
+  mapped = zero-add x.mapped i;
+  hidden = zero-add x.hidden i;
+}
+
+pub both_zero : (x : Outcome) → both x (text_alone []) ≡ x
+both_zero x = λ i. record {
+  text = append-nil x.text i;
+  lines = add-zero x.lines i;
+  frames = add-zero x.frames i;
+  mapped = add-zero x.mapped i;
+  hidden = add-zero x.hidden i;
+}
 
 -- what becomes of lines, and what they are
 module _ (becomes : Line → List ℕ) (is_frame is_mapped is_hidden : Line → Bool) where

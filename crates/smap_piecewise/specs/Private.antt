@@ -1,4 +1,6 @@
 -- What contracts of private functions alone cite.
 pub mod Given
 pub mod PutLine
+pub mod PutPlace
 pub mod Frames
+pub mod Places

@@ -6,6 +6,7 @@ ghost use Rattle.smap_piecewise.specs.Frames.{GoesOn, StopsAt, frames_start, nex
 ghost use Rattle.smap_piecewise.specs.Rewriting.{with_bytes};
 ghost use Rattle.smap_piecewise.specs.declared.stop.GiveFault.TheVariants.{TooMuch};
 
+use crate::bound::Bound;
 use crate::frames::Frames;
 use crate::given::Given;
 use crate::known::KnownMaps;
@@ -29,8 +30,7 @@ pub struct FrameOptions {
 #[derive(Drop)]
 pub struct FrameRewriting {
     frames: Frames,
-    most_bytes: u64,
-    taken: u64,
+    bound: Bound,
 }
 
 impl Model for FrameRewriting {
@@ -42,12 +42,12 @@ impl Model for FrameRewriting {
 
     ghost view = { λ rewriting. record {
       frames = frames_seen rewriting.frames;
-      most_bytes = rewriting.most_bytes;
-      taken = rewriting.taken;
+      most_bytes = rewriting.bound.most_bytes;
+      taken = rewriting.bound.taken;
     } };
 
-    ghost invariant = { λ rewriting. IsWithin rewriting.taken (frames_seen rewriting.frames)
-        × (rewriting.taken ≤ rewriting.most_bytes) × (rewriting.most_bytes < 2 ^ 63) };
+    ghost invariant = { λ rewriting. IsWithin rewriting.bound.taken (frames_seen rewriting.frames)
+        × (rewriting.bound.taken ≤ rewriting.bound.most_bytes) × (rewriting.bound.most_bytes < 2 ^ 63) };
 }
 
 impl FrameRewriting {
@@ -78,8 +78,10 @@ impl FrameRewriting {
                     hidden: 0,
                 },
             },
-            most_bytes: options.most_bytes,
-            taken: 0,
+            bound: Bound {
+                most_bytes: options.most_bytes,
+                taken: 0,
+            },
         }
     }
 
@@ -95,14 +97,7 @@ impl FrameRewriting {
         ensures many { IfErr result (λ fault.
             (fault ≡ TooMuch) ↔ (self.old.most_bytes < self.old.taken + length bytes.now)) }
     {
-        if bytes.len() as u64 > self.most_bytes - self.taken {
-            return Err(GiveFault::TooMuch);
-        }
-        if self.frames.given.push(bytes).is_err() {
-            return Err(GiveFault::Memory);
-        }
-        self.taken += bytes.len() as u64;
-        Ok(())
+        self.bound.take(&mut self.frames.given, bytes)
     }
 
     /// Tells it that the text ends with the bytes that were given.
@@ -129,6 +124,7 @@ impl FrameRewriting {
         ensures goes { GoesOn (K.known maps.old) self.old.frames self.new.frames }
         ensures stops { IfOk result (StopsAt (K.known maps.old) self.new.frames) }
         ensures known { K.known maps.new ≡ K.known maps.old }
+        ensures still { K.still maps.new ≡ K.still maps.old }
         ensures same_most { self.new.most_bytes ≡ self.old.most_bytes }
         ensures same_taken { self.new.taken ≡ self.old.taken }
     {

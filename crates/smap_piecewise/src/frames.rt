@@ -33,6 +33,7 @@ impl Frames {
     pub fn run<K: KnownMaps>(&mut self, alloc: Global, maps: &mut K) -> Result<Stop, AllocError>
         requires { IsWithin (2 ^ 64 - 1) (frames_seen self.old) }
         ensures same { K.known maps.new ≡ K.known maps.old }
+        ensures still { K.still maps.new ≡ K.still maps.old }
         ensures goes { Steps (K.known maps.old) self.old self.new }
         ensures stops { IfOk result (StopsAt (K.known maps.old) (frames_seen self.new)) }
     {
@@ -59,6 +60,7 @@ impl Frames {
     ) -> Result<Option<Stop>, AllocError>
         requires { IsWithin (2 ^ 64 - 1) (frames_seen self.old) }
         ensures same { K.known maps.new ≡ K.known maps.old }
+        ensures still { K.still maps.new ≡ K.still maps.old }
         ensures goes { Steps (K.known maps.old) self.old self.new }
         ensures stops { IfOk result (λ stop. MatchOption stop
             (length self.new.given < length self.old.given)
@@ -109,6 +111,7 @@ impl Frames {
         requires decided { (first.is_ended || self.old.is_ended) ≡ true }
         requires room { IsWithin (2 ^ 64 - 1) (frames_seen self.old) }
         ensures same { K.known maps.new ≡ K.known maps.old }
+        ensures still { K.still maps.new ≡ K.still maps.old }
         ensures goes { Steps (K.known maps.old) self.old self.new }
         ensures stops { IfOk result (λ stop. MatchOption stop
             (length self.new.given < length self.old.given)

@@ -37,6 +37,7 @@ pub fn put_line<K: KnownMaps>(
     output: &mut Vec<u8>,
 ) -> Result<Option<LineKind>, AllocError>
     ensures same { K.known maps.new ≡ K.known maps.old }
+    ensures still { K.still maps.new ≡ K.still maps.old }
     ensures put { IfOk result (λ kind. MatchOption kind
         (IsUnknown (K.known maps.old) (frame_of line.now) output.old.items output.new.items)
         (IsLinePut (K.known maps.old) (hiding_seen hiding.now)

@@ -16,8 +16,8 @@ const TWO: &[u8] = b"at /u:3:14, /x /u:5:9";
 
 const MAP: &str = r#"{"version":3,"sources":["a.ts"],"mappings":"AAAA,CAAC"}"#;
 
-// A table of a map under two URLs, one of which ends in the other.
-fn table_of_two(alloc: Global) -> Result<Table, Fail> {
+/// A table of a map under two URLs, one of which ends in the other.
+pub fn table_of_two(alloc: Global) -> Result<Table, Fail> {
     let mut table = Table::new(alloc);
     for url in ["/u", "/x /u"] {
         let map = MapFile::read(alloc, MAP.as_bytes(), None, 64)?;

@@ -6,6 +6,7 @@ pub loop-stop-init : goal.loop-stop-init
 loop-stop-init g c = record {
   steps = steps_seen (g.K.KnownMaps.known c.args.maps.now) c.args.self.now c.args.self.now refl;
   known = refl;
+  still = refl;
   room = c.requires;
 }
 
@@ -24,5 +25,12 @@ loop-stop-preserved g c = record {
   steps = steps_twice (g.K.KnownMaps.known c.args.maps.now) c.args.self.now c.loop-stop.self c.step.new.self c.loop-stop.invariant.steps
       (rw c.loop-stop.invariant.known at c.step.ensures.goes);
   known = c.step.ensures.same ∙ c.loop-stop.invariant.known;
+  still = c.step.ensures.still ∙ c.loop-stop.invariant.still;
   room = c.step.ensures.goes.within (2 ^ 64 - 1) c.loop-stop.invariant.room;
 }
+
+pub returns-in_err-stop-clause-still : goal.returns-in_err-stop-clause-still
+returns-in_err-stop-clause-still g c = c.step.ensures.still ∙ c.loop-stop.invariant.still
+
+pub returns-in-Some-clause-still : goal.returns-in-Some-clause-still
+returns-in-Some-clause-still g c = c.step.ensures.still ∙ c.loop-stop.invariant.still

@@ -6,6 +6,7 @@ abbrev pub invariant-loop-stop : goal.invariant-loop-stop
 invariant-loop-stop g l = record {
   steps : Steps (g.K.KnownMaps.known l.initial.maps) l.initial.self l.self;
   known : g.K.KnownMaps.known l.maps ≡ g.K.KnownMaps.known l.initial.maps;
+  still : g.K.KnownMaps.still l.maps ≡ g.K.KnownMaps.still l.initial.maps;
   room : IsWithin (2 ^ 64 - 1) (frames_seen l.self);
 }
 

@@ -1,0 +1,66 @@
+use Rattle.std.proofs.Common.{◌-◌, ◌^◌, refl, ◌∙◌}
+use Rattle.smap_piecewise.proofs.PlaceStepLaws.{if_true, sound_wanted, step_wanted, steps_on}
+use Rattle.smap_piecewise.proofs.places.Places.go_on.Goals as goal
+
+pub loop-alloc-init : goal.loop-alloc-init
+loop-alloc-init g c = record {
+  steps = step_wanted (g.U.KnownUrls.known c.args.urls.now) (g.K.KnownMaps.known c.args.maps.now) c.args.self.now _ c.requires.sound refl refl refl;
+  sound = sound_wanted c.args.self.now _ c.requires.sound refl refl refl;
+  known = refl;
+  still = refl;
+  room = record { lines = c.requires.room.lines; frames = c.requires.room.frames; mapped = c.requires.room.mapped };
+  unwanted = refl;
+}
+
+pub returns-then-not-goes_on-clause-goes : goal.returns-then-not-goes_on-clause-goes
+returns-then-not-goes_on-clause-goes g c =
+    steps_on (g.U.KnownUrls.known c.args.urls.now) (g.K.KnownMaps.known c.args.maps.now) c.args.self.now c.loop-alloc.self c.goes_on.new.self
+    c.loop-alloc.invariant.steps (c.goes_on.ensures.goes (g.K.KnownMaps.known c.args.maps.now))
+
+pub finish-requires-clause-sound : goal.finish-requires-clause-sound
+finish-requires-clause-sound g c = (c.goes_on.ensures.goes (g.K.KnownMaps.known c.args.maps.now)).sound
+
+pub finish-requires-clause-room : goal.finish-requires-clause-room
+finish-requires-clause-room g c = (c.goes_on.ensures.goes (g.K.KnownMaps.known c.args.maps.now)).within (2 ^ 64 - 1) c.loop-alloc.invariant.room
+
+pub returns-in_err-finish-clause-goes : goal.returns-in_err-finish-clause-goes
+returns-in_err-finish-clause-goes g c =
+    let urls = g.U.KnownUrls.known c.args.urls.now in
+    let known = g.K.KnownMaps.known c.args.maps.now in
+    steps_on urls known c.args.self.now c.goes_on.new.self c.finish.new.self
+    (steps_on urls known c.args.self.now c.loop-alloc.self c.goes_on.new.self c.loop-alloc.invariant.steps (c.goes_on.ensures.goes known))
+    (rw c.loop-alloc.invariant.known at (c.in_err-finish.ensures.goes urls))
+
+pub returns-then-not-branch-clause-goes : goal.returns-then-not-branch-clause-goes
+returns-then-not-branch-clause-goes g c =
+    let urls = g.U.KnownUrls.known c.args.urls.now in
+    let known = g.K.KnownMaps.known c.args.maps.now in
+    steps_on urls known c.args.self.now c.goes_on.new.self c.finish.new.self
+    (steps_on urls known c.args.self.now c.loop-alloc.self c.goes_on.new.self c.loop-alloc.invariant.steps (c.goes_on.ensures.goes known))
+    (rw c.loop-alloc.invariant.known at (c.finish.ensures.goes urls))
+
+pub loop-alloc-preserved : goal.loop-alloc-preserved
+loop-alloc-preserved g c =
+    let urls = g.U.KnownUrls.known c.args.urls.now in
+    let known = g.K.KnownMaps.known c.args.maps.now in
+    let begins = c.goes_on.ensures.goes known in
+    let ends = c.finish.ensures.goes urls in
+    record {
+      steps = steps_on urls known c.args.self.now c.goes_on.new.self c.finish.new.self
+          (steps_on urls known c.args.self.now c.loop-alloc.self c.goes_on.new.self c.loop-alloc.invariant.steps (c.goes_on.ensures.goes known))
+          (rw c.loop-alloc.invariant.known at (c.finish.ensures.goes urls));
+      sound = ends.sound;
+      known = c.finish.ensures.same ∙ c.loop-alloc.invariant.known;
+      still = c.finish.ensures.still ∙ c.loop-alloc.invariant.still;
+      room = ends.within (2 ^ 64 - 1) (begins.within (2 ^ 64 - 1) c.loop-alloc.invariant.room);
+      unwanted = (if_true _ _ c.in_ok-finish.field-0 c.if-not-branch.false c.in_ok-finish.ensures.ends).1;
+    }
+
+pub returns-then-not-goes_on-clause-still : goal.returns-then-not-goes_on-clause-still
+returns-then-not-goes_on-clause-still g c = c.loop-alloc.invariant.still
+
+pub returns-in_err-finish-clause-still : goal.returns-in_err-finish-clause-still
+returns-in_err-finish-clause-still g c = c.finish.ensures.still ∙ c.loop-alloc.invariant.still
+
+pub returns-then-not-branch-clause-still : goal.returns-then-not-branch-clause-still
+returns-then-not-branch-clause-still g c = c.finish.ensures.still ∙ c.loop-alloc.invariant.still

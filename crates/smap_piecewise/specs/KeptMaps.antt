@@ -1,0 +1,36 @@
+-- The maps that are kept of URLs (this project's own).
+use Rattle.std.specs.Prelude.{ℕ, List, [], Option, None, Some}
+use Rattle.smap_by_text.specs.ByText.{value_under}
+use Rattle.smap_kept.specs.Kept.{KeptSeen, answer}
+use Rattle.smap_kept.specs.declared.answer.Answer.{Answer}
+use Rattle.smap_kept.specs.declared.answer.Answer.TheVariants.{Known, NoneKnown, Wanted}
+use Rattle.smap_kept.specs.declared.bounded.Counted.{Counted}
+use Rattle.smap_kept.specs.declared.kept.Absence.{Absence}
+use Rattle.smap_record.specs.MapFile.{Map}
+use Rattle.smap_record.specs.Record.{MapRecord}
+
+-- ---- what is known
+
+abbrev pub stated_by : Answer Map → Option (Option MapRecord)
+stated_by (Known map) = Some (Some map.stated)
+stated_by (NoneKnown why) = Some None
+stated_by Wanted = None
+
+-- of each URL what its map states, or that it has none, as it is kept at a time
+abbrev pub known_in : (now : ℕ) → KeptSeen Map → (url : List ℕ) → Option (Option MapRecord)
+known_in now kept url = stated_by (answer now kept url)
+
+-- ---- what asking leaves as it is
+
+-- what is kept under each URL, and all else but the order of use and the look-ups that were counted
+pub record Holding (T : Type 0) : Type 0 where
+  pub values : (url : List ℕ) → Option (Counted T)
+  pub nones : (url : List ℕ) → Option (Counted Absence)
+  pub others : KeptSeen T
+
+abbrev pub holding_of : {T : Type 0} → KeptSeen T → Holding T
+holding_of kept = record {
+  values = λ url. value_under url kept.values;
+  nones = λ url. value_under url kept.nones;
+  others = record kept { values = []; nones = []; asked = 0; hits = 0 };
+}
