@@ -3,10 +3,10 @@
  * Lines, columns, sources, names, sections and bytes count from 0, columns in UTF-16 code units. Texts are UTF-8, as a
  * pointer and a length, without a byte 0 at the end.
  *
- * A handle holds a map, a table, inner maps, originals, a finder of URLs or bytes, or is empty. One set to {0}, or in C++ to {},
- * is empty. A call that fills a handle wants it empty: what it held before is not freed. A call that takes one from a handle wants it full, unless it says
- * so. The pointer in a handle does not show whether it is empty: after it was freed, or a call took from it, the old one
- * stays there.
+ * A handle holds a map, a table, a store, a rewriting, inner maps, originals, a finder of URLs or bytes, or is empty. One
+ * set to {0}, or in C++ to {}, is empty. A call that fills a handle wants it empty: what it held before is not freed. A call
+ * that takes one from a handle wants it full, unless it says so. The pointer in a handle does not show whether it is empty:
+ * after it was freed, or a call took from it, the old one stays there.
  *
  * Calls may run at once where no handle is given to two of them, not even one that is `const` in both. A handle may go to another
  * thread by what orders the two: a lock, or the start or the end of a thread. Threads that ask one map take a handle each by
@@ -16,7 +16,7 @@
  * places. Set what a call writes to before: to {0} or {}, or to SMAP_TEXT and SMAP_SOURCE.
  *
  * A call returns 0 where it did what it was asked, 1 where what it was given is refused or there is nothing of that
- * number, and 3 where it is out of memory.
+ * number, 2 where a store does not know what map a URL has, and is to be given it, and 3 where it is out of memory.
  * After 1 and 3 handles are as they were, save where a call says more. A call writes what it answers where it returns 0, and
  * why it refuses where it returns 1. After another status those values say nothing.
  *
@@ -36,15 +36,19 @@ extern "C" {
 
 #define SMAP_DONE 0
 #define SMAP_REFUSED 1
+#define SMAP_WANTED 2
 #define SMAP_NO_MEMORY 3
 
-/* Handles, freed by smap_map_free, smap_table_free, smap_inners_free, smap_originals_free, smap_url_finder_free and smap_bytes_free. */
+/* Handles, freed by smap_map_free, smap_table_free, smap_store_free, smap_rewriting_free, smap_inners_free,
+ * smap_originals_free, smap_url_finder_free and smap_bytes_free. */
 typedef struct smap_map { void *at; } smap_map;
 typedef struct smap_table { void *at; } smap_table;
 typedef struct smap_inners { void *at; } smap_inners;
 typedef struct smap_originals { void *at; } smap_originals;
 typedef struct smap_url_finder { void *at; } smap_url_finder;
 typedef struct smap_bytes { void *at; } smap_bytes;
+typedef struct smap_store { void *at; } smap_store;
+typedef struct smap_rewriting { void *at; } smap_rewriting;
 
 /* A text that is lent. It stays until the next call with the handle that lent it in which that is not `const`. */
 typedef struct smap_text { const uint8_t *bytes; size_t length; } smap_text;
@@ -161,6 +165,19 @@ typedef struct smap_trace_count { uint64_t lines, frames, mapped, hidden; } smap
 /* Why a text is not rewritten: it has too many bytes (3, X3); more bytes would come out than are taken (5, X5), and `lines` is how
  * many whole lines of them fit; or places are asked for anywhere and a map is under `*` alone (0). */
 typedef struct smap_rewrite_refusal { uint32_t number; uint64_t lines; } smap_rewrite_refusal;
+
+/* Why a URL has no map: there is none, or what should give it failed. */
+#define SMAP_MISSING 0
+#define SMAP_FAILED 1
+
+/* How much a store holds: for how many bytes its maps count, and how many they are; the same of the URLs that are known to
+ * have none; how many look-ups were counted, how many of these were answered, and how much was dropped because there was no
+ * room. */
+typedef struct smap_store_counts { uint64_t bytes, count, none_bytes, none_count, asked, hits, dropped; } smap_store_counts;
+
+/* How a text is rewritten piece by piece: with `hide_ignored` as in smap_rewrite_options, and how many bytes it has at most,
+ * up to 9,223,372,036,854,775,807. */
+typedef struct smap_rewriting_options { bool hide_ignored; uint64_t most; } smap_rewriting_options;
 
 /* Where the URL of a frame stands in a trace, how many bytes it has, and where the line after the frame begins, or the
  * trace ends. */
@@ -404,6 +421,83 @@ uint32_t smap_next_place_url(smap_url_finder *finder, const uint8_t *text, size_
 
 /* Frees the finder, and leaves its handle empty. */
 void smap_url_finder_free(smap_url_finder *finder);
+
+/* Makes a store of maps, which knows of no URL. It asks for nothing: it is given what it knows. Its maps count for at most
+ * `most` bytes, or are one alone, each with those of its URL and 128; what was longest not asked for is dropped for what is
+ * put. URLs without a map count for theirs and 128, within a sixteenth of `most` for themselves. */
+uint32_t smap_store_new(uint64_t most, smap_store *store);
+
+/* Puts the map of this very URL, in the place of what was known under it; it counts for `bytes`, as smap_map_size has them.
+ * The store holds the map with the handle, which stays as it is. */
+uint32_t smap_store_put(smap_store *store, const uint8_t *url, size_t url_length, smap_map *map, uint64_t bytes);
+
+/* Puts why this very URL has no map, in the place of what was known under it: SMAP_MISSING or SMAP_FAILED, and 1 is returned
+ * for another. With `has_until` that holds before the time `until`, in whatever the caller counts `now` in, and else for
+ * ever. */
+uint32_t smap_store_put_none(smap_store *store, const uint8_t *url, size_t url_length, uint32_t why, bool has_until,
+                             uint64_t until);
+
+/* Forgets what is known under this very URL, or which URLs have no map. Returns 0. */
+uint32_t smap_store_forget(smap_store *store, const uint8_t *url, size_t url_length);
+uint32_t smap_store_forget_none(smap_store *store);
+
+/* Gives how much the store holds, and what was asked of it. Returns 0. */
+uint32_t smap_store_count(smap_store *store, smap_store_counts *counts);
+
+/* Lends the URL under which the store has what it knows of a URL: the URL itself, where something was put under it, and else
+ * without its query and its fragment. It stays as long as the URL. Returns 0. */
+uint32_t smap_store_key(smap_store *store, const uint8_t *url, size_t url_length, smap_text *key);
+
+/* Asks what is known of a URL. Returns 0 where it has a map, 1 where it has none, for which `why` is written, and 2 where
+ * that is not known: it is to be put under the URL that smap_store_key lends. The look-up is counted, and what answers is
+ * dropped after all others. */
+uint32_t smap_store_ask(smap_store *store, const uint8_t *url, size_t url_length, uint64_t now, uint32_t *why);
+
+/* Looks a generated position up in the map that smap_store_ask finds, and lends the source that answers and the name of the
+ * mapping, as smap_table_look_up does; with `after` the first mapping on the line at the position or after it answers.
+ * Returns what smap_store_ask returns, and counts nothing: ask first, where what is looked up should stay. */
+uint32_t smap_store_look_up(smap_store *store, const uint8_t *url, size_t url_length, uint64_t now, uint32_t line,
+                            uint32_t column, bool after, smap_found *found, smap_source_text *source, smap_text *name,
+                            uint32_t *why);
+
+/* Asks as smap_store_ask does, and makes the empty handle `map` one of the map, for all other calls. It is freed by itself:
+ * the store may drop the map before. */
+uint32_t smap_store_map(smap_store *store, const uint8_t *url, size_t url_length, uint64_t now, smap_map *map,
+                        uint32_t *why);
+
+/* Frees the store, with those of its maps that nothing else holds, and leaves its handle empty. */
+void smap_store_free(smap_store *store);
+
+/* Makes a rewriting of a trace that is given piece by piece, as smap_rewrite rewrites a whole one. */
+uint32_t smap_rewriting_new(const smap_rewriting_options *options, smap_rewriting *rewriting);
+
+/* Gives it the next bytes of the trace, which are copied. Returns 1 where it would have more than it may, or after
+ * smap_rewriting_end. */
+uint32_t smap_rewriting_give(smap_rewriting *rewriting, const uint8_t *bytes, size_t length);
+
+/* Tells it that the trace ends with the bytes that were given. Returns 0. */
+uint32_t smap_rewriting_end(smap_rewriting *rewriting);
+
+/* Goes on over the maps that the store has, each frame a look-up that is counted. Returns 0 where all is done that can be
+ * decided of the bytes that were given; and 2 before a frame of whose URL the store does not know what map it has:
+ * smap_rewriting_url lends it. Once that is put, the next call goes on from there. Where it returns 3, what stands before a
+ * line is done, and the next call goes on with that. */
+uint32_t smap_rewriting_run(smap_rewriting *rewriting, smap_store *store, uint64_t now);
+
+/* Lends the URL of the next frame, where the next line is one. Returns 1 where it is none. */
+uint32_t smap_rewriting_url(const smap_rewriting *rewriting, smap_text *url);
+
+/* Lends what is written of the trace and was not let go of. Returns 0. */
+uint32_t smap_rewriting_text(const smap_rewriting *rewriting, smap_text *text);
+
+/* Lets go of what is written of the trace. Returns 0. */
+uint32_t smap_rewriting_clear(smap_rewriting *rewriting);
+
+/* Gives what was in the trace as far as it is done. Returns 0. */
+uint32_t smap_rewriting_count(const smap_rewriting *rewriting, smap_trace_count *counts);
+
+/* Frees the rewriting, and leaves its handle empty. */
+void smap_rewriting_free(smap_rewriting *rewriting);
 
 #ifdef __cplusplus
 }

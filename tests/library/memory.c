@@ -130,7 +130,7 @@ static uint32_t all_call(void) {
 static uint32_t new_call(void) { return smap_table_new(&made_table); }
 static uint32_t finder_call(void) { return smap_url_finder_new(&made_finder); }
 static uint32_t add_call(void) { return smap_table_add(&table, url, sizeof url - 1, &made, &why); }
-static uint32_t add_shared_call(void) { return smap_table_add_shared(&table, url, sizeof url - 1, &inner, &why); }
+static uint32_t add_shared_call(void) { return smap_table_add_shared(&table, url, sizeof url - 1, &outer, &why); }
 static uint32_t pattern_call(void) { return smap_table_add(&table, (const uint8_t *)"*a.min.js", 9, &made, &why); }
 static uint32_t twice_call(void) { return smap_table_add(&table, base, sizeof base - 1, &made, &why); }
 static uint32_t rewrite_call(void) { return smap_rewrite(&table, trace, sizeof trace - 1, false, &bytes, &count); }
@@ -346,6 +346,125 @@ static void free_calls(void) {
     if (live != 0) fail("free calls", "leaks");
 }
 
+/* ---- a store, and a text rewritten over it */
+
+static smap_store store, made_store;
+static smap_rewriting rewriting, made_rewriting;
+static const smap_rewriting_options of_any_text = {.most = UINT64_MAX};
+static const uint8_t other_url[] = "https://e.test/b.js";
+
+static uint32_t store_new_call(void) { return smap_store_new(1000000, &made_store); }
+static uint32_t put_call(void) { return smap_store_put(&store, other_url, sizeof other_url - 1, &inner, 5); }
+static uint32_t put_again_call(void) { return smap_store_put(&store, url, sizeof url - 1, &inner, 5); }
+static uint32_t none_call(void) { return smap_store_put_none(&store, other_url, sizeof other_url - 1, SMAP_FAILED, true, 9); }
+static uint32_t none_again_call(void) { return smap_store_put_none(&store, url, sizeof url - 1, SMAP_MISSING, false, 0); }
+static uint32_t own_call(void) { return smap_store_put(&store, (const uint8_t *)"a.js?v", 6, &inner, 5); }
+static uint32_t map_call(void) { return smap_store_map(&store, url, sizeof url - 1, 0, &made, &why); }
+static uint32_t rewriting_new_call(void) { return smap_rewriting_new(&of_any_text, &made_rewriting); }
+static uint32_t give_call(void) { return smap_rewriting_give(&rewriting, trace, sizeof trace - 1); }
+static uint32_t run_call(void) { return smap_rewriting_run(&rewriting, &store, 0); }
+
+static const struct store_call { const char *name; uint32_t (*make)(void); } store_calls[] = {
+    {"smap_store_new", store_new_call},
+    {"smap_store_put", put_call},
+    {"smap_store_put in the place of a map", put_again_call},
+    {"smap_store_put_none", none_call},
+    {"smap_store_put_none in the place of a map", none_again_call},
+    {"smap_store_put under a URL with a query", own_call},
+    {"smap_store_map", map_call},
+    {"smap_rewriting_new", rewriting_new_call},
+    {"smap_rewriting_give", give_call},
+    {"smap_rewriting_run", run_call},
+};
+
+/* What a store holds, and what is written of the text. */
+static void report_store(struct text *into) {
+    smap_store_counts counts = {0};
+    smap_text text = SMAP_TEXT;
+    smap_store_count(&store, &counts);
+    smap_rewriting_text(&rewriting, &text);
+    memcpy(into->bytes, &counts, offsetof(smap_store_counts, asked));
+    memcpy(into->bytes + offsetof(smap_store_counts, asked), text.bytes, text.length);
+    into->length = offsetof(smap_store_counts, asked) + text.length;
+}
+
+/* The call while this growth is refused, and then once more; whether it asked for as many. */
+static bool stored_without(const struct store_call *call, long number) {
+    static const uint8_t missing[] = "https://e.test/none.js";
+    static struct text before, after;
+    if (read_map(&outer, &outer_file) || read_map(&inner, &inner_file)) fail(call->name, "has no maps");
+    if (smap_store_new(1000000, &store) || smap_store_put(&store, url, sizeof url - 1, &outer, 7)) fail(call->name, "has no store");
+    if (smap_store_put_none(&store, missing, sizeof missing - 1, SMAP_MISSING, false, 0)) fail(call->name, "has no none");
+    if (smap_rewriting_new(&of_any_text, &rewriting)) fail(call->name, "has no text");
+    if (call->make == run_call && (give_call() || smap_rewriting_end(&rewriting))) fail(call->name, "is given nothing");
+    made = (smap_map){0};
+    made_store = (smap_store){0};
+    made_rewriting = (smap_rewriting){0};
+    report_store(&before);
+    refused = number;
+    asked = 0;
+    uint32_t status = call->make();
+    refused = -1;
+    bool was_refused = number >= 0 && asked > number;
+    if (status == SMAP_NO_MEMORY) {
+        if (!was_refused) fail(call->name, "is out of memory where none was refused");
+        if (made.at || made_store.at || made_rewriting.at) fail(call->name, "has filled a handle");
+        report_store(&after);
+        if (call->make != run_call && !alike(&before, &after)) fail(call->name, "has changed the store");
+        status = call->make();
+    }
+    if (status != SMAP_DONE) fail(call->name, "has another status");
+    if (call->make == give_call && (smap_rewriting_end(&rewriting) || run_call())) fail(call->name, "does not go on");
+    report_store(number < 0 ? &ample : &now);
+    if (number >= 0 && !alike(&ample, &now)) fail(call->name, "has another answer");
+    if (made.at) smap_map_free(&made);
+    if (made_store.at) smap_store_free(&made_store);
+    if (made_rewriting.at) smap_rewriting_free(&made_rewriting);
+    smap_store_free(&store);
+    smap_rewriting_free(&rewriting);
+    smap_map_free(&outer);
+    smap_map_free(&inner);
+    if (live != 0) fail(call->name, "leaks");
+    return was_refused;
+}
+
+/* The calls over a store that take no memory, while every growth is refused. */
+static void free_store_calls(void) {
+    if (read_map(&outer, &outer_file) || smap_store_new(1000000, &store) || smap_store_put(&store, url, sizeof url - 1, &outer, 7) ||
+        smap_rewriting_new(&of_any_text, &rewriting) || give_call() || run_call() != SMAP_WANTED) fail("calls over a store", "not prepared");
+    smap_store_counts counts = {0};
+    smap_trace_count counted = {0};
+    smap_text text = SMAP_TEXT, name = SMAP_TEXT;
+    smap_found found = {0};
+    smap_source_text source = SMAP_SOURCE;
+    asked = 0;
+    refuses_all = true;
+    uint32_t statuses = smap_store_key(&store, url, sizeof url - 1, &text) | smap_store_ask(&store, url, sizeof url - 1, 0, &why) |
+                        smap_store_look_up(&store, url, sizeof url - 1, 0, 64, 79, false, &found, &source, &name, &why) |
+                        smap_store_count(&store, &counts) | smap_rewriting_url(&rewriting, &text) | smap_rewriting_text(&rewriting, &text) |
+                        smap_rewriting_count(&rewriting, &counted) | smap_rewriting_clear(&rewriting) | smap_rewriting_end(&rewriting) |
+                        smap_store_forget_none(&store) | smap_store_forget(&store, url, sizeof url - 1);
+    smap_store_free(&store);
+    smap_rewriting_free(&rewriting);
+    smap_map_free(&outer);
+    refuses_all = false;
+    if (statuses != SMAP_DONE || asked != 0 || live != 0) fail("calls over a store", "have another status, ask for memory or leak");
+}
+
+static long stores(void) {
+    long growths = 0;
+    for (size_t i = 0; i < sizeof store_calls / sizeof *store_calls; i++) {
+        long number = 0;
+        stored_without(&store_calls[i], -1);
+        while (stored_without(&store_calls[i], number)) number++;
+        if (number == 0) fail(store_calls[i].name, "takes no memory");
+        growths += number;
+        printf("%s: %ld growths\n", store_calls[i].name, number);
+    }
+    free_store_calls();
+    return growths;
+}
+
 int main(int argc, char **argv) {
     if (argc < 3) fail("memory", "OUTER INNER");
     load(argv[1], &outer_file);
@@ -360,6 +479,7 @@ int main(int argc, char **argv) {
         printf("%s: %ld growths\n", calls[i].name, number);
     }
     free_calls();
+    growths += stores();
     printf("memory %ld\n", growths);
     return 0;
 }

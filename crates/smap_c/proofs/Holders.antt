@@ -3,6 +3,8 @@ use Rattle.std.proofs.Common.{refl}
 use Rattle.smap_shared.specs.contracts.shared_map.SharedMap as shared_map
 use Rattle.smap_anywhere.specs.contracts.url_finder.UrlFinder as url_finder
 use Rattle.smap_originals.specs.contracts.originals.Originals as originals_index
+use Rattle.smap_piecewise.specs.contracts.frame_rewriting.FrameRewriting as frame_rewriting
+use Rattle.smap_piecewise.specs.contracts.kept_maps.KeptMaps as kept_maps
 use Rattle.smap_tables.specs.contracts.url_table.UrlTable as url_table
 use Rattle.smap_c.specs.contracts.bytes.Bytes as handed
 use Rattle.smap_c.specs.contracts.inners.Inners as inner_maps
@@ -12,12 +14,16 @@ use Rattle.smap_c.specs.declared.handles.InnersHandle.{InnersHandle}
 use Rattle.smap_c.specs.declared.handles.BytesHandle.{BytesHandle}
 use Rattle.smap_c.specs.declared.handles.OriginalsHandle.{OriginalsHandle}
 use Rattle.smap_c.specs.declared.handles.UrlFinderHandle.{UrlFinderHandle}
+use Rattle.smap_c.specs.declared.handles.StoreHandle.{StoreHandle}
+use Rattle.smap_c.specs.declared.handles.RewritingHandle.{RewritingHandle}
 use Rattle.smap_c.specs.contracts.handles.MapHandle as map_handle
 use Rattle.smap_c.specs.contracts.handles.TableHandle as table_handle
 use Rattle.smap_c.specs.contracts.handles.InnersHandle as inners_handle
 use Rattle.smap_c.specs.contracts.handles.BytesHandle as bytes_handle
 use Rattle.smap_c.specs.contracts.handles.OriginalsHandle as originals_handle
 use Rattle.smap_c.specs.contracts.handles.UrlFinderHandle as url_finder_handle
+use Rattle.smap_c.specs.contracts.handles.StoreHandle as store_handle
+use Rattle.smap_c.specs.contracts.handles.RewritingHandle as rewriting_handle
 use Rattle.smap_c.proofs.Walks.{Kind}
 
 abbrev pub map : Kind
@@ -102,4 +108,32 @@ finder = record {
   at_made = λ p o. refl;
   held_made = λ p o. refl;
   codes = url_finder_handle.the_codes;
+}
+
+abbrev pub store : Kind
+store = record {
+  R = kept_maps.the_row;
+  name = store_handle.the_type.name;
+  D = StoreHandle;
+  at = λ h. h.at;
+  held = λ h. h.held;
+  make = λ p o. record { at = p; held = o };
+  eta = λ h. refl;
+  at_made = λ p o. refl;
+  held_made = λ p o. refl;
+  codes = store_handle.the_codes;
+}
+
+abbrev pub rewriting : Kind
+rewriting = record {
+  R = frame_rewriting.the_row;
+  name = rewriting_handle.the_type.name;
+  D = RewritingHandle;
+  at = λ h. h.at;
+  held = λ h. h.held;
+  make = λ p o. record { at = p; held = o };
+  eta = λ h. refl;
+  at_made = λ p o. refl;
+  held_made = λ p o. refl;
+  codes = rewriting_handle.the_codes;
 }

@@ -9,6 +9,7 @@ pub mod Look
 pub mod Many
 pub mod Mappings
 pub mod Originals
+pub mod Piecewise
 pub mod PlaceUrls
 pub mod Owned
 pub mod Private
@@ -18,6 +19,7 @@ pub mod Refusal
 pub mod Shares
 pub mod Size
 pub mod Steps
+pub mod Store
 pub mod TableLook
 pub mod Tables
 pub mod Report

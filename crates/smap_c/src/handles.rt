@@ -1,4 +1,5 @@
-//! What C holds: handles, each a pointer that owns a map, a table, inner maps, originals, a finder of URLs or bytes.
+//! What C holds: handles, each a pointer that owns a map, a table, a store, a rewriting, inner maps, originals, a finder of
+//! URLs or bytes.
 ghost use Rattle.std.specs.Prelude.{◌≡◌, List, ℕ, Option, Some, IfErr, IfOk};
 ghost use Rattle.std.specs.Coded.{coded_option};
 ghost use Rattle.smap_record.specs.MapFile.{Map};
@@ -6,6 +7,10 @@ ghost use Rattle.smap_anywhere.specs.FoundUrls.{FinderSeen};
 ghost use Rattle.smap_anywhere.specs.contracts.url_finder.UrlFinder as url_finder;
 ghost use Rattle.smap_originals.specs.contracts.originals.Originals as originals_index;
 ghost use Rattle.smap_originals.specs.declared.place.GeneratedPlace.{GeneratedPlace};
+ghost use Rattle.smap_piecewise.specs.Rewriting.{RewritingNow};
+ghost use Rattle.smap_piecewise.specs.contracts.frame_rewriting.FrameRewriting as frame_rewriting;
+ghost use Rattle.smap_piecewise.specs.contracts.kept_maps.KeptMaps as kept_maps;
+ghost use Rattle.smap_piecewise.specs.declared.kept_maps.KeptMaps.{KeptMaps};
 ghost use Rattle.smap_shared.specs.contracts.shared_map.SharedMap as shared_map;
 ghost use Rattle.smap_tables.specs.UrlTable.{UrlTableSeen};
 ghost use Rattle.smap_tables.specs.contracts.url_table.UrlTable as url_table;
@@ -22,6 +27,7 @@ use crate::inners::Inners;
 use crate::loose::Loose;
 use smap_anywhere::UrlFinder;
 use smap_originals::Originals;
+use smap_piecewise::{FrameRewriting, KeptMaps};
 use smap_shared::SharedMap;
 use smap_tables::UrlTable;
 use std::alloc::Global;
@@ -164,5 +170,53 @@ impl UrlFinderHandle {
     {
         let Loose { at, alloc: _ } = loose;
         UrlFinderHandle { at: at as *mut u8 }
+    }
+}
+
+/// A handle of a store of maps, or an empty one.
+#[repr(C)]
+#[derive(Drop)]
+pub struct StoreHandle {
+    at: *mut u8,
+    pub ghost held: { Option KeptMaps } by { coded_option kept_maps.the_row.coded },
+}
+
+impl Model for StoreHandle {
+    ghost also_owns = { λ handle. owns_held kept_maps.the_row handle.at handle.held };
+}
+
+unsafe impl Send for StoreHandle {}
+
+impl StoreHandle {
+    // The handle of this store.
+    fn of(loose: Loose<KeptMaps, Global>) -> StoreHandle
+        ensures { result.held ≡ Some loose.value }
+    {
+        let Loose { at, alloc: _ } = loose;
+        StoreHandle { at: at as *mut u8 }
+    }
+}
+
+/// A handle of a rewriting, or an empty one.
+#[repr(C)]
+#[derive(Drop)]
+pub struct RewritingHandle {
+    at: *mut u8,
+    pub ghost held: { Option RewritingNow } by { coded_option frame_rewriting.the_row.coded },
+}
+
+impl Model for RewritingHandle {
+    ghost also_owns = { λ handle. owns_held frame_rewriting.the_row handle.at handle.held };
+}
+
+unsafe impl Send for RewritingHandle {}
+
+impl RewritingHandle {
+    // The handle of this rewriting.
+    fn of(loose: Loose<FrameRewriting, Global>) -> RewritingHandle
+        ensures { result.held ≡ Some loose.value }
+    {
+        let Loose { at, alloc: _ } = loose;
+        RewritingHandle { at: at as *mut u8 }
     }
 }

@@ -52,7 +52,8 @@ pub extern "C" fn smap_table_look_up<'a>(
     DONE
 }
 
-fn answer_in(alloc: Global, map: &MapFile, line: u32, column: u32, after: bool) -> Answer
+/// What a map answers at a position, in one direction or the other.
+pub(crate) fn answer_in(alloc: Global, map: &MapFile, line: u32, column: u32, after: bool) -> Answer
     ensures { result ≡ answer_in after map.now.stated line column }
 {
     let mut meter = Meter::new(alloc);
@@ -63,8 +64,8 @@ fn answer_in(alloc: Global, map: &MapFile, line: u32, column: u32, after: bool) 
     }
 }
 
-// The source that answers, or one of which there is nothing.
-fn source_of(map: &MapFile, answer: Answer) -> Source<'_>
+/// The source that answers, or one of which there is nothing.
+pub(crate) fn source_of(map: &MapFile, answer: Answer) -> Source<'_>
     ensures { IsSourceOf map.now.stated answer result }
 {
     match answer {
@@ -76,8 +77,8 @@ fn source_of(map: &MapFile, answer: Answer) -> Source<'_>
     }
 }
 
-// The name of the mapping that answers, or no bytes.
-fn name_of(map: &MapFile, answer: Answer) -> &[u8]
+/// The name of the mapping that answers, or no bytes.
+pub(crate) fn name_of(map: &MapFile, answer: Answer) -> &[u8]
     ensures { result.now ≡ text_or_none (name_found map.now.stated answer) }
 {
     match name_in(map, answer) {

@@ -13,6 +13,7 @@ mod place_urls;
 mod places;
 mod shares;
 mod sharing;
+mod store;
 
 use crate::bytes::Bytes;
 use crate::counts::{Counts, smap_counts};

@@ -250,12 +250,7 @@ fn reported(
         Ok(summary) => {
             let status = hand_out(alloc, written, bytes);
             if status == DONE {
-                *counts = TraceCounts {
-                    lines: summary.lines,
-                    frames: summary.frames,
-                    mapped: summary.mapped,
-                    hidden: summary.hidden,
-                };
+                *counts = counted(summary);
             }
             status
         }
@@ -279,4 +274,16 @@ fn line_ends(text: &[u8]) -> u64
     ensures { result ≡ line_ends text.now }
 {
     memchr_iter(b'\n', text).count() as u64
+}
+
+/// What was counted, as C has it.
+pub(crate) fn counted(summary: Summary) -> TraceCounts
+    ensures { counts_seen result ≡ summary_seen summary }
+{
+    TraceCounts {
+        lines: summary.lines,
+        frames: summary.frames,
+        mapped: summary.mapped,
+        hidden: summary.hidden,
+    }
 }

@@ -5,6 +5,7 @@ use std::os::raw::c_void;
 
 pub const SMAP_DONE: u32 = 0;
 pub const SMAP_REFUSED: u32 = 1;
+pub const SMAP_WANTED: u32 = 2;
 pub const SMAP_NO_MEMORY: u32 = 3;
 
 pub const SMAP_BASE_NO_URL: u32 = 0;
@@ -12,6 +13,9 @@ pub const SMAP_BASE_TOO_LONG: u32 = 19;
 
 pub const SMAP_AT_OR_BEFORE: u32 = 0;
 pub const SMAP_AT_OR_AFTER: u32 = 1;
+
+pub const SMAP_MISSING: u32 = 0;
+pub const SMAP_FAILED: u32 = 1;
 
 #[repr(C)]
 pub struct smap_map {
@@ -40,6 +44,16 @@ pub struct smap_url_finder {
 
 #[repr(C)]
 pub struct smap_bytes {
+    pub at: *mut c_void,
+}
+
+#[repr(C)]
+pub struct smap_store {
+    pub at: *mut c_void,
+}
+
+#[repr(C)]
+pub struct smap_rewriting {
     pub at: *mut c_void,
 }
 
@@ -202,6 +216,24 @@ pub struct smap_trace_count {
 pub struct smap_rewrite_refusal {
     pub number: u32,
     pub lines: u64,
+}
+
+#[repr(C)]
+#[derive(Default)]
+pub struct smap_store_counts {
+    pub bytes: u64,
+    pub count: u64,
+    pub none_bytes: u64,
+    pub none_count: u64,
+    pub asked: u64,
+    pub hits: u64,
+    pub dropped: u64,
+}
+
+#[repr(C)]
+pub struct smap_rewriting_options {
+    pub hide_ignored: bool,
+    pub most: u64,
 }
 
 #[repr(C)]
@@ -435,6 +467,83 @@ extern "C" {
         found: *mut smap_place_url,
     ) -> u32;
     pub fn smap_url_finder_free(finder: *mut smap_url_finder);
+    pub fn smap_store_new(most: u64, store: *mut smap_store) -> u32;
+    pub fn smap_store_put(
+        store: *mut smap_store,
+        url: *const u8,
+        url_length: usize,
+        map: *mut smap_map,
+        bytes: u64,
+    ) -> u32;
+    pub fn smap_store_put_none(
+        store: *mut smap_store,
+        url: *const u8,
+        url_length: usize,
+        why: u32,
+        has_until: bool,
+        until: u64,
+    ) -> u32;
+    pub fn smap_store_forget(store: *mut smap_store, url: *const u8, url_length: usize) -> u32;
+    pub fn smap_store_forget_none(store: *mut smap_store) -> u32;
+    pub fn smap_store_count(store: *mut smap_store, counts: *mut smap_store_counts) -> u32;
+    pub fn smap_store_key(
+        store: *mut smap_store,
+        url: *const u8,
+        url_length: usize,
+        key: *mut smap_text,
+    ) -> u32;
+    pub fn smap_store_ask(
+        store: *mut smap_store,
+        url: *const u8,
+        url_length: usize,
+        now: u64,
+        why: *mut u32,
+    ) -> u32;
+    pub fn smap_store_look_up(
+        store: *mut smap_store,
+        url: *const u8,
+        url_length: usize,
+        now: u64,
+        line: u32,
+        column: u32,
+        after: bool,
+        found: *mut smap_found,
+        source: *mut smap_source_text,
+        name: *mut smap_text,
+        why: *mut u32,
+    ) -> u32;
+    pub fn smap_store_map(
+        store: *mut smap_store,
+        url: *const u8,
+        url_length: usize,
+        now: u64,
+        map: *mut smap_map,
+        why: *mut u32,
+    ) -> u32;
+    pub fn smap_store_free(store: *mut smap_store);
+    pub fn smap_rewriting_new(
+        options: *const smap_rewriting_options,
+        rewriting: *mut smap_rewriting,
+    ) -> u32;
+    pub fn smap_rewriting_give(
+        rewriting: *mut smap_rewriting,
+        bytes: *const u8,
+        length: usize,
+    ) -> u32;
+    pub fn smap_rewriting_end(rewriting: *mut smap_rewriting) -> u32;
+    pub fn smap_rewriting_run(
+        rewriting: *mut smap_rewriting,
+        store: *mut smap_store,
+        now: u64,
+    ) -> u32;
+    pub fn smap_rewriting_url(rewriting: *const smap_rewriting, url: *mut smap_text) -> u32;
+    pub fn smap_rewriting_text(rewriting: *const smap_rewriting, text: *mut smap_text) -> u32;
+    pub fn smap_rewriting_clear(rewriting: *mut smap_rewriting) -> u32;
+    pub fn smap_rewriting_count(
+        rewriting: *const smap_rewriting,
+        counts: *mut smap_trace_count,
+    ) -> u32;
+    pub fn smap_rewriting_free(rewriting: *mut smap_rewriting);
 }
 
 #[cfg(test)]

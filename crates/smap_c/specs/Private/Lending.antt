@@ -9,6 +9,10 @@ use Rattle.smap_anywhere.specs.FoundUrls.{FinderSeen}
 use Rattle.smap_anywhere.specs.contracts.url_finder.UrlFinder as url_finder
 use Rattle.smap_originals.specs.contracts.originals.Originals as originals_index
 use Rattle.smap_originals.specs.declared.place.GeneratedPlace.{GeneratedPlace}
+use Rattle.smap_piecewise.specs.Rewriting.{RewritingNow}
+use Rattle.smap_piecewise.specs.contracts.frame_rewriting.FrameRewriting as frame_rewriting
+use Rattle.smap_piecewise.specs.contracts.kept_maps.KeptMaps as kept_maps
+use Rattle.smap_piecewise.specs.declared.kept_maps.KeptMaps.{KeptMaps}
 use Rattle.smap_c.specs.Inners.{Places}
 use Rattle.smap_c.specs.contracts.bytes.Bytes as handed
 use Rattle.smap_c.specs.contracts.inners.Inners as inner_maps
@@ -24,6 +28,10 @@ use Rattle.smap_c.specs.declared.handles.OriginalsHandle.{OriginalsHandle}
 use Rattle.smap_c.specs.contracts.handles.OriginalsHandle as originals_handle
 use Rattle.smap_c.specs.declared.handles.UrlFinderHandle.{UrlFinderHandle}
 use Rattle.smap_c.specs.contracts.handles.UrlFinderHandle as url_finder_handle
+use Rattle.smap_c.specs.declared.handles.StoreHandle.{StoreHandle}
+use Rattle.smap_c.specs.contracts.handles.StoreHandle as store_handle
+use Rattle.smap_c.specs.declared.handles.RewritingHandle.{RewritingHandle}
+use Rattle.smap_c.specs.contracts.handles.RewritingHandle as rewriting_handle
 
 abbrev pub with_map : MapHandle → Map → MapHandle
 with_map handle held = record handle { held = Some held }
@@ -60,3 +68,15 @@ with_url_finder handle held = record handle { held = Some held }
 
 abbrev pub LendsUrlFinder : MutBor UrlFinderHandle → MutBor FinderSeen → Fml
 LendsUrlFinder handle lent = Lends url_finder_handle.the_row url_finder.the_row handle lent (with_url_finder handle.now)
+
+abbrev pub with_store : StoreHandle → KeptMaps → StoreHandle
+with_store handle held = record handle { held = Some held }
+
+abbrev pub LendsStore : MutBor StoreHandle → MutBor KeptMaps → Fml
+LendsStore handle lent = Lends store_handle.the_row kept_maps.the_row handle lent (with_store handle.now)
+
+abbrev pub with_rewriting : RewritingHandle → RewritingNow → RewritingHandle
+with_rewriting handle held = record handle { held = Some held }
+
+abbrev pub LendsRewriting : MutBor RewritingHandle → MutBor RewritingNow → Fml
+LendsRewriting handle lent = Lends rewriting_handle.the_row frame_rewriting.the_row handle lent (with_rewriting handle.now)

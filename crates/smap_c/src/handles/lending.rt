@@ -1,14 +1,18 @@
 //! A handle lends what it holds, and gives it up. All that follows a pointer of C's stands here.
 ghost use Rattle.std.specs.Prelude.{◌≡◌, None, Some, IsSome};
 ghost use Rattle.std.specs.Borrow.{sem};
-ghost use Rattle.smap_c.specs.Private.Lending.{LendsBytes, LendsInners, LendsMap, LendsOriginals, LendsTable, LendsUrlFinder};
+ghost use Rattle.smap_c.specs.Private.Lending.{LendsBytes, LendsInners, LendsMap, LendsOriginals, LendsRewriting, LendsStore, LendsTable, LendsUrlFinder};
 
-use super::{BytesHandle, InnersHandle, MapHandle, OriginalsHandle, TableHandle, UrlFinderHandle};
+use super::{
+    BytesHandle, InnersHandle, MapHandle, OriginalsHandle, RewritingHandle, StoreHandle,
+    TableHandle, UrlFinderHandle,
+};
 use crate::bytes::Bytes;
 use crate::inners::Inners;
 use crate::loose::Loose;
 use smap_anywhere::UrlFinder;
 use smap_originals::Originals;
+use smap_piecewise::{FrameRewriting, KeptMaps};
 use smap_shared::SharedMap;
 use smap_tables::UrlTable;
 use std::alloc::Global;
@@ -146,6 +150,52 @@ impl UrlFinderHandle {
     {
         Loose {
             at: self.at as *mut UrlFinder,
+            alloc,
+        }
+    }
+}
+
+impl StoreHandle {
+    /// What the handle holds, which is not empty.
+    pub(crate) fn lend(&mut self) -> &mut KeptMaps
+        requires { IsSome self.old.held }
+        ensures* writes_back { sem 𝓛 (LendsStore self.entry result) }
+        ensures value { Some result.now ≡ self.old.held }
+    {
+        unsafe { &mut *(self.at as *mut KeptMaps) }
+    }
+
+    // Takes out what the handle holds, and leaves it empty.
+    pub(super) fn take(&mut self, alloc: Global) -> Loose<KeptMaps, Global>
+        requires { IsSome self.old.held }
+        ensures taken { Some result.value ≡ self.old.held }
+        ensures emptied { self.new.held ≡ None }
+    {
+        Loose {
+            at: self.at as *mut KeptMaps,
+            alloc,
+        }
+    }
+}
+
+impl RewritingHandle {
+    /// What the handle holds, which is not empty.
+    pub(crate) fn lend(&mut self) -> &mut FrameRewriting
+        requires { IsSome self.old.held }
+        ensures* writes_back { sem 𝓛 (LendsRewriting self.entry result) }
+        ensures value { Some result.now ≡ self.old.held }
+    {
+        unsafe { &mut *(self.at as *mut FrameRewriting) }
+    }
+
+    // Takes out what the handle holds, and leaves it empty.
+    pub(super) fn take(&mut self, alloc: Global) -> Loose<FrameRewriting, Global>
+        requires { IsSome self.old.held }
+        ensures taken { Some result.value ≡ self.old.held }
+        ensures emptied { self.new.held ≡ None }
+    {
+        Loose {
+            at: self.at as *mut FrameRewriting,
             alloc,
         }
     }

@@ -1,12 +1,16 @@
 //! Making handles, and emptying them.
 ghost use Rattle.std.specs.Prelude.{◌≡◌, None, Some, IsSome, IfErr, IfOk};
 
-use super::{BytesHandle, InnersHandle, MapHandle, OriginalsHandle, TableHandle, UrlFinderHandle};
+use super::{
+    BytesHandle, InnersHandle, MapHandle, OriginalsHandle, RewritingHandle, StoreHandle,
+    TableHandle, UrlFinderHandle,
+};
 use crate::bytes::Bytes;
 use crate::inners::Inners;
 use crate::loose::Loose;
 use smap_anywhere::UrlFinder;
 use smap_originals::Originals;
+use smap_piecewise::{FrameRewriting, KeptMaps};
 use smap_record::MapFile;
 use smap_shared::SharedMap;
 use smap_tables::UrlTable;
@@ -144,6 +148,45 @@ impl UrlFinderHandle {
 
     /// Takes out what the handle holds, and frees its room.
     pub(crate) fn empty(&mut self, alloc: Global) -> UrlFinder
+        requires { IsSome self.old.held }
+        ensures taken { Some result ≡ self.old.held }
+        ensures emptied { self.new.held ≡ None }
+    {
+        Box::into_inner(self.take(alloc).into_box())
+    }
+}
+
+impl StoreHandle {
+    pub(crate) fn new(alloc: Global, maps: KeptMaps) -> Result<StoreHandle, AllocFailed<KeptMaps>>
+        ensures made { IfOk result (λ handle. handle.held ≡ Some maps) }
+        ensures back { IfErr result (λ failed. failed.value ≡ maps) }
+    {
+        Ok(StoreHandle::of(Loose::of(Box::new(alloc, maps)?)))
+    }
+
+    /// Takes out what the handle holds, and frees its room.
+    pub(crate) fn empty(&mut self, alloc: Global) -> KeptMaps
+        requires { IsSome self.old.held }
+        ensures taken { Some result ≡ self.old.held }
+        ensures emptied { self.new.held ≡ None }
+    {
+        Box::into_inner(self.take(alloc).into_box())
+    }
+}
+
+impl RewritingHandle {
+    pub(crate) fn new(
+        alloc: Global,
+        rewriting: FrameRewriting,
+    ) -> Result<RewritingHandle, AllocFailed<FrameRewriting>>
+        ensures made { IfOk result (λ handle. handle.held ≡ Some rewriting) }
+        ensures back { IfErr result (λ failed. failed.value ≡ rewriting) }
+    {
+        Ok(RewritingHandle::of(Loose::of(Box::new(alloc, rewriting)?)))
+    }
+
+    /// Takes out what the handle holds, and frees its room.
+    pub(crate) fn empty(&mut self, alloc: Global) -> FrameRewriting
         requires { IsSome self.old.held }
         ensures taken { Some result ≡ self.old.held }
         ensures emptied { self.new.held ≡ None }

@@ -186,6 +186,8 @@ fn sizes_and_offsets_are_those_of_the_c_compiler() {
         smap_originals: at;
         smap_url_finder: at;
         smap_bytes: at;
+        smap_store: at;
+        smap_rewriting: at;
         smap_text: bytes length;
         smap_refusal: number fault line build section byte;
         smap_reason: value least most generated_column has_value has_least has_most has_column;
@@ -205,6 +207,8 @@ fn sizes_and_offsets_are_those_of_the_c_compiler() {
         smap_rewrite_options: hide_ignored anywhere strip_ansi cut;
         smap_trace_count: lines frames mapped hidden;
         smap_rewrite_refusal: number lines;
+        smap_store_counts: bytes count none_bytes none_count asked hits dropped;
+        smap_rewriting_options: hide_ignored most;
         smap_frame_url: start length next;
         smap_place_url: start length next halved;
     };
