@@ -50,12 +50,14 @@ def programs(folder: Path) -> Tuple[str, str]:
     old, new = os.environ.get("OLD"), os.environ.get("PROGRAM")
     if not old:
         # The program of an x86-64; another machine names one in OLD.
-        packed = subprocess.run(
-            ["git", "-C", ROOT, "show", f"{OLD}:dist/smap-0.2.0-linux-x86_64.tar.gz"], capture_output=True, check=True
-        ).stdout
+        names = subprocess.run(
+            ["git", "-C", ROOT, "ls-tree", "--name-only", OLD, "dist/"], capture_output=True, check=True, text=True
+        ).stdout.split()
+        archive = next(name for name in names if name.endswith("-linux-x86_64.tar.gz"))
+        packed = subprocess.run(["git", "-C", ROOT, "show", f"{OLD}:{archive}"], capture_output=True, check=True).stdout
         with tarfile.open(fileobj=io.BytesIO(packed)) as tar:
             tar.extractall(folder / "old")
-        old = str(folder / "old" / "smap-0.2.0-linux-x86_64" / "bin" / "smap")
+        old = str(next((folder / "old").glob("smap-*/bin/smap")))
     if not new:
         subprocess.run([ROOT / "smap", "--version"], check=True, stdout=subprocess.DEVNULL)
         new = str(ROOT / (ROOT / ".smap" / "program").read_text().strip())
