@@ -156,10 +156,26 @@ def has_scheme_behind_edge(url: bytes) -> bool:
     return bool(edge) and url.find(b"://", edge.end()) >= 0  # type: ignore[union-attr]
 
 
+def has_blank_in_query(url: bytes) -> bool:
+    """Whether a blank stands behind a `?`."""
+    query = url.find(b"?")
+    return query >= 0 and any(CONTROL[byte] for byte in url[query:])
+
+
+def has_function(url: bytes) -> bool:
+    """Whether a function of Firefox without a name of its own stands in it."""
+    return b"<@" in url
+
+
 def is_sentence(url: bytes) -> bool:
-    """Whether a frame's URL that begins as one does is a sentence: it has a blank, and behind that or a sign another one."""
+    """Whether a frame's URL that begins as one does is a sentence: it has a function in it; or a blank, which stands in its
+    query, or behind which, or a sign, another one begins."""
+    if has_function(url):
+        return True
     if not _BLANK_OR_QUOTE.search(url):
         return False
+    if has_blank_in_query(url):
+        return True
     return bool(_BEGINS_AGAIN.search(url) or _EDGE_BEFORE_PATH.search(_BRACKETS.sub(b"x", url))) or has_scheme_behind_edge(url)
 
 

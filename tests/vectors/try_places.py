@@ -171,6 +171,8 @@ CLAUSES: List[Tuple[str, object, str, object]] = [
     ("its brackets stand in pairs", places, "has_paired_brackets", lambda text: True),
     ("it is no sentence", places, "is_sentence", lambda url: False),
     ("another scheme makes one", places, "has_scheme_behind_edge", lambda url: False),
+    ("a blank in its query does", places, "has_blank_in_query", lambda url: False),
+    ("and a function of Firefox", places, "has_function", lambda url: False),
     ("a folder has the URL of a frame that is one", places, "is_for_folder", lambda line, start, pair: True),
     ("of which no byte of the query is barred", places, "has_barred_query", lambda line, start, end: False),
     ("a frame may have a tail", places, "frame_span_before_tail", places.frame_span),

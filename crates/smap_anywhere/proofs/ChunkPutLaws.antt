@@ -1,31 +1,24 @@
 -- A chunk that is put: its places are those of its line.
-use Rattle.std.proofs.Common.{◌≡◌, ◌≤◌, ℕ, List, [], length, map, Bool, true, not, Option, Some, None, is_some, Result, Ok, Err, sym, ap, subst, ◌∙◌}
-use Rattle.std.specs.Prelude.{MatchOption, OnErr, OnOk}
-use Rattle.std.specs.List.{filter_map}
+use Rattle.std.proofs.Common.{◌≡◌, ◌≤◌, ℕ, List, length, Option, sym, ap, subst, ◌∙◌}
 use Rattle.smap_io.specs.Device.{SinkSeen}
-use Rattle.smap_io.specs.declared.device.DeviceFault.{DeviceFault}
-use Rattle.smap_lines.specs.LineOutput.{FailsToPut, IsPut, Puts}
+use Rattle.smap_lines.specs.LineOutput.{FailsToPut, Puts}
 use Rattle.smap_lines.specs.declared.line_output.LineOutput.{LineOutput}
 use Rattle.smap_pairs.specs.Known.{UrlsKnown}
-use Rattle.smap_pairs.specs.LinePlaces.{place_of, places_in}
-use Rattle.smap_pairs.specs.Pairs.{pairs_of}
+use Rattle.smap_pairs.specs.LinePlaces.{places_in}
 use Rattle.smap_pairs.specs.Seen.{seen_of}
 use Rattle.smap_pairs.specs.Spans.{AreSpansInOrder}
 use Rattle.smap_pairs.specs.declared.line_places.Span.{Span}
 use Rattle.smap_record.specs.Record.{MapRecord}
 use Rattle.smap_trace.specs.NotesSeen.{notes_seen}
 use Rattle.smap_trace.specs.UrlNotes.{NamingSeen}
-use Rattle.smap_anywhere.specs.Parts.{Part, other}
+use Rattle.smap_anywhere.specs.Parts.{Part}
 use Rattle.smap_anywhere.specs.PartSteps.{MayBecome}
-use Rattle.smap_anywhere.specs.ChunkParts.{chunk_parts, line_of, parts_by_spans, spans_of, unknown_among}
-use Rattle.smap_anywhere.specs.SeemingUrls.{urls_seeming}
+use Rattle.smap_anywhere.specs.ChunkParts.{chunk_parts, line_of, parts_by_spans, spans_of}
 use Rattle.smap_anywhere.specs.Private.ChunkWriter.{FailsToPutParts, PutsParts}
 use Rattle.smap_anywhere.specs.Private.PartsWriter.{AreNoted, Becomes}
 use Rattle.smap_anywhere.specs.declared.chunk_writer.ChunkWriter.{ChunkWriter}
 use Rattle.smap_anywhere.specs.declared.parts_writer.PartsWriter.{PartsWriter}
 use Rattle.smap_anywhere.proofs.LineOfLaws.{spans_in_more}
-use Rattle.smap_anywhere.proofs.PassingLaws.{becomes_others, may_others}
-use Rattle.smap_anywhere.proofs.PutLaws.{noted_none}
 
 -- ---- the places of a chunk
 

@@ -7,7 +7,7 @@ use Rattle.std.specs.List.{flat_map, slice_range}
 use Rattle.std.proofs.lemmas.Bool.{cond-false, cond-true, eq-eqb, le-leb, lt-ltb, ltb-true}
 use Rattle.std.proofs.lemmas.Grind.{flat_map-append}
 use Rattle.std.proofs.lemmas.List.{drop-append-le, drop-drop, drop_all, drop_more, length-take-le, take-append-drop, take-append-le}
-use Rattle.smap_pairs.specs.Chunks.{Cut, begins_anew, cuts_from, first_chunk, stays_broken}
+use Rattle.smap_pairs.specs.Chunks.{begins_anew, cuts_from, first_chunk, stays_broken}
 use Rattle.smap_pairs.specs.Chunks.Cut.{chunk, stays}
 use Rattle.smap_pairs.specs.Halved.{halved}
 use Rattle.smap_pairs.specs.LinePlaces.{span_url}
@@ -21,7 +21,7 @@ use Rattle.smap_anywhere.specs.Parts.{Part, found, other}
 use Rattle.smap_anywhere.specs.SeemingUrls.{urls_seeming}
 use Rattle.smap_anywhere.specs.Private.UrlFinder.{HandsOut}
 use Rattle.smap_anywhere.specs.declared.url_finder.FoundUrl.{FoundUrl}
-use Rattle.smap_anywhere.proofs.CutLaws.{begins_behind, broken_behind}
+use Rattle.smap_anywhere.proofs.CutLaws.{broken_behind}
 
 -- ---- bytes of no place
 

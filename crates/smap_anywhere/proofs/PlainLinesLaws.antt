@@ -1,6 +1,6 @@
 -- Lines without what all URLs begin with have no places, and are put as they are.
-use Rattle.std.proofs.Common.{◌≡◌, ◌==◌, ◌+◌, ◌<◌, ◌≤◌, ℕ, zero, suc, Bool, true, false, List, [], ◌∷◌, ◌++◌, length, map, take, drop, get_or, Option, Some, None}
-use Rattle.std.proofs.Common.{refl, sym, ap, subst, ◌∙◌, arith, append_assoc, append-nil, length-append}
+use Rattle.std.proofs.Common.{◌≡◌, ◌+◌, ◌<◌, ◌≤◌, ℕ, Bool, false, List, [], ◌∷◌, ◌++◌, length, map, take, drop, get_or, Option, Some, None}
+use Rattle.std.proofs.Common.{refl, sym, ap, subst, ◌∙◌, arith, append_assoc, length-append}
 use Rattle.std.specs.Prelude.{IfSome, MatchOption}
 use Rattle.std.specs.List.{flat_map}
 use Rattle.std.proofs.lemmas.List.{get_or-append-add, get_or_append_left, length-take, take-append-drop, take-take}
@@ -16,14 +16,13 @@ use Rattle.smap_pairs.specs.Laws.Chunks.{cuts_whole, lines_apart}
 use Rattle.smap_pairs.proofs.FrontLaws.{no_place, occurs_within}
 use Rattle.smap_record.specs.Record.{MapRecord}
 use Rattle.smap_trace.specs.NotesSeen.{notes_seen}
-use Rattle.smap_anywhere.specs.Parts.{Part, other}
+use Rattle.smap_anywhere.specs.Parts.{other}
 use Rattle.smap_anywhere.specs.PartSteps.{MayBecome}
 use Rattle.smap_anywhere.specs.ChunkParts.{chunk_parts, cut_parts, cut_unknown, line_of, parts_by_spans}
 use Rattle.smap_anywhere.specs.SeemingUrls.{urls_seeming}
 use Rattle.smap_anywhere.specs.Private.ChunkWriter.{FailsToPutParts, IsCut, Passes, parts_behind}
 use Rattle.smap_anywhere.specs.Private.PartsWriter.{AreNoted, Becomes}
 use Rattle.smap_anywhere.specs.declared.chunk_writer.ChunkWriter.{ChunkWriter}
-use Rattle.smap_anywhere.specs.declared.parts_writer.PartsWriter.{PartsWriter}
 use Rattle.smap_anywhere.proofs.PassingLaws.{becomes_others, fails_with, may_others}
 
 -- ---- a text without what all URLs begin with

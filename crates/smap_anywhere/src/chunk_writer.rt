@@ -74,8 +74,8 @@ impl<M: Maps, K: KnownUrls> ChunkWriter<'_, '_, '_, '_, '_, M, K> {
         Ok(done)
     }
 
-    // Puts what becomes of the first chunk of a text, or of the bytes of it that stay, or of the lines of it that are told to
-    // have no place; and counts its bytes, none where these are not decided.
+    // Puts what becomes of the first chunk of a text, or of the bytes of it that stay, or of the lines of it that are told
+    // to have no place; and counts its bytes, none where these are not decided.
     fn put_next<W: ByteSink>(
         &mut self,
         text: &[u8],

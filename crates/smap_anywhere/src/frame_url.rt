@@ -5,8 +5,8 @@ ghost use Rattle.smap_anywhere.specs.FrameUrl.{begins_with_blank, frame_url, tai
 use crate::map_urls::has_quotation_mark;
 use smap_trace::frame;
 
-/// From which byte to which the URL stands of the frame that a line is; or that a line is but for ` {` or `,` at its end, which
-/// node prints there: this begins with a blank, and its URL has no quotation mark.
+/// From which byte to which the URL stands of the frame that a line is; or that a line is but for ` {` or `,` at its end,
+/// which node prints there: this begins with a blank, and its URL has no quotation mark.
 pub fn frame_url(line: &[u8]) -> Option<(usize, usize)>
     ensures url { result ≡ frame_url line.now }
     ensures within { IfSome result (λ url. (url.0 ≤ url.1) × (url.1 ≤ length line.now)) }

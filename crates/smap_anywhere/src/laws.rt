@@ -54,9 +54,9 @@ pub fn json_stays_json()
 
 /// A frame becomes anywhere what `rewrite` makes of it over the same maps, unless the name that comes in has a `"` or a `\`:
 /// if an argument or a list names its URL; if a folder has a file for that, or a list without its query, and it is no
-/// sentence, holds no other pair, and each byte of its query may stand behind a name; and if a pattern has one, and it is one
-/// URL and no more. Any other URL is not named, and only if it breaks the second rule has it a file but by a pattern. Longer
-/// lines are no frames.
+/// sentence, holds no other pair, and each byte of its query may stand behind a name; and if a pattern has one, and it is
+/// one URL and no more. Any other URL is not named, and only if it breaks the second rule has it a file but by a pattern.
+/// Longer lines are no frames.
 pub fn frames_are_rewritten_alike()
     ensures alike { (maps : MapsSeen) (found : MapsByUrl) (line : Line) (parts : FrameParts) →
         frame_of line.bytes ≡ Some parts → has_file (urls_known maps) line.bytes parts ≡ true →

@@ -1,7 +1,7 @@
-//! Places of a generated program wherever they stand in a text, as `URL:line:column`, and not only in the frames of a
-//! stack trace: one whose URL has a map and whose place has an original gets it in its stead, and every other byte
-//! stays. Lines and columns count from 1. A text is cut into lines, and long lines into chunks, so they may have any length.
-//! A `UrlFinder` finds the places over what looks like a URL one after another, for whoever has maps read once they are named.
+//! Places of a generated program wherever they stand in a text, as `URL:line:column`, and not only in the frames of a stack
+//! trace: one whose URL has a map and whose place has an original gets it in its stead, and every other byte stays. Lines
+//! and columns count from 1. A text is cut into lines, and long lines into chunks, so they may have any length. A
+//! `UrlFinder` finds the places over what looks like a URL one after another, for whoever has maps read once they are named.
 //!
 //! ```text
 //! let urls = MapUrls::new(alloc, &table, &locations)?;

@@ -1,8 +1,8 @@
 //! The URLs of maps.
 ghost use Rattle.std.specs.List.{prefix_len};
-ghost use Rattle.std.specs.Prelude.{◌≡◌, ◌≤◌, ◌==◌, IfOk, length, not, option_map};
+ghost use Rattle.std.specs.Prelude.{◌≡◌, ◌≤◌, ◌==◌, ℕ, IfOk, List, false, length, not, option_map, true};
 ghost use Rattle.smap_anywhere.specs.MapUrls.{before_backslash, common_begin, common_join, front, front_of};
-ghost use Rattle.smap_anywhere.specs.MapUrls.{has_folder, is_argument, is_name, is_name_by, is_without_query};
+ghost use Rattle.smap_anywhere.specs.MapUrls.{has_folder, is_argument, is_name, is_name_by, is_without_query, urls_known};
 ghost use Rattle.smap_pairs.specs.Json.{has_quotation_mark};
 
 use crate::frame_url::frame_url;
@@ -72,6 +72,13 @@ impl<'t> MapUrls<'t> {
         self.table.map_for(url).is_some()
     }
 
+    // Whether nothing is named: no URL has a file then but by a pattern.
+    fn has_patterns_alone(&self) -> bool
+        ensures { result ≡ true → (url : List ℕ) → (urls_known self.now).has_own url ≡ false }
+    {
+        self.names.is_empty() && self.prefixes.is_empty()
+    }
+
     // Whether an argument or a list names a file for a URL, by what is asked for.
     fn is_name_by(&self, by: NamedBy, url: &[u8]) -> bool
         ensures { result ≡ is_name_by self.now by url.now }
@@ -96,7 +103,8 @@ impl KnownUrls for MapUrls<'_> {
     }
 
     fn has_own(&self, url: &[u8]) -> bool {
-        self.is_argument(url) || self.locations.has_path_as_named(url)
+        !self.has_patterns_alone()
+            && (self.is_argument(url) || self.locations.has_path_as_named(url))
     }
 
     fn is_name(&self, url: &[u8]) -> bool {

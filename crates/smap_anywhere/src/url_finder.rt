@@ -21,8 +21,8 @@ pub struct FoundUrl {
     pub is_halved: bool,
 }
 
-/// Finds the places of texts over what looks like a URL. It keeps those of the chunk of the text in which it is, and room for
-/// any, so that each byte is gone through once, and no call but the first takes memory.
+/// Finds the places of texts over what looks like a URL. It keeps those of the chunk of the text in which it is, and room
+/// for any, so that each byte is gone through once, and no call but the first takes memory.
 #[derive(Drop)]
 pub struct UrlFinder {
     // The places of a chunk, and how many of them were handed out.
@@ -72,8 +72,8 @@ impl UrlFinder {
         })
     }
 
-    /// Finds the URL of the next place of a text, from a byte on: 0 or another at which a line begins, or `next` of the place
-    /// that it found last, in the same text.
+    /// Finds the URL of the next place of a text, from a byte on: 0 or another at which a line begins, or `next` of the
+    /// place that it found last, in the same text.
     pub fn find_next(&mut self, text: &[u8], from: usize) -> Option<FoundUrl>
         ensures found { MatchOption result (urls_left text.now from self.old ≡ [])
             (λ found. urls_left text.now from self.old

@@ -37,6 +37,7 @@ mod PartedLaws
 mod PairPlaceLaws
 mod FramePlaceLaws
 mod NamedFrameLaws
+mod BareLaws
 pub mod SpansLaws
 mod LinePlacesExamples
 mod ChunkLaws

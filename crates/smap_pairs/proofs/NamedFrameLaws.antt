@@ -1,4 +1,4 @@
--- The place of a frame whose URL is named: it is the only one of its line.
+-- The place of the frame that a whole line is: it is the only one.
 use Rattle.std.proofs.Common.{◌≡◌, ◌==◌, ◌&&◌, ◌||◌, ◌+◌, ◌-◌, ◌<◌, ◌≤◌, ℕ, Bool, true, false, cond, List, [], ◌∷◌, Option, Some, None}
 use Rattle.std.proofs.Common.{ap, arith, drop, length, refl, sym, take, ◌∙◌}
 use Rattle.std.specs.List.{cons_option, filter_map, slice_range}
@@ -51,8 +51,8 @@ one_has bytes piece (one ∷ pairs) pair span order found =
 -- ---- the frame of a line
 
 module _ (known : UrlsKnown) (text : List ℕ) (start end : ℕ) (pair : Pair) (url : known.frame_url text ≡ Some (start, end))
-    (found : at end (pairs_of text) ≡ Some pair) (name : known.is_name (slice_range text start end) ≡ true)
-    (own : known.has_own (slice_range text start end) ≡ true) where
+    (found : at end (pairs_of text) ≡ Some pair)
+    (has : has_frame_url known text (seen_of text) (whole_line (length text)) pair start (slice_range text start pair.start) ≡ true) where
   abbrev seen : List SeenByte
   seen = seen_of text
 
@@ -65,13 +65,9 @@ module _ (known : UrlsKnown) (text : List ℕ) (start end : ℕ) (pair : Pair) (
   same_end : pair.start ≡ end
   same_end = found_at end (pairs_of text) pair found
 
-  has_url : has_frame_url known text seen whole pair start (slice_range text start end) ≡ true
-  has_url = rw own (rw name refl)
-
   spanned : frame_span known text seen whole pair start ≡ Some span
   spanned =
-      (λ i. cond (has_frame_url known text seen whole pair start (slice_range text start (same_end i))) (Some (span_of pair start (same_end i) false)) None)
-      ∙ ap (λ b. cond b (Some span) None) has_url
+      ap (λ b. cond b (Some (span_of pair start pair.start false)) None) has ∙ ap (λ n. Some (span_of pair start n false)) same_end
 
   framed : frame_in known text seen (pairs_of text) (Some whole) ≡ Some span
   framed =
@@ -82,9 +78,9 @@ module _ (known : UrlsKnown) (text : List ℕ) (start end : ℕ) (pair : Pair) (
       λ i. frame_with known text seen whole (from i) (at (to i) (pairs_of text)))
       ∙ ap (frame_with known text seen whole start) found ∙ spanned
 
-  pub named_alone : AreInOrder 0 (length text) (pairs_of text) → places_in known text (seen_of text) ≡ span ∷ []
+  pub frame_alone : AreInOrder 0 (length text) (pairs_of text) → places_in known text (seen_of text) ≡ span ∷ []
   unfolding places_in
-  named_alone order =
+  frame_alone order =
       ap (λ (frame : Option Span). filter_map (λ (pair : Pair). or_else frame pair
       (or_else (frame_in known text seen (pairs_of text) (line_with (lines_of_strings seen) pair.start)) pair
       (or_else (frame_in known text seen (pairs_of text) (line_with (virtual_lines seen) pair.start)) pair

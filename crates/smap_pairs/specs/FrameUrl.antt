@@ -63,10 +63,24 @@ has_scheme_behind_sign is_behind_sign [] = false
 has_scheme_behind_sign is_behind_sign (byte ∷ text) =
     is_behind_sign && starts_with nat_eq (byte ∷ text) (codes "://") || has_scheme_behind_sign (is_behind_sign || is_edge_byte byte) text
 
--- it has a blank or a quotation mark, and behind a blank or a sign a URL begins, or a path goes on
+-- a blank stands behind a `?`; where one may stand before the first byte
+unfoldable pub has_blank_in_query : (is_in_query : Bool) → List ℕ → Bool
+has_blank_in_query is_in_query [] = false
+has_blank_in_query is_in_query (byte ∷ text) = is_in_query && is_control byte || has_blank_in_query (is_in_query || byte == 63) text
+
+-- `<@` stands in it, with which Firefox ends a function; where a `<` may stand before the first byte
+unfoldable pub has_function : (is_behind_angle : Bool) → List ℕ → Bool
+has_function is_behind_angle [] = false
+has_function is_behind_angle (byte ∷ text) = is_behind_angle && byte == 64 || has_function (byte == 60) text
+
+-- a URL begins behind a blank or a sign, or a path goes on there, or a blank stands in a query
+abbrev pub has_more_behind : List ℕ → Bool
+has_more_behind text =
+    begins_again false text || has_slash_behind_sign false text || has_scheme_behind_sign false text || has_blank_in_query false text
+
+-- it has a blank or a quotation mark, and goes on behind its URL; or it has a function
 abbrev pub is_sentence : List ℕ → Bool
-is_sentence text =
-    has_blank_or_quote text && (begins_again false text || has_slash_behind_sign false text || has_scheme_behind_sign false text)
+is_sentence text = has_blank_or_quote text && has_more_behind text || has_function false text
 
 -- ---- a relative path
 

@@ -14,7 +14,7 @@ use Rattle.smap_pairs.specs.Seen.{seen_of}
 use Rattle.smap_pairs.specs.VirtualLines.{line_of_byte, lines_of_strings, virtual_lines}
 use Rattle.smap_pairs.specs.Word.{word_begin}
 use Rattle.smap_pairs.specs.declared.known.NamedBy.TheVariants.{Argument}
-use Rattle.smap_pairs.specs.declared.line_places.LineSeen.{LineSeen}
+use Rattle.smap_pairs.specs.declared.line_seen.LineSeen.{LineSeen}
 use Rattle.smap_pairs.specs.declared.line_places.Span.{Span}
 use Rattle.smap_pairs.specs.declared.pairs.Pair.{Pair}
 use Rattle.smap_pairs.specs.declared.seen.SeenByte.{SeenByte}

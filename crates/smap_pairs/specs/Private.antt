@@ -5,3 +5,5 @@ pub mod PathReading
 pub mod FrameReading
 -- What contracts of private functions alone cite.
 pub mod EscapeWithin
+-- What contracts of private functions alone cite.
+pub mod Bare

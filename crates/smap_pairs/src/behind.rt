@@ -44,8 +44,8 @@ impl Behind {
     }
 
     /// Notes what stands before a pair, whose piece begins at byte `piece` of its line: `before` is the line up to it, and
-    /// `text` the bytes of that. It reads at most 2,048 of them, each once, and twice more as one of a piece of a path. Where
-    /// there is room for so many, no memory is asked for.
+    /// `text` the bytes of that. It reads at most 2,048 of them, each once, and twice more as one of a piece of a path.
+    /// Where there is room for so many, no memory is asked for.
     pub fn note(&mut self, text: &[u8], before: &[SeenByte], piece: usize) -> Result<(), AllocError>
         requires { text_of before.now ≡ text.now }
         ensures noted { IfOk result (λ _. IsBehind before.now piece self.new) }

@@ -79,9 +79,9 @@ fn chunk_of_long(front: &[u8]) -> Chunk
     }
 }
 
-// Where the first bytes of a long line end that are a chunk: before a `"`, an escape of a line's end, or a blank; 0 where they
-// have none. Where a chunk is short for that, the same bytes have no second end of its kind, but for one that runs on behind
-// them. So each byte is looked at six times at most in each of the three ways.
+// Where the first bytes of a long line end that are a chunk: before a `"`, an escape of a line's end, or a blank; 0 where
+// they have none. Where a chunk is short for that, the same bytes have no second end of its kind, but for one that runs on
+// behind them. So each byte is looked at six times at most in each of the three ways.
 fn chunk_end(front: &[u8]) -> usize
     ensures { result ≡ chunk_end front.now }
 {
@@ -185,8 +185,8 @@ fn goes_on_in_numbers(byte: u8) -> bool
     byte.is_ascii_digit() || byte == b':' || byte == b'-'
 }
 
-/// How many of the first bytes of a text stay behind a chunk that is broken off: those before the next `"` or blank, or up to
-/// the end of the line. All, where none of these stands in it.
+/// How many of the first bytes of a text stay behind a chunk that is broken off: those before the next `"` or blank, or up
+/// to the end of the line. All, where none of these stands in it.
 pub fn staying_bytes(text: &[u8]) -> usize
     ensures bytes { result ≡ staying_bytes text.now }
     ensures within { result ≤ length text.now }

@@ -9,7 +9,7 @@ ghost use Rattle.smap_pairs.specs.Before.{has_separator, is_behind_digit};
 ghost use Rattle.smap_pairs.specs.Behind.{is_barred};
 ghost use Rattle.smap_pairs.specs.Bytes.{is_edge_byte};
 ghost use Rattle.smap_pairs.specs.FrameUrl.{as_in_path, begins_again, begins_as_url, begins_with_sign, has_blank_or_quote, has_slash_behind_sign, is_behind_letter, is_blank_or_quote, is_bracket};
-ghost use Rattle.smap_pairs.specs.FrameUrl.{has_barred_query, has_scheme_behind_sign, is_for_folder, is_for_pattern, is_function, is_in_scheme};
+ghost use Rattle.smap_pairs.specs.FrameUrl.{has_more_behind, has_barred_query, has_blank_in_query, has_function, has_scheme_behind_sign, is_for_folder, is_for_pattern, is_function, is_in_scheme};
 ghost use Rattle.smap_pairs.specs.FrameUrl.{is_no_sentence, is_one_url, is_relative, is_sentence, scheme_end};
 ghost use Rattle.smap_pairs.specs.Path.{is_path};
 ghost use Rattle.smap_pairs.specs.Private.FrameReading.{seen_as};
@@ -157,8 +157,16 @@ fn is_in_scheme(text: &[SeenByte], stands: bool) -> bool
 fn is_sentence(url: &[SeenByte]) -> bool
     ensures { result ≡ is_sentence (signs url.now) }
 {
-    has_blank_or_quote(url)
-        && (begins_again(url) || has_slash_behind_sign(url) || has_scheme_behind_sign(url))
+    has_blank_or_quote(url) && has_more_behind(url) || has_function(url)
+}
+
+fn has_more_behind(url: &[SeenByte]) -> bool
+    ensures { result ≡ has_more_behind (signs url.now) }
+{
+    begins_again(url)
+        || has_slash_behind_sign(url)
+        || has_scheme_behind_sign(url)
+        || has_blank_in_query(url)
 }
 
 fn has_blank_or_quote(url: &[SeenByte]) -> bool
@@ -226,6 +234,40 @@ fn has_scheme_behind_sign(url: &[SeenByte]) -> bool
             return true;
         }
         is_behind_sign = is_behind_sign || is_edge_byte(byte);
+        rest = behind;
+    }
+    false
+}
+
+// Whether a blank stands behind a `?`.
+#[tactic(auto, unfolding(crate::specs::FrameUrl::has_blank_in_query))]
+fn has_blank_in_query(url: &[SeenByte]) -> bool
+    ensures { result ≡ has_blank_in_query false (signs url.now) }
+{
+    let mut is_in_query = false;
+    let mut rest = url;
+    while let Some((byte, behind)) = next_sign(rest) {
+        if is_in_query && is_control(byte) {
+            return true;
+        }
+        is_in_query = is_in_query || byte == b'?';
+        rest = behind;
+    }
+    false
+}
+
+// Whether it has a function of Firefox.
+#[tactic(auto, unfolding(crate::specs::FrameUrl::has_function))]
+fn has_function(url: &[SeenByte]) -> bool
+    ensures { result ≡ has_function false (signs url.now) }
+{
+    let mut is_behind_angle = false;
+    let mut rest = url;
+    while let Some((byte, behind)) = next_sign(rest) {
+        if is_behind_angle && byte == b'@' {
+            return true;
+        }
+        is_behind_angle = byte == b'<';
         rest = behind;
     }
     false

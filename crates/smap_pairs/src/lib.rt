@@ -12,6 +12,7 @@
 #![tactic(auto)]
 
 mod absolute;
+mod bare;
 mod before;
 mod behind;
 mod brackets;
@@ -25,6 +26,7 @@ mod halved;
 mod known;
 pub mod laws;
 mod line_places;
+mod line_seen;
 mod marks;
 mod named;
 mod numbers;
@@ -38,6 +40,7 @@ mod settled;
 mod signs;
 mod token;
 mod virtual_lines;
+mod whole_frame;
 mod word;
 
 pub use behind::{Behind, each_query_is_noted, lowest};

@@ -32,7 +32,8 @@ impl<K: KnownUrls> Sought<'_, K> {
         requires behind { IsBehind (take self.now.end self.now.seen.now) self.now.piece
             self.now.behind.now }
         ensures own { result ≡ own_bytes (K.known self.now.known.now) self.now.text.now
-            self.now.seen.now self.now.piece (is_query_at (take self.now.end self.now.seen.now) self.now.piece)
+            self.now.seen.now self.now.piece (is_query_at (take
+            self.now.end self.now.seen.now) self.now.piece)
             (is_in_folder (take self.now.end self.now.seen.now) self.now.piece) self.now.end }
         ensures within { result ≤ self.now.end - self.now.piece }
     {
@@ -50,7 +51,8 @@ impl<K: KnownUrls> Sought<'_, K> {
             self.now.behind.now }
         ensures longest { result ≡ max named (greatest
             (is_in_folder_before (K.known self.now.known.now)
-            self.now.text.now self.now.seen.now (is_in_folder (take self.now.end self.now.seen.now) self.now.piece) self.now.end)
+            self.now.text.now self.now.seen.now (is_in_folder (take
+            self.now.end self.now.seen.now) self.now.piece) self.now.end)
             (self.now.end - self.now.piece)) }
         ensures within { named ≤ self.now.end - self.now.piece →
             result ≤ self.now.end - self.now.piece }
@@ -69,7 +71,8 @@ impl<K: KnownUrls> Sought<'_, K> {
         ensures low { self.now.piece ≤ result }
         ensures none { (at : ℕ) → at < result → self.now.piece ≤ at →
             begins_in_folder (K.known self.now.known.now) self.now.text.now
-            self.now.seen.now (is_in_folder (take self.now.end self.now.seen.now) self.now.piece) self.now.end at ≡ false }
+            self.now.seen.now (is_in_folder (take
+            self.now.end self.now.seen.now) self.now.piece) self.now.end at ≡ false }
     {
         self.piece
     }
@@ -82,7 +85,8 @@ impl<K: KnownUrls> Sought<'_, K> {
         requires behind { IsBehind (take self.now.end self.now.seen.now) self.now.piece
             self.now.behind.now }
         ensures { result ≡ begins_in_folder (K.known self.now.known.now) self.now.text.now
-            self.now.seen.now (is_in_folder (take self.now.end self.now.seen.now) self.now.piece) self.now.end at }
+            self.now.seen.now (is_in_folder (take
+            self.now.end self.now.seen.now) self.now.piece) self.now.end at }
     {
         if !may_begin_name(self.seen, at) {
             return false;
@@ -127,7 +131,8 @@ impl<K: KnownUrls> Sought<'_, K> {
         requires behind { IsBehind (take self.now.end self.now.seen.now) self.now.piece
             self.now.behind.now }
         ensures longest { result ≡ longest_cut (K.known self.now.known.now) self.now.text.now
-            self.now.seen.now self.now.piece (is_query_at (take self.now.end self.now.seen.now) self.now.piece) self.now.end by }
+            self.now.seen.now self.now.piece (is_query_at (take
+            self.now.end self.now.seen.now) self.now.piece) self.now.end by }
         ensures within { result ≤ self.now.end - self.now.piece }
     {
         let mut best = 0;
@@ -145,7 +150,8 @@ impl<K: KnownUrls> Sought<'_, K> {
         requires behind { IsBehind (take self.now.end self.now.seen.now) self.now.piece
             self.now.behind.now }
         ensures query { result ≡ query_of (K.known self.now.known.now) self.now.text.now
-            self.now.seen.now self.now.piece (is_query_at (take self.now.end self.now.seen.now) self.now.piece) self.now.end by bytes }
+            self.now.seen.now self.now.piece (is_query_at (take
+            self.now.end self.now.seen.now) self.now.piece) self.now.end by bytes }
         ensures within { result ≤ self.now.end }
     {
         let mut last = 0;
@@ -165,7 +171,8 @@ impl<K: KnownUrls> Sought<'_, K> {
             ≡ true }
         ensures { result ≡ (cut_bytes (K.known self.now.known.now) self.now.text.now
             self.now.seen.now self.now.piece
-            (is_query_at (take self.now.end self.now.seen.now) self.now.piece) self.now.end by query == bytes) }
+            (is_query_at (take self.now.end self.now.seen.now) self.now.piece)
+            self.now.end by query == bytes) }
     {
         self.cut_bytes(by, query) == bytes
     }
@@ -178,7 +185,8 @@ impl<K: KnownUrls> Sought<'_, K> {
         requires is_one { is_query_at (take self.now.end self.now.seen.now) self.now.piece query
             ≡ true }
         ensures cut { result ≡ cut_bytes (K.known self.now.known.now) self.now.text.now
-            self.now.seen.now self.now.piece (is_query_at (take self.now.end self.now.seen.now) self.now.piece) self.now.end by query }
+            self.now.seen.now self.now.piece (is_query_at (take
+            self.now.end self.now.seen.now) self.now.piece) self.now.end by query }
         ensures within { result ≤ self.now.end - self.now.piece }
     {
         if query < self.piece {

@@ -82,8 +82,8 @@ fn count_into(line: &[u8], seen: &mut Vec<SeenByte>) -> Result<(), AllocError>
     }
 }
 
-// How many bytes a text begins with, with none of which an escape or a colour begins.
-fn bytes_by_themselves(text: &[u8]) -> usize
+/// How many bytes a text begins with, with none of which an escape or a colour begins.
+pub fn bytes_by_themselves(text: &[u8]) -> usize
     ensures bytes { result ≡ prefix_len is_by_itself text.now }
     ensures within { result ≤ length text.now }
 {

@@ -6,8 +6,8 @@ ghost use Rattle.smap_pairs.specs.Seen.{is_apostrophe, is_before_path, is_before
 use crate::bytes::{is_edge_byte, is_letter_or_digit};
 use crate::seen::{SIGN, SeenByte};
 
-/// Finds the edges behind a `:` before a path and behind a sign before a root, and apostrophes. It goes from the end on, since
-/// each depends on how those before it were.
+/// Finds the edges behind a `:` before a path and behind a sign before a root, and apostrophes. It goes from the end on,
+/// since each depends on how those before it were.
 pub fn settle(line: &[u8], seen: &mut [SeenByte])
     requires { length seen.old ≡ length line.now }
     ensures { seen.new ≡ settled_from [] line.now seen.old }

@@ -1,22 +1,22 @@
 -- What all URLs of maps begin with, where it is known: each does.
-use Rattle.std.proofs.Common.{◌≡◌, ◌==◌, ◌&&◌, ◌||◌, ◌+◌, ◌<◌, ◌≤◌, ◌⊎◌, inl, inr, ℕ, zero, suc, Bool, true, false, cond, List, [], ◌∷◌, ◌++◌, Option, Some, None}
+use Rattle.std.proofs.Common.{◌≡◌, ◌==◌, ◌&&◌, ◌||◌, ◌+◌, inl, inr, ℕ, zero, suc, Bool, true, false, cond, List, [], ◌∷◌, Option, Some, None}
 use Rattle.std.proofs.Common.{ap, arith, drop, get_or, length, length-append, map, refl, subst, sym, take, ◌∙◌}
 use Rattle.std.specs.Prelude.{IfSome, IsSomeAnd, is_some, nat_le, not}
-use Rattle.std.specs.List.{filter, list_any, prefix_len}
+use Rattle.std.specs.List.{list_any, prefix_len}
 use Rattle.std.proofs.lemmas.Bool.{and_parts, eqb-true, leb-true, or_cases}
 use Rattle.std.proofs.lemmas.List.{get_or_append_left, take-append-drop}
 use Rattle.memchr.specs.Find.{OccursAt}
 use Rattle.smap_by_text.specs.ByText.{value_under}
 use Rattle.smap_by_text.specs.Common.{IsFront, common_front, common_of}
 use Rattle.smap_by_text.specs.Laws.Common.{begins_common, begins_one, begins_other, front_of_front}
-use Rattle.smap_locations.specs.Locations.{folder_path, has_path_as_named, has_pattern_path_in_text, or_else, path_for, path_in_folders, path_within}
+use Rattle.smap_locations.specs.Locations.{folder_path, has_path_as_named, or_else, path_in_folders, path_within}
 use Rattle.smap_locations.specs.Named.{Named}
 use Rattle.smap_locations.specs.Paths.{without_query}
-use Rattle.smap_locations.specs.Patterns.{has_path_in_text, path_by_patterns}
-use Rattle.smap_pairs.specs.Known.{AllBegin, IsFrontKnown, UrlsKnown}
+use Rattle.smap_locations.specs.Patterns.{has_path_in_text}
+use Rattle.smap_pairs.specs.Known.{AllBegin, IsFrontKnown}
 use Rattle.smap_pairs.specs.declared.known.NamedBy.{NamedBy}
 use Rattle.smap_pairs.specs.declared.known.NamedBy.TheVariants.{Any, Argument, List as ByList}
-use Rattle.smap_anywhere.specs.MapUrls.{before_backslash, common_begin, common_join, front, front_of, has_folder, if_long, is_argument, is_listed, is_name, is_name_by, is_without_query, urls_known}
+use Rattle.smap_anywhere.specs.MapUrls.{before_backslash, common_begin, common_join, front_of, has_folder, is_argument, is_listed, is_name, is_name_by, is_without_query, urls_known}
 use Rattle.smap_pairs.specs.Json.{has_quotation_mark}
 use Rattle.smap_anywhere.specs.MapsSeen.{MapsSeen}
 

@@ -1,4 +1,4 @@
-use Rattle.std.proofs.Common.{◌≡◌, ◌+◌, ◌-◌, ◌∷◌, ap, arith, drop, subst, sym, ◌∙◌}
+use Rattle.std.proofs.Common.{◌≡◌, ◌+◌, ◌-◌, ◌∷◌, ap, arith, drop, subst}
 use Rattle.smap_pairs.specs.Spans.{AreSpansInOrder}
 use Rattle.smap_anywhere.proofs.FoundUrlLaws.{rest_of, spans_from_less}
 use Rattle.smap_anywhere.proofs.url_finder.UrlFinder.hand_out.Goals as goal

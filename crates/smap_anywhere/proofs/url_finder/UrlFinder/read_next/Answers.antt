@@ -1,4 +1,4 @@
-use Rattle.std.proofs.Common.{◌≡◌, ℕ, Bool, List, ◌<◌, ◌&&◌, ◌++◌, ◌+◌, ◌-◌, [], ap, append-nil, arith, drop, false, length, length-drop, subst, sym, take, ◌∙◌}
+use Rattle.std.proofs.Common.{◌≡◌, ℕ, Bool, List, ◌<◌, ◌&&◌, ◌+◌, ◌-◌, ap, arith, drop, false, length, subst, sym, take, ◌∙◌}
 use Rattle.std.specs.Prelude.{◌==◌, not, slice_index}
 use Rattle.std.proofs.lemmas.List.{take_rest}
 use Rattle.smap_pairs.specs.Chunks.{IsInOneLine, begins_anew}

@@ -13,8 +13,8 @@ use Rattle.smap_pairs.proofs.LinePlacesLaws.{strings_within, virtual_lines_withi
 use Rattle.smap_pairs.proofs.SpansLaws.{spans_in_order}
 use Rattle.smap_pairs.proofs.line_places.LinePlaces.find.Goals as goal
 
-pub find_places-requires : goal.find_places-requires
-find_places-requires g c =
+pub find_places-requires-clause-seen : goal.find_places-requires-clause-seen
+find_places-requires-clause-seen g c =
     let text = c.args.text.now in
     let seen = c.deref-7.ensures.value ∙ c.in_ok-see_into.ensures.seen in
     let strings : c.deref-8.result.now ≡ lines_of_strings (seen_of text) =

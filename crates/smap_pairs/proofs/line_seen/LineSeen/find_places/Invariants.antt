@@ -4,7 +4,7 @@ use Rattle.smap_pairs.specs.Behind.{KeepsRoom}
 use Rattle.smap_pairs.specs.LinePlaces.{frame_in, place_of}
 use Rattle.smap_pairs.specs.Pairs.{AreInOrder}
 use Rattle.smap_pairs.specs.VirtualLines.{line_of_byte}
-use Rattle.smap_pairs.proofs.line_places.LineSeen.find_places.Given as goal
+use Rattle.smap_pairs.proofs.line_seen.LineSeen.find_places.Given as goal
 
 -- the places of the pairs so far were found, at most one for each; both lines, with their frames, are not behind the pairs that are left; and the room is there
 abbrev pub invariant-loop-pair : goal.invariant-loop-pair

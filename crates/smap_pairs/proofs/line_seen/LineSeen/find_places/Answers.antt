@@ -3,7 +3,7 @@ use Rattle.std.specs.List.{filter_map}
 use Rattle.smap_pairs.specs.LinePlaces.{place_of, places_in}
 use Rattle.smap_pairs.specs.declared.pairs.Pair.{Pair}
 use Rattle.smap_pairs.proofs.LinePlacesLaws.{left_behind, placed, none_left, with_none, with_one}
-use Rattle.smap_pairs.proofs.line_places.LineSeen.find_places.Goals as goal
+use Rattle.smap_pairs.proofs.line_seen.LineSeen.find_places.Goals as goal
 
 pub loop-pair-preserved-in_ok-push : goal.loop-pair-preserved-in_ok-push
 loop-pair-preserved-in_ok-push g c =
@@ -12,7 +12,7 @@ loop-pair-preserved-in_ok-push g c =
     let pair : Pair = c.in-Some.pair.now in
     let later : List Pair = c.in-Some.later.now in
     let is = c.in-Some.ensures.cases.0 in
-    let place = placed known self.text.now self.seen.now self.pairs.now pair self.strings.now self.lines.now c.requires.strings c.requires.lines
+    let place = placed known self.text.now self.seen.now self.pairs.now pair self.strings.now self.lines.now c.requires.seen.strings c.requires.seen.lines
     _ _ _ _ _ _ c.in_ok-in_line.ensures.place c.in_ok-string.ensures.index c.in_ok-string.ensures.frame c.in_ok-line.ensures.index c.in_ok-line.ensures.frame
     c.in_ok-place.ensures.place in
     let was = c.loop-pair.invariant in
@@ -38,7 +38,7 @@ loop-pair-preserved g c =
     let pair : Pair = c.in-Some.pair.now in
     let later : List Pair = c.in-Some.later.now in
     let is = c.in-Some.ensures.cases.0 in
-    let place = placed known self.text.now self.seen.now self.pairs.now pair self.strings.now self.lines.now c.requires.strings c.requires.lines
+    let place = placed known self.text.now self.seen.now self.pairs.now pair self.strings.now self.lines.now c.requires.seen.strings c.requires.seen.lines
     _ _ _ _ _ _ c.in_ok-in_line.ensures.place c.in_ok-string.ensures.index c.in_ok-string.ensures.frame c.in_ok-line.ensures.index c.in_ok-line.ensures.frame
     c.in_ok-place.ensures.place in
     let was = c.loop-pair.invariant in
@@ -62,4 +62,4 @@ returns-clause-places g c =
     let known = g.K.KnownUrls.known c.args.known.now in
     none_left (place_of known self.text.now self.seen.now self.pairs.now) self.pairs.now c.loop-pair.places.items c.loop-pair.rest.now
     c.loop-pair.invariant.places c.in_default.ensures.cases
-    ∙ ap (λ (l : List Pair). filter_map (place_of known self.text.now self.seen.now l) l) c.requires.pairs
+    ∙ ap (λ (l : List Pair). filter_map (place_of known self.text.now self.seen.now l) l) c.requires.seen.pairs

@@ -1,7 +1,7 @@
 use Rattle.std.proofs.Common.{ap, sym, take, ◌∙◌}
 use Rattle.std.proofs.lemmas.List.{take-map}
 use Rattle.smap_pairs.specs.declared.seen.SeenByte.{SeenByte}
-use Rattle.smap_pairs.proofs.line_places.LineSeen.pair_place.Goals as goal
+use Rattle.smap_pairs.proofs.line_seen.LineSeen.pair_place.Goals as goal
 
 pub note-requires : goal.note-requires
 note-requires g c =
