@@ -1,11 +1,11 @@
 -- What a run of the program does to its streams, and the status with which it ends.
-use Rattle.std.specs.Prelude.{◌≡◌, ℕ, Bool, List, [], MatchBool, None, map, option_map, string_bytes, true}
+use Rattle.std.specs.Prelude.{◌≡◌, ℕ, Bool, List, [], MatchBool, None, false, option_map, string_bytes, true}
 use Rattle.smap_command.specs.Limits.{usual_interval}
-use Rattle.smap_command.specs.Reading.{reading_of}
+use Rattle.smap_command.specs.Runnable.{strips_ansi}
 pub use Rattle.smap_command.specs.Runnable.{IsRunnable}
 use Rattle.smap_check_answers.specs.Check.{ChecksAll, form_of, paths_of}
 use Rattle.smap_check_answers.specs.Explain.{ReportsCode}
-use Rattle.smap_check_answers.specs.Fit.{FitsPair, pairs_of}
+use Rattle.smap_check_answers.specs.Fit.{FitsAll}
 use Rattle.smap_compose_answers.specs.Compose.{ReportsComposed}
 use Rattle.smap_compose_answers.specs.ComposeAll.{ReportsAllComposed}
 use Rattle.smap_compose_answers.specs.Show.{shown_result}
@@ -17,13 +17,11 @@ use Rattle.smap_map_answers.specs.Positions.{PositionsReports}
 use Rattle.smap_map_answers.specs.Raw.{RawReports}
 use Rattle.smap_map_answers.specs.Sources.{ReportsSources, content_result}
 use Rattle.smap_command.specs.Options.{direction_of}
-use Rattle.smap_replies.specs.Arguments.{argument_of}
 use Rattle.smap_replies.specs.Files.{MayRead}
-use Rattle.smap_replies.specs.InTurn.{ReportsEach}
 use Rattle.smap_replies.specs.Map.{IsLine, IsResult, ReportsMap}
 use Rattle.smap_replies.specs.Runs.{ReportsAside, ReportsUnread, RunsOne}
 use Rattle.smap_replies.specs.Streams.{Streams}
-use Rattle.smap_replies.specs.Why.{ReportsMapWhy}
+use Rattle.smap_replies.specs.Why.{ReportsChosen, ReportsMapWhy}
 use Rattle.smap_sequences.specs.Sequences.{IsWaiting, most_sequences}
 use Rattle.smap_sequences.specs.Source.{without_seen}
 use Rattle.smap_text_answers.specs.Rewrite.{RunsRewrite}
@@ -40,25 +38,20 @@ Runs Reads hint (Check path base interval options) = λ status before after. (af
 Runs Reads hint (Show path base options) = RunsOne (ReportsAside (ReportsMap Reads 0 (string_bytes path) base usual_interval (IsResult (shown_result options))))
 Runs Reads hint (Lookup path line column base interval after options) =
     RunsOne (ReportsAside (ReportsMapWhy Reads options.explain 0 (string_bytes path) base interval (IsLine (lookup_print (direction_of after) options line column))))
-Runs Reads hint (Generated asked) = RunsOne (ReportsAside
-    (ReportsMapWhy Reads asked.options.explain 0 (string_bytes asked.map.path) asked.map.base asked.map.interval
-    (IsResult (generated_result asked))))
-Runs Reads hint (Positions asked) = RunsOne (PositionsReports Reads (string_bytes asked.map.path) asked.map.base asked.map.interval
-    asked.options)
-Runs Reads hint (Mappings asked) = RunsOne (ReportsUnread (MappingsReports Reads (string_bytes asked.map.path) asked.map.base asked.map.interval
-    asked.options))
-Runs Reads hint (Sources asked) = RunsOne (ReportsAside (ReportsMap Reads 0 (string_bytes asked.map.path) asked.map.base asked.map.interval
-    (ReportsSources Reads asked.options (option_map string_bytes asked.generated))))
+Runs Reads hint (Generated asked) =
+    RunsOne (ReportsAside (ReportsChosen Reads asked.options.explain asked.map (IsResult (generated_result asked))))
+Runs Reads hint (Positions asked) = RunsOne (PositionsReports Reads asked)
+Runs Reads hint (Mappings asked) = RunsOne (ReportsUnread (MappingsReports Reads asked))
+Runs Reads hint (Sources asked) =
+    RunsOne (ReportsAside (ReportsChosen Reads false asked.map (ReportsSources Reads asked.options (option_map string_bytes asked.generated))))
 Runs Reads hint (SourceContent asked) =
     RunsOne (ReportsAside (ReportsMap Reads 0 (string_bytes asked.path) None usual_interval (IsResult (content_result asked.source))))
 Runs Reads hint (Rewrite maps base interval hide_ignored options) = RunsRewrite Reads base interval maps.items hide_ignored options hint
 Runs Reads hint (Locate asked) = RunsLocate Reads asked
 Runs Reads hint (Compose outer source inner base options) =
     RunsOne (ReportsAside (ReportsComposed Reads options (string_bytes outer) source (string_bytes inner) base))
-Runs Reads hint (ComposeAll asked) = RunsOne (ReportsAside (ReportsAllComposed Reads asked.options (string_bytes asked.outer)
-    (map argument_of asked.inners.items) (option_map string_bytes asked.list) asked.base))
-Runs Reads hint (Fit asked) = λ status before after. (after.input ≡ before.input)
-    × ReportsEach (FitsPair Reads None usual_interval asked.options) 0 (pairs_of (map string_bytes asked.paths.items)) status before.sinks after.sinks
+Runs Reads hint (ComposeAll asked) = RunsOne (ReportsAside (ReportsAllComposed Reads asked))
+Runs Reads hint (Fit asked) = λ status before after. (after.input ≡ before.input) × FitsAll Reads asked status before.sinks after.sinks
 Runs Reads hint (Explain asked) = RunsOne (ReportsAside (ReportsCode (option_map string_bytes asked.code)))
 
 -- the streams, with an input without its control sequences, where `held` came of it and was not read, and `most` are still left out
@@ -69,7 +62,7 @@ without_input held most streams = record streams { input = without_seen held mos
 -- of it and was not read may still become one
 abbrev pub RunsOver : MayRead → (hint : Bool) → Command → (status : ℕ) → (before after : Streams) → Type 0
 RunsOver Reads hint command status before after =
-    MatchBool (reading_of command).strips_ansi
+    MatchBool (strips_ansi command)
     ((held : List ℕ) × (most : ℕ) × Runs Reads hint command status (without_input [] most_sequences before) (without_input held most after)
     × (after.input.failed ≡ true → IsWaiting held))
     (Runs Reads hint command status before after)

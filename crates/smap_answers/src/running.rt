@@ -1,14 +1,14 @@
 //! Running a command over its files and streams.
-ghost use Rattle.std.specs.Prelude.{◌≡◌, false, None, Option};
+ghost use Rattle.std.specs.Prelude.{◌≡◌, false, None, Option, option_copied};
 ghost use Rattle.smap_replies.specs.Files.{gives_loaded};
+ghost use Rattle.smap_answers.specs.Private.Place.{place_of};
 ghost use Rattle.smap_answers.specs.Run.{Runs, RunsOver};
-ghost use Rattle.smap_command.specs.Reading.{reading_of};
-ghost use Rattle.smap_command.specs.Runnable.{IsRunnable};
+ghost use Rattle.smap_command.specs.Runnable.{IsRunnable, strips_ansi};
 ghost use Rattle.smap_replies.specs.Streams.{streams_seen};
 
 use smap_check_answers::{answer_check, answer_explain, answer_fit};
 use smap_codes::Code;
-use smap_command::{Command, Direction, Fit, Reading};
+use smap_command::{Command, Direction, USUAL_INTERVAL, Url};
 use smap_compose_answers::{answer_compose, answer_compose_all, answer_show};
 use smap_io::{ByteSink, ByteSource};
 use smap_locate_answers::answer_locate;
@@ -33,7 +33,7 @@ pub fn run<R: ByteSource, W: ByteSink, E: ByteSink>(
     errors: &mut E,
 ) -> u8
     requires command { IsRunnable command.now }
-    requires as_it_is { (reading_of command.now).strips_ansi ≡ false }
+    requires as_it_is { strips_ansi command.now ≡ false }
     requires input_works { (R.seen input.old).failed ≡ false }
     requires output_works { (W.seen output.old).failed ≡ false }
     requires errors_work { (E.seen errors.old).failed ≡ false }
@@ -80,8 +80,7 @@ pub fn run_reading<F: FileReader, R: ByteSource, W: ByteSink, E: ByteSink>(
         (streams_seen (R.seen input) (W.seen output.old) (E.seen errors.old) first.old)
         (streams_seen (R.seen result.1) (W.seen output.new) (E.seen errors.new) first.new) }
 {
-    let Reading { strips_ansi, .. } = command.reading();
-    if !strips_ansi {
+    if !command.strips_ansi() {
         let status = run_over(
             alloc, reader, command, hint, &mut input, output, errors, first,
         );
@@ -92,6 +91,22 @@ pub fn run_reading<F: FileReader, R: ByteSource, W: ByteSink, E: ByteSink>(
         alloc, reader, command, hint, &mut text, output, errors, first,
     );
     (status, text.into_inner())
+}
+
+// The base and the interval of the checkpoints of a command that says them itself.
+fn place_of(command: &Command) -> (Option<&Url>, u32)
+    ensures base { option_copied result.0 ≡ (place_of command.now).0 }
+    ensures interval { result.1 ≡ (place_of command.now).1 }
+{
+    match command {
+        Command::Check { base, interval, .. }
+        | Command::Lookup { base, interval, .. }
+        | Command::Rewrite { base, interval, .. } => (base.as_ref(), *interval),
+        Command::Show { base, .. } | Command::Compose { base, .. } => {
+            (base.as_ref(), USUAL_INTERVAL)
+        }
+        _ => (None, USUAL_INTERVAL),
+    }
 }
 
 // Runs a command over an input as it is read.
@@ -113,11 +128,11 @@ fn run_over<F: FileReader, R: ByteSource, W: ByteSink, E: ByteSink>(
         (streams_seen (R.seen input.old) (W.seen output.old) (E.seen errors.old) first.old)
         (streams_seen (R.seen input.new) (W.seen output.new) (E.seen errors.new) first.new) }
 {
-    let reading = command.reading();
+    let (base, interval) = place_of(command);
     let maps = MapReader {
         files: reader,
-        base: reading.base,
-        interval: reading.interval,
+        base,
+        interval,
     };
     let outcome = match command {
         Command::Raw {
@@ -128,7 +143,7 @@ fn run_over<F: FileReader, R: ByteSource, W: ByteSink, E: ByteSink>(
         Command::Check { path, options, .. } => {
             return answer_check(alloc, &maps, path, options, output, errors, first);
         }
-        Command::Show { path, options, .. } => answer_show(alloc, &maps, path, *options),
+        Command::Show { path, options, .. } => answer_show(alloc, reader, path, base, *options),
         Command::Lookup {
             path,
             line,
@@ -144,11 +159,11 @@ fn run_over<F: FileReader, R: ByteSource, W: ByteSink, E: ByteSink>(
             Direction::of(*after),
             *options,
         ),
-        Command::Generated(asked) => answer_generated(alloc, &maps, asked),
-        Command::Positions(asked) => answer_positions(alloc, &maps, asked, input, output),
-        Command::Mappings(asked) => answer_mappings(alloc, &maps, asked, output),
-        Command::Sources(asked) => answer_sources(alloc, &maps, asked),
-        Command::SourceContent(asked) => answer_content(alloc, &maps, asked),
+        Command::Generated(asked) => answer_generated(alloc, reader, asked),
+        Command::Positions(asked) => answer_positions(alloc, reader, asked, input, output),
+        Command::Mappings(asked) => answer_mappings(alloc, reader, asked, output),
+        Command::Sources(asked) => answer_sources(alloc, reader, asked),
+        Command::SourceContent(asked) => answer_content(alloc, reader, asked),
         Command::Rewrite {
             maps: arguments,
             hide_ignored,
@@ -175,10 +190,10 @@ fn run_over<F: FileReader, R: ByteSource, W: ByteSink, E: ByteSink>(
             ..
         } => answer_compose(alloc, &maps, outer, *source, inner, *options),
         Command::ComposeAll(asked) => answer_compose_all(alloc, reader, asked),
-        Command::Fit(Fit { paths, options }) => {
-            return answer_fit(alloc, &maps, paths, *options, output, errors, first);
+        Command::Fit(asked) => {
+            return answer_fit(alloc, reader, asked, output, errors, first);
         }
-        Command::Explain(asked) => answer_explain(alloc, asked.code.as_deref()),
+        Command::Explain(asked) => answer_explain(alloc, asked),
     };
     report(&outcome, output, errors, first)
 }

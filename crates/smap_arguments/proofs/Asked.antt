@@ -28,7 +28,7 @@ use Rattle.smap_arguments.specs.CommandLine.{whole_name}
 use Rattle.smap_arguments.specs.Line.{asks_generated, is_lookup, line_for, line_of}
 use Rattle.smap_arguments.specs.declared.usage.Usage.{Usage}
 use Rattle.smap_arguments.specs.declared.usage.Usage.TheVariants.{Help, Words, Memory}
-use Rattle.smap_arguments.specs.Arguments.{HasArguments, HasCommand, HasValue, HasValues, IsInRange, SubcommandAsksFor}
+use Rattle.smap_arguments.specs.Arguments.{HasArguments, HasCommand, HasValue, HasValues, SubcommandAsksFor}
 use Rattle.smap_arguments.specs.Refusals.{IsNamedRefusal, IsRead, IsUsageOf, IsRefusalOf, SubcommandReports}
 use Rattle.smap_command.specs.declared.command.Command.{Command}
 use Rattle.smap_arguments.proofs.Rows.{AreReadRows, Keeps, first_none, flag_at, flag_default_keeps, flag_keeps, given_value, help_keeps}
@@ -525,11 +525,11 @@ failed_usage arguments kind Memory among is = tt
 -- what is read where clap finds no fault in the arguments
 pub read_line : (arguments : List Text) (subcommand : Option (Text × List Row)) → fault_of (line_of arguments) arguments ≡ []
     → subcommand_of (line_of arguments) arguments ≡ subcommand → (read : Result Command Usage)
-    → IfOk read (SubcommandAsksFor (asks_generated arguments) subcommand) → IfOk read IsInRange
+    → IfOk read (SubcommandAsksFor (asks_generated arguments) subcommand)
     → IfErr read (IsNamedRefusal (SubcommandReports (asks_generated arguments) subcommand)) → IsRead arguments (Ok read)
-read_line arguments subcommand none is (Ok command) asked in_range refused =
-    ((none, subst (λ s. SubcommandAsksFor (asks_generated arguments) s command) (sym is) asked), in_range)
-read_line arguments subcommand none is (Err (Help text)) asked in_range refused = refused
-read_line arguments subcommand none is (Err (Words text)) asked in_range refused =
+read_line arguments subcommand none is (Ok command) asked refused =
+    (none, subst (λ s. SubcommandAsksFor (asks_generated arguments) s command) (sym is) asked)
+read_line arguments subcommand none is (Err (Help text)) asked refused = refused
+read_line arguments subcommand none is (Err (Words text)) asked refused =
     (none, subst (λ s. SubcommandReports (asks_generated arguments) s (string_bytes text)) (sym is) refused)
-read_line arguments subcommand none is (Err Memory) asked in_range refused = tt
+read_line arguments subcommand none is (Err Memory) asked refused = tt

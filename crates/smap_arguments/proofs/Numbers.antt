@@ -13,9 +13,9 @@ use Rattle.clap.specs.declared.parser.matches.Found.{Found}
 use Rattle.clap.proofs.WalkLemmas.{one_text-rows}
 use Rattle.clap.proofs.CallerReads.{signed_reads}
 use Rattle.clap.specs.Words.{Row, one_of}
-use Rattle.smap_command.specs.Limits.{is_interval, limit, most_bytes, most_interval, usual_interval}
+use Rattle.smap_command.specs.Limits.{limit, most_bytes, most_interval, usual_interval}
 use Rattle.smap_arguments.specs.CommandLine.{bytes_number, interval_number, number}
-use Rattle.smap_arguments.specs.Arguments.{GivesInterval, GivesNumber, GivesNumberIfGiven, HasValue, HasValueIfGiven, IsIntervalOf, bytes_given}
+use Rattle.smap_arguments.specs.Arguments.{GivesBytes, GivesInterval, GivesNumber, GivesNumberIfGiven, HasValue, HasValueIfGiven, IsIntervalOf}
 
 -- how a `u32` is read from a text
 abbrev pub ReadsU32 : Text → Result ℕ ParseIntError → Type 0
@@ -78,17 +78,13 @@ position_read found name result has none reads = number_if_given 1 (limit + 1) (
 abbrev pub ReadsU64 : Text → Result ℕ ParseIntError → Type 0
 ReadsU64 text r = ParsesUnsigned 64 10 text r × ExplainsUnsignedError 10 text r × HasUnsignedDigitsIfOk text r
 
--- it is the one that is given, and as many bytes may be
-abbrev pub IsReadBytes : List Row → (name : Text) → (least : ℕ) → Option ℕ → Type 0
-IsReadBytes rows name least result = (result ≡ bytes_given rows name) × IfSome result (λ n. (least ≤ n) × (n ≤ most_bytes))
-
 pub bytes_read : (least : ℕ) (found : Found) (name : Text) (result : Option ℕ) → HasValueIfGiven (bytes_number least) (rows_of found) name
     → (one_text found name ≡ None → result ≡ None) → ((t : Text) → one_text found name ≡ Some t → ReadsOne ReadsU64 t result)
-    → IsReadBytes (rows_of found) name least result
+    → GivesBytes (rows_of found) name least result
 bytes_read least found name result has none reads = go (one_of name (rows_of found)) refl
   where
     Read : Option ℕ → Type 0
-    Read = IsReadBytes (rows_of found) name least
+    Read = GivesBytes (rows_of found) name least
 
     value : (text : Text) → one_of name (rows_of found) ≡ Some text → Accepts false (bytes_number least) text → (o : Option ℕ)
         → ReadsOne ReadsU64 text o → Read o
@@ -108,15 +104,15 @@ bytes_read least found name result has none reads = go (one_of name (rows_of fou
 
 -- ---- the interval
 
--- it is none, or one at which checkpoints may stand
+-- it is none, or this one
 abbrev pub IsReadInterval : List Row → Option ℕ → Type 0
 IsReadInterval rows None = GivesInterval rows usual_interval
-IsReadInterval rows (Some n) = GivesInterval rows n × (is_interval n ≡ true)
+IsReadInterval rows (Some n) = GivesInterval rows n
 
 -- which makes the usual one of none
 pub usual_or : (rows : List Row) (result : Option ℕ) → IsReadInterval rows result
-    → GivesInterval rows (unwrap_or result usual_interval) × (is_interval (unwrap_or result usual_interval) ≡ true)
-usual_or rows None read = (read, refl)
+    → GivesInterval rows (unwrap_or result usual_interval)
+usual_or rows None read = read
 usual_or rows (Some n) read = read
 
 pub interval_read : (found : Found) (result : Option ℕ) → HasValueIfGiven interval_number (rows_of found) (codes "K")
@@ -128,7 +124,7 @@ interval_read found result has none reads = go (one_of (codes "K") (rows_of foun
     Read = IsReadInterval (rows_of found)
 
     go : (o : Option Text) → one_of (codes "K") (rows_of found) ≡ o → Read result
-    go None is = subst Read (sym (none (one_text-rows found (codes "K") ∙ is))) (subst (λ text. IsIntervalOf text usual_interval) (sym is) refl)
+    go None is = subst Read (sym (none (one_text-rows found (codes "K") ∙ is))) (subst (λ text. IsIntervalOf text usual_interval) (sym is) refl, refl)
     go (Some text) is =
         let read = number_read 1 most_interval (omega arith) found (codes "K") result (has (subst IsSome (sym is) refl)) reads in
         let given = read.4 in

@@ -2,15 +2,19 @@
 use Rattle.std.proofs.Common.{◌≡◌, ◌∙◌, ◌<◌, ◌+◌, ℕ, Bool, true, false, List, [], ◌∷◌, ◌++◌, length, drop, Option, Some, None, refl, sym, ap, subst}
 use Rattle.std.proofs.Common.{◌≤◌, ◌&&◌, ap₂, cond, not, add-one, append-nil, append_assoc, drop-cons, get_or, inr}
 use Rattle.std.proofs.lemmas.List.{drop_all, get_or-map, length-map, map-append}
-use Rattle.std.specs.Prelude.{Err, IfErr, IfOk, Ok, Result, String, string_bytes}
+use Rattle.std.specs.Prelude.{Err, IfErr, IfOk, IfSome, Ok, Result, String, string_bytes}
 use Rattle.clap.specs.Faults.{fault_of}
 use Rattle.clap.specs.Kinds.{IsAmong, Kinds}
-use Rattle.clap.specs.Words.{Text, kind_of}
+use Rattle.clap.specs.Words.{Row, Text, kind_of}
 use Rattle.clap.specs.declared.error.Error.{Error}
 use Rattle.clap.specs.declared.error.kind.ErrorKind.{ErrorKind}
+use Rattle.smap_command.specs.Limits.{most_bytes}
+use Rattle.smap_command.specs.Runnable.{IsRunnable}
 use Rattle.smap_command.specs.declared.command.Command.{Command}
-use Rattle.smap_arguments.specs.Arguments.{ArgumentsAskFor, IsInRange, texts}
-use Rattle.smap_arguments.specs.Line.{is_lookup, line_of}
+use Rattle.smap_command.specs.declared.command.Command.TheVariants.{Raw, Rewrite}
+use Rattle.smap_arguments.specs.Arguments.{ArgumentsAskFor, NamedAsksFor, texts}
+use Rattle.smap_arguments.specs.CommandLine.{whole_name}
+use Rattle.smap_arguments.specs.Line.{asks_generated, is_lookup, line_of}
 use Rattle.smap_arguments.specs.Refusals.{IsRead, IsRefusalOf, ReportsRead}
 use Rattle.smap_arguments.specs.Spread.{IsPushed, is_faultless, position_of, read_arguments, spread, spread_at, spread_behind, spread_words}
 use Rattle.smap_arguments.specs.declared.usage.Usage.{Usage}
@@ -39,7 +43,7 @@ module _ (arguments : List Text) where
       go false = refl
 
   pub read_at_once : (read : Result Command Usage) → IsRead arguments (Ok read) → IsRead (read_arguments arguments) (Ok read)
-  read_at_once (Ok command) is = (subst (λ w. ArgumentsAskFor w command) (read_faultless is.0.0) is.0, is.1)
+  read_at_once (Ok command) is = subst (λ w. ArgumentsAskFor w command) (read_faultless is.0) is
   read_at_once (Err (Help text)) is = is
   read_at_once (Err (Words text)) is = subst (λ w. ReportsRead w (string_bytes text)) (read_faultless is.0) is
   read_at_once (Err Memory) is = is
@@ -49,10 +53,20 @@ module _ (arguments : List Text) where
   read_spread error is lookup =
       sym (ap₂ (λ a b. cond (a && not b) (spread arguments) arguments) lookup (has_fault (fault_of (line_of arguments) arguments) (kind_of error) is))
 
+-- a command that is asked for can be run
+can_run : (name : Text) (rows : List Row) (command : Command) → NamedAsksFor name rows command → IsRunnable command
+can_run name rows (Raw line column interval) asked = asked.3.1
+can_run name rows (Rewrite maps base interval hide_ignored options) asked = (few options.cache_bytes asked.5.2.1, asked.5.3.1)
+  where
+    few : (given : Option ℕ) → IfSome given (λ bytes. (0 ≤ bytes) × (bytes ≤ most_bytes)) → IfSome given (λ bytes. bytes ≤ most_bytes)
+    few None is = tt
+    few (Some bytes) is = is.1
+can_run name rows other asked = tt
+
 -- what `parse` gives where clap finds no fault in the words
 pub parsed : (words : List Text) (read : Result Command Usage) → IsRead words (Ok read)
-    → IfOk read (ArgumentsAskFor words) × IfOk read IsInRange × IfErr read (IsRefusalOf words)
-parsed words (Ok command) is = (is.0, is.1, tt)
+    → IfOk read (ArgumentsAskFor words) × IfOk read IsRunnable × IfErr read (IsRefusalOf words)
+parsed words (Ok command) is = (is, can_run (whole_name (asks_generated words) is.1.0) is.1.1 command is.1.3, tt)
 parsed words (Err (Help text)) is = absurd is
 parsed words (Err (Words text)) is = (tt, tt, inr is)
 parsed words (Err Memory) is = (tt, tt, tt)

@@ -5,9 +5,8 @@ use Rattle.std.specs.List.{AllZip, list_any}
 use Rattle.std.specs.Option.{IsSome}
 use Rattle.std.specs.Str.Parse.{digits_value, without_leading_plus}
 use Rattle.std.specs.String.{string_bytes}
-use Rattle.smap_command.specs.Limits.{limit, most_context, usual_interval}
+use Rattle.smap_command.specs.Limits.{is_interval, limit, most_bytes, most_context, usual_interval}
 use Rattle.smap_command.specs.Options.{direction_of, is_json}
-use Rattle.smap_command.specs.Runnable.{IsRunnable}
 use Rattle.url.specs.Parser.{parse_url}
 use Rattle.url.specs.Parts.{Parts}
 use Rattle.clap.specs.Faults.{fault_of}
@@ -26,19 +25,6 @@ use Rattle.smap_command.specs.declared.options.WriteOptions.{WriteOptions}
 use Rattle.smap_arguments.specs.CommandLine.{named, whole_name}
 use Rattle.smap_arguments.specs.Excludes.{excluded_line}
 use Rattle.smap_arguments.specs.Line.{asks_generated, line_of}
-
--- the lines and columns are ones that there can be, counted from 0, and as many lines may be shown
-abbrev pub HasPosition : Command → Type 0
-HasPosition (Raw line column interval) = (line ≤ limit) × (column ≤ limit)
-HasPosition (Lookup path line column base interval after options) = (line ≤ limit) × (column ≤ limit)
-HasPosition (Generated asked) = (asked.line ≤ limit) × IfSome asked.column (λ column. column ≤ limit)
-HasPosition (Mappings asked) = IfSome asked.options.line (λ line. line ≤ limit)
-HasPosition (Locate asked) = IfSome asked.options.context (λ lines. lines ≤ most_context)
-HasPosition other = ⊤
-
--- the same, and the command can be run
-abbrev pub IsInRange : Command → Type 0
-IsInRange command = HasPosition command × IsRunnable command
 
 -- the arguments as text
 abbrev pub texts : {A : Type 0} → List (String A) → List Text
@@ -64,6 +50,15 @@ GivesNumber rows name n = (text : Text) × (one_of name rows ≡ Some text)
 abbrev pub GivesNumberIfGiven : List Row → (name : Text) → Option ℕ → Type 0
 GivesNumberIfGiven rows name None = one_of name rows ≡ None
 GivesNumberIfGiven rows name (Some n) = GivesNumber rows name n
+
+-- it is a line or a column that there can be, which counts from 1, and n from 0
+abbrev pub GivesPosition : List Row → (name : Text) → ℕ → Type 0
+GivesPosition rows name n = GivesNumber rows name (n + 1) × (n ≤ limit)
+
+-- the same, where it is given
+abbrev pub GivesPositionIfGiven : List Row → (name : Text) → Option ℕ → Type 0
+GivesPositionIfGiven rows name None = one_of name rows ≡ None
+GivesPositionIfGiven rows name (Some n) = GivesPosition rows name n
 
 -- it is this text
 abbrev pub GivesText : List Row → (name text : Text) → Type 0
@@ -91,9 +86,9 @@ abbrev pub IsIntervalOf : Option Text → ℕ → Type 0
 IsIntervalOf None interval = interval ≡ usual_interval
 IsIntervalOf (Some text) interval = digits_value 10 (without_leading_plus text) ≡ interval
 
--- the interval
+-- the interval, at which checkpoints may stand
 abbrev pub GivesInterval : List Row → ℕ → Type 0
-GivesInterval rows = IsIntervalOf (one_of (codes "K") rows)
+GivesInterval rows interval = IsIntervalOf (one_of (codes "K") rows) interval × (is_interval interval ≡ true)
 
 -- the text, where there is one, says whether a flag is given
 abbrev pub IsFlagOf : Option Text → Bool → Type 0
@@ -140,10 +135,14 @@ HasMaps maps list = (maps ≢ []) ⊎ IsSome list
 abbrev pub bytes_given : List Row → (name : Text) → Option ℕ
 bytes_given rows name = option_map (λ text. digits_value 10 (without_leading_plus text)) (one_of name rows)
 
+-- it is this one, and as many bytes may be
+abbrev pub GivesBytes : List Row → (name : Text) → (least : ℕ) → Option ℕ → Type 0
+GivesBytes rows name least given = (given ≡ bytes_given rows name) × IfSome given (λ bytes. (least ≤ bytes) × (bytes ≤ most_bytes))
+
 -- the further options of `rewrite`
 abbrev pub GivesFurther : List Row → FurtherOptions → Type 0
 GivesFurther rows options = GivesList rows options.list × GivesFlag rows (codes "anywhere") options.anywhere
-    × (options.cache_bytes ≡ bytes_given rows (codes "cache")) × (options.limit_bytes ≡ bytes_given rows (codes "limit"))
+    × GivesBytes rows (codes "cache") 0 options.cache_bytes × GivesBytes rows (codes "limit") 1 options.limit_bytes
     × GivesFlag rows (codes "summary") options.summary × GivesFlag rows (codes "strip-ansi") options.strip_ansi
     × (texts options.hide.items ≡ words_of rows (codes "TEXT")) × GivesFlag rows (codes "explain") options.explain
     × GivesFlag rows (codes "paths") options.paths
@@ -158,8 +157,8 @@ GivesAnswers rows options = (after : Bool) × GivesFlag rows (codes "after") aft
 abbrev pub GivesLocate : List Row → asked.Locate → Type 0
 GivesLocate rows asked = GivesPairs rows (codes "URL=FILE") asked.maps.items × GivesBase rows asked.base
     × GivesInterval rows asked.interval × GivesList rows asked.list × GivesFlag rows (codes "paths") asked.paths
-    × (asked.cache_bytes ≡ bytes_given rows (codes "cache")) × GivesAnswers rows asked.options
-    × GivesNumberIfGiven rows (codes "N") asked.options.context
+    × GivesBytes rows (codes "cache") 0 asked.cache_bytes × GivesAnswers rows asked.options
+    × GivesNumberIfGiven rows (codes "N") asked.options.context × IfSome asked.options.context (λ lines. lines ≤ most_context)
     × ((is_some asked.options.context && not (is_json asked.options.form)) ≡ false)
     × ((is_some asked.base && asked.paths) ≡ false)
     × HasMaps asked.maps.items (first_of (codes "LIST") rows)
@@ -211,10 +210,10 @@ abbrev pub GivesMap : List Row → (name : Text) → MapChoice → Type 0
 GivesMap rows name map = GivesText rows name (string_bytes map.path) × GivesBase rows map.base
 
 -- what clap reads for the arguments of the command that is called so, with the option that makes it another, asks for this
--- command, with lines and columns counted from 1
+-- command
 abbrev pub NamedAsksFor : (name : Text) → List Row → Command → Type 0
-NamedAsksFor name rows (Raw line column interval) = (codes "raw" ≡ name) × GivesNumber rows (codes "LINE") (line + 1)
-    × GivesNumber rows (codes "COLUMN") (column + 1) × GivesInterval rows interval
+NamedAsksFor name rows (Raw line column interval) = (codes "raw" ≡ name) × GivesPosition rows (codes "LINE") line
+    × GivesPosition rows (codes "COLUMN") column × GivesInterval rows interval
 NamedAsksFor name rows (Check path base interval options) = (codes "check" ≡ name)
     × GivesTexts rows (codes "PATH") (string_bytes path ∷ texts options.others.items) × GivesBase rows base
     × GivesInterval rows interval × GivesFlag rows (codes "json") (is_json options.form)
@@ -223,20 +222,20 @@ NamedAsksFor name rows (Show path base options) = (codes "show" ≡ name) × Giv
     × GivesBase rows base × GivesOptions rows options
 NamedAsksFor name rows (Lookup path line column base interval after options) = (codes "lookup" ≡ name)
     × GivesText rows (codes "PATH") (string_bytes path)
-    × GivesNumber rows (codes "LINE") (line + 1) × GivesNumber rows (codes "COLUMN") (column + 1) × GivesBase rows base
+    × GivesPosition rows (codes "LINE") line × GivesPosition rows (codes "COLUMN") column × GivesBase rows base
     × GivesInterval rows interval × GivesFlag rows (codes "after") after × GivesFlag rows (codes "json") (is_json options.form)
     × GivesFlag rows (codes "explain") options.explain
 NamedAsksFor name rows (Generated asked) = (codes "lookup --generated" ≡ name) × GivesMap rows (codes "PATH") asked.map
     × (asked.map.interval ≡ usual_interval)
-    × GivesText rows (codes "SOURCE") (string_bytes asked.source) × GivesNumber rows (codes "LINE") (asked.line + 1)
-    × GivesNumberIfGiven rows (codes "COLUMN") (option_map (λ column. column + 1) asked.column)
+    × GivesText rows (codes "SOURCE") (string_bytes asked.source) × GivesPosition rows (codes "LINE") asked.line
+    × GivesPositionIfGiven rows (codes "COLUMN") asked.column
     × GivesFlag rows (codes "after") asked.after × GivesFlag rows (codes "json") (is_json asked.options.form)
     × GivesFlag rows (codes "explain") asked.options.explain
 NamedAsksFor name rows (Positions asked) = (codes "positions" ≡ name) × GivesMap rows (codes "MAP") asked.map
     × GivesInterval rows asked.map.interval × GivesAnswers rows asked.options × (asked.options.context ≡ None)
 NamedAsksFor name rows (Mappings asked) = (codes "mappings" ≡ name) × GivesMap rows (codes "MAP") asked.map
     × (asked.map.interval ≡ usual_interval)
-    × GivesNumberIfGiven rows (codes "LINE") (option_map (λ line. line + 1) asked.options.line)
+    × GivesPositionIfGiven rows (codes "LINE") asked.options.line
     × GivesFlag rows (codes "json") (is_json asked.options.form)
 NamedAsksFor name rows (Sources asked) = (codes "sources" ≡ name) × GivesMap rows (codes "MAP") asked.map
     × (asked.map.interval ≡ usual_interval)

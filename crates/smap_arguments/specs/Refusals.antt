@@ -15,7 +15,7 @@ use Rattle.clap.specs.declared.error.kind.ErrorKind.{ErrorKind}
 use Rattle.clap.specs.declared.error.kind.ErrorKind.TheVariants.{DisplayHelp, DisplayVersion}
 use Rattle.smap_arguments.specs.CommandLine.{whole_name}
 use Rattle.smap_arguments.specs.Arguments.{ArgumentsAskFor, GivesBase, GivesFlag, GivesFurther, GivesNumberIfGiven, GivesOrder, GivesPairs, GivesText, GivesTexts, HasMaps, HasNoInners, has_equals_sign, has_inner}
-use Rattle.smap_arguments.specs.Arguments.{IsInRange, has_listing, words_of}
+use Rattle.smap_arguments.specs.Arguments.{has_listing, words_of}
 use Rattle.smap_arguments.specs.Excludes.{base_and_paths_line, excluded_line}
 use Rattle.smap_arguments.specs.Line.{asks_generated, line_of}
 use Rattle.smap_command.specs.declared.command.Command.{Command}
@@ -260,6 +260,6 @@ IsRefusalOf arguments Memory = ⊤
 
 -- the arguments ask for this as they are, or it is refused; or clap finds a fault in them
 abbrev pub IsRead : List Text → Result (Result Command Usage) Error → Type 0
-IsRead arguments (Ok (Ok command)) = ArgumentsAskFor arguments command × IsInRange command
+IsRead arguments (Ok (Ok command)) = ArgumentsAskFor arguments command
 IsRead arguments (Ok (Err usage)) = IsNamedRefusal (ReportsRead arguments) usage
 IsRead arguments (Err error) = IsAmong (kind_of error) (fault_of (line_of arguments) arguments)

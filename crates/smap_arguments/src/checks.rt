@@ -2,7 +2,7 @@
 ghost use Rattle.std.specs.Prelude.{◌≡◌, IfErr, IfOk, codes};
 ghost use Rattle.clap.specs.Words.{found_of, rows_of};
 ghost use Rattle.smap_arguments.specs.CommandLine.{named};
-ghost use Rattle.smap_arguments.specs.Arguments.{GivesBase, HasArguments, IsInRange, NamedAsksFor};
+ghost use Rattle.smap_arguments.specs.Arguments.{GivesBase, HasArguments, NamedAsksFor};
 ghost use Rattle.smap_arguments.specs.Refusals.{IsNamedRefusal, ReportsNoGenerated};
 
 use crate::mistakes::NO_GENERATED;
@@ -21,7 +21,6 @@ pub fn check_in(
     requires required { HasArguments (named (codes "check")) (rows_of (found_of matches.now)) }
     requires given { GivesBase (rows_of (found_of matches.now)) base }
     ensures asked { IfOk result (NamedAsksFor (codes "check") (rows_of (found_of matches.now))) }
-    ensures in_range { IfOk result IsInRange }
 {
     let (interval, explain) = (interval_in(matches), flag_in(matches, "explain"));
     let (first, others) = texts_in(matches, "PATH").split_first().unwrap();
@@ -41,7 +40,6 @@ pub fn check_in(
 pub fn fit_in(alloc: Global, matches: &ArgMatches<'_>) -> Result<Command, Usage>
     requires { HasArguments (named (codes "fit")) (rows_of (found_of matches.now)) }
     ensures asked { IfOk result (NamedAsksFor (codes "fit") (rows_of (found_of matches.now))) }
-    ensures in_range { IfOk result IsInRange }
     ensures refused { IfErr result (IsNamedRefusal
         (ReportsNoGenerated (rows_of (found_of matches.now)))) }
 {
@@ -60,7 +58,6 @@ pub fn fit_in(alloc: Global, matches: &ArgMatches<'_>) -> Result<Command, Usage>
 
 pub fn explain_in(alloc: Global, matches: &ArgMatches<'_>) -> Result<Command, AllocError>
     ensures asked { IfOk result (NamedAsksFor (codes "explain") (rows_of (found_of matches.now))) }
-    ensures in_range { IfOk result IsInRange }
 {
     Ok(Command::Explain(Explain {
         code: text_if_given(alloc, matches, "CODE")?,

@@ -2,7 +2,7 @@
 ghost use Rattle.std.specs.Prelude.{◌≡◌, IfErr, IfOk};
 ghost use Rattle.clap.specs.Words.{found_of, rows_of, subcommand_rows_of};
 ghost use Rattle.smap_arguments.specs.CommandLine.{named, whole_name};
-ghost use Rattle.smap_arguments.specs.Arguments.{GivesBase, HasArguments, HasCommand, IsInRange, NamedAsksFor};
+ghost use Rattle.smap_arguments.specs.Arguments.{GivesBase, HasArguments, HasCommand, NamedAsksFor};
 ghost use Rattle.smap_arguments.specs.Arguments.{SubcommandAsksFor};
 ghost use Rattle.smap_arguments.specs.Refusals.{IsNamedRefusal, SubcommandReports, ReportsRefusal};
 
@@ -27,7 +27,6 @@ pub fn command_in(
 ) -> Result<Command, Usage>
     requires { HasCommand is_generated (subcommand_rows_of matches.now) }
     ensures asked { IfOk result (SubcommandAsksFor is_generated (subcommand_rows_of matches.now)) }
-    ensures in_range { IfOk result IsInRange }
     ensures refused { IfErr result (IsNamedRefusal
         (SubcommandReports is_generated (subcommand_rows_of matches.now))) }
 {
@@ -57,7 +56,6 @@ fn named_command(
     requires required { HasArguments (named name.now) (rows_of (found_of matches.now)) }
     requires given { GivesBase (rows_of (found_of matches.now)) base }
     ensures asked { IfOk result (NamedAsksFor name.now (rows_of (found_of matches.now))) }
-    ensures in_range { IfOk result IsInRange }
     ensures refused { IfErr result (IsNamedRefusal
         (ReportsRefusal name.now (rows_of (found_of matches.now)))) }
 {

@@ -2,7 +2,7 @@
 ghost use Rattle.std.specs.Prelude.{◌≡◌, IfErr, IfOk, codes};
 ghost use Rattle.clap.specs.Words.{found_of, rows_of};
 ghost use Rattle.smap_arguments.specs.CommandLine.{named};
-ghost use Rattle.smap_arguments.specs.Arguments.{GivesBase, HasArguments, IsInRange, NamedAsksFor};
+ghost use Rattle.smap_arguments.specs.Arguments.{GivesBase, HasArguments, NamedAsksFor};
 ghost use Rattle.smap_arguments.specs.Refusals.{IsNamedRefusal, ReportsLocate};
 
 use crate::mistakes::{BASE_AND_PATHS, CONTEXT_ALONE};
@@ -24,7 +24,6 @@ pub fn locate_in(
     requires required { HasArguments (named (codes "locate")) (rows_of (found_of matches.now)) }
     requires given { GivesBase (rows_of (found_of matches.now)) base }
     ensures asked { IfOk result (NamedAsksFor (codes "locate") (rows_of (found_of matches.now))) }
-    ensures in_range { IfOk result IsInRange }
     ensures refused { IfErr result (IsNamedRefusal
         (ReportsLocate (rows_of (found_of matches.now)))) }
 {

@@ -2,7 +2,7 @@
 ghost use Rattle.std.specs.Prelude.{◌≡◌, IfOk, codes};
 ghost use Rattle.clap.specs.Words.{found_of, rows_of};
 ghost use Rattle.smap_arguments.specs.CommandLine.{named};
-ghost use Rattle.smap_arguments.specs.Arguments.{GivesBase, HasArguments, IsInRange, NamedAsksFor};
+ghost use Rattle.smap_arguments.specs.Arguments.{GivesBase, HasArguments, NamedAsksFor};
 
 use crate::values::{
     flag_in, form_in, interval_in, position_number_if_given, position_number_in, text_in,
@@ -23,7 +23,6 @@ pub fn lookup_in(
     requires required { HasArguments (named (codes "lookup")) (rows_of (found_of matches.now)) }
     requires given { GivesBase (rows_of (found_of matches.now)) base }
     ensures asked { IfOk result (NamedAsksFor (codes "lookup") (rows_of (found_of matches.now))) }
-    ensures in_range { IfOk result IsInRange }
 {
     Ok(Command::Lookup {
         path: text_in(alloc, matches, "PATH")?,
@@ -50,7 +49,6 @@ pub fn generated_in(
     requires given { GivesBase (rows_of (found_of matches.now)) base }
     ensures asked { IfOk result
         (NamedAsksFor (codes "lookup --generated") (rows_of (found_of matches.now))) }
-    ensures in_range { IfOk result IsInRange }
 {
     Ok(Command::Generated(Generated {
         map: MapChoice {
@@ -78,7 +76,6 @@ pub fn positions_in(
     requires given { GivesBase (rows_of (found_of matches.now)) base }
     ensures asked { IfOk result
         (NamedAsksFor (codes "positions") (rows_of (found_of matches.now))) }
-    ensures in_range { IfOk result IsInRange }
 {
     Ok(Command::Positions(Positions {
         map: MapChoice {
@@ -103,7 +100,6 @@ pub fn mappings_in(
     requires given { GivesBase (rows_of (found_of matches.now)) base }
     ensures asked { IfOk result
         (NamedAsksFor (codes "mappings") (rows_of (found_of matches.now))) }
-    ensures in_range { IfOk result IsInRange }
 {
     Ok(Command::Mappings(Mappings {
         map: MapChoice {
@@ -121,7 +117,6 @@ pub fn mappings_in(
 pub fn raw_in(matches: &ArgMatches<'_>) -> Command
     requires { HasArguments (named (codes "raw")) (rows_of (found_of matches.now)) }
     ensures asked { NamedAsksFor (codes "raw") (rows_of (found_of matches.now)) result }
-    ensures in_range { IsInRange result }
 {
     Command::Raw {
         line: position_number_in(matches, "LINE"),

@@ -1,7 +1,8 @@
 //! The arguments of the command line, read into a command.
 ghost use Rattle.std.specs.Prelude.{IfErr, IfOk};
 ghost use Rattle.clap.specs.Words.{kind_of};
-ghost use Rattle.smap_arguments.specs.Arguments.{IsInRange, ArgumentsAskFor, texts};
+ghost use Rattle.smap_command.specs.Runnable.{IsRunnable};
+ghost use Rattle.smap_arguments.specs.Arguments.{ArgumentsAskFor, texts};
 ghost use Rattle.smap_arguments.specs.Refusals.{IsRead, IsRefusalOf, IsUsageOf};
 ghost use Rattle.smap_arguments.specs.Spread.{read_arguments};
 
@@ -18,7 +19,7 @@ use std::alloc::Global;
 /// one word. An `Err` has the text for the user, as clap writes it.
 pub fn parse(alloc: Global, arguments: Vec<String>) -> Result<Command, Usage>
     ensures asked { IfOk result (ArgumentsAskFor (read_arguments (texts arguments.items))) }
-    ensures in_range { IfOk result IsInRange }
+    ensures can_run { IfOk result IsRunnable }
     ensures refused { IfErr result (IsRefusalOf (read_arguments (texts arguments.items))) }
 {
     match read_arguments(alloc, &arguments) {

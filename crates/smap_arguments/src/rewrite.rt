@@ -1,9 +1,8 @@
 //! What `rewrite` is asked.
 ghost use Rattle.std.specs.Prelude.{◌≡◌, IfErr, IfOk, codes, option_map};
 ghost use Rattle.clap.specs.Words.{found_of, rows_of};
-ghost use Rattle.smap_command.specs.Options.{HasBytes};
 ghost use Rattle.smap_arguments.specs.CommandLine.{named};
-ghost use Rattle.smap_arguments.specs.Arguments.{GivesBase, GivesFurther, HasArguments, IsInRange, NamedAsksFor};
+ghost use Rattle.smap_arguments.specs.Arguments.{GivesBase, GivesFurther, HasArguments, NamedAsksFor};
 ghost use Rattle.smap_arguments.specs.Excludes.{excluded_line, has_any_url, is_any_url};
 ghost use Rattle.smap_arguments.specs.Refusals.{IsNamedRefusal, ReportsRewrite};
 
@@ -25,7 +24,6 @@ pub fn rewrite_in(
     requires required { HasArguments (named (codes "rewrite")) (rows_of (found_of matches.now)) }
     requires given { GivesBase (rows_of (found_of matches.now)) base }
     ensures asked { IfOk result (NamedAsksFor (codes "rewrite") (rows_of (found_of matches.now))) }
-    ensures in_range { IfOk result IsInRange }
     ensures refused { IfErr result (IsNamedRefusal
         (ReportsRewrite (rows_of (found_of matches.now)))) }
 {
@@ -88,7 +86,6 @@ fn is_any_url(url: &str) -> bool
 fn further_in(alloc: Global, matches: &ArgMatches<'_>) -> Result<FurtherOptions, AllocError>
     requires { HasArguments (named (codes "rewrite")) (rows_of (found_of matches.now)) }
     ensures given { IfOk result (GivesFurther (rows_of (found_of matches.now))) }
-    ensures in_range { IfOk result HasBytes }
 {
     Ok(FurtherOptions {
         strip_ansi: flag_in(matches, "strip-ansi"),

@@ -2,7 +2,7 @@
 ghost use Rattle.std.specs.Prelude.{◌≡◌, IfErr, IfOk, codes, string_bytes};
 ghost use Rattle.clap.specs.Words.{found_of, rows_of};
 ghost use Rattle.smap_arguments.specs.CommandLine.{named};
-ghost use Rattle.smap_arguments.specs.Arguments.{GivesBase, GivesNumber, GivesOrder, GivesText, HasArguments, IsInRange, NamedAsksFor};
+ghost use Rattle.smap_arguments.specs.Arguments.{GivesBase, GivesNumber, GivesOrder, GivesText, HasArguments, NamedAsksFor};
 ghost use Rattle.smap_arguments.specs.Arguments.{has_listing};
 ghost use Rattle.smap_arguments.specs.Refusals.{IsNamedRefusal, ReportsBadOrder, ReportsContentWithMore, ReportsSources};
 
@@ -23,7 +23,6 @@ pub fn sources_in(
     requires required { HasArguments (named (codes "sources")) (rows_of (found_of matches.now)) }
     requires given { GivesBase (rows_of (found_of matches.now)) base }
     ensures asked { IfOk result (NamedAsksFor (codes "sources") (rows_of (found_of matches.now))) }
-    ensures in_range { IfOk result IsInRange }
     ensures refused { IfErr result (IsNamedRefusal
         (ReportsSources (rows_of (found_of matches.now)))) }
 {
@@ -66,7 +65,6 @@ fn content_in(
     requires path { GivesText (rows_of (found_of matches.now)) (codes "MAP") (string_bytes path) }
     requires source { GivesNumber (rows_of (found_of matches.now)) (codes "INDEX") source }
     ensures asked { IfOk result (NamedAsksFor (codes "sources") (rows_of (found_of matches.now))) }
-    ensures in_range { IfOk result IsInRange }
     ensures refused { IfErr result (IsNamedRefusal
         (ReportsContentWithMore (rows_of (found_of matches.now)))) }
 {

@@ -1,12 +1,12 @@
 //! What clap found for the arguments.
-ghost use Rattle.std.specs.Prelude.{◌≡◌, ◌≤◌, ◌<◌, ◌+◌, IfErr, IfOk, IfSome, codes, is_some, length, map, option_map, string_bytes, true};
+ghost use Rattle.std.specs.Prelude.{◌≡◌, ◌≤◌, ◌<◌, IfErr, IfOk, IfSome, codes, is_some, length, map, string_bytes};
 ghost use Rattle.clap.specs.Words.{first_of, found_of, rows_of};
-ghost use Rattle.smap_command.specs.Limits.{is_interval, limit, most_bytes, most_context};
+ghost use Rattle.smap_command.specs.Limits.{most_context};
 ghost use Rattle.smap_command.specs.Options.{is_json};
 ghost use Rattle.smap_arguments.specs.CommandLine.{bytes_number, context_number, interval_number, number, source_number};
-ghost use Rattle.smap_arguments.specs.Arguments.{GivesBase, GivesFlag, GivesInterval, GivesNumber, GivesNumberIfGiven, GivesText};
-ghost use Rattle.smap_arguments.specs.Arguments.{GivesTextIfGiven, GivesTexts, HasValue};
-ghost use Rattle.smap_arguments.specs.Arguments.{HasValueIfGiven, bytes_given, texts, words_of};
+ghost use Rattle.smap_arguments.specs.Arguments.{GivesBase, GivesBytes, GivesFlag, GivesInterval, GivesNumberIfGiven, GivesPosition};
+ghost use Rattle.smap_arguments.specs.Arguments.{GivesPositionIfGiven, GivesText, GivesTextIfGiven, GivesTexts, HasValue};
+ghost use Rattle.smap_arguments.specs.Arguments.{HasValueIfGiven, texts, words_of};
 ghost use Rattle.smap_arguments.specs.Refusals.{IsNamedRefusal, ReportsOfBase};
 ghost use Rattle.clap.specs.declared.builder.value_parser.ValueParser.TheVariants as parser;
 
@@ -37,8 +37,7 @@ pub fn texts_in<'m, 'a>(matches: &'m ArgMatches<'a>, name: &str) -> &'m [&'a str
 /// Counted from 0, where the argument counts from 1.
 pub fn position_number_in(matches: &ArgMatches<'_>, name: &str) -> u32
     requires { HasValue number (rows_of (found_of matches.now)) name.now }
-    ensures given { GivesNumber (rows_of (found_of matches.now)) name.now (result + 1) }
-    ensures in_range { result ≤ limit }
+    ensures { GivesPosition (rows_of (found_of matches.now)) name.now result }
 {
     matches.get_one::<u32>(name).unwrap() - 1
 }
@@ -46,9 +45,7 @@ pub fn position_number_in(matches: &ArgMatches<'_>, name: &str) -> u32
 /// The same, where it is given.
 pub fn position_number_if_given(matches: &ArgMatches<'_>, name: &str) -> Option<u32>
     requires { HasValueIfGiven number (rows_of (found_of matches.now)) name.now }
-    ensures given { GivesNumberIfGiven (rows_of (found_of matches.now)) name.now
-        (option_map (λ number. number + 1) result) }
-    ensures in_range { IfSome result (λ number. number ≤ limit) }
+    ensures { GivesPositionIfGiven (rows_of (found_of matches.now)) name.now result }
 {
     match matches.get_one::<u32>(name) {
         Some(number) => Some(number - 1),
@@ -76,8 +73,7 @@ pub fn context_in(matches: &ArgMatches<'_>) -> Option<u32>
 /// The interval of the option `--interval`, or the usual one where it is not given.
 pub fn interval_in(matches: &ArgMatches<'_>) -> u32
     requires { HasValueIfGiven interval_number (rows_of (found_of matches.now)) (codes "K") }
-    ensures given { GivesInterval (rows_of (found_of matches.now)) result }
-    ensures in_range { is_interval result ≡ true }
+    ensures { GivesInterval (rows_of (found_of matches.now)) result }
 {
     matches.get_one::<u32>("K").unwrap_or(USUAL_INTERVAL)
 }
@@ -120,8 +116,7 @@ pub fn base_in(alloc: Global, matches: &ArgMatches<'_>) -> Result<Option<Url>, U
 /// How many bytes this option names, where it is given: not more than there may be.
 pub fn bytes_in(matches: &ArgMatches<'_>, name: &str, least: u64) -> Option<u64>
     requires { HasValueIfGiven (bytes_number least) (rows_of (found_of matches.now)) name.now }
-    ensures given { result ≡ bytes_given (rows_of (found_of matches.now)) name.now }
-    ensures in_range { IfSome result (λ bytes. (least ≤ bytes) × (bytes ≤ most_bytes)) }
+    ensures { GivesBytes (rows_of (found_of matches.now)) name.now least result }
 {
     matches.get_one::<u64>(name)
 }

@@ -3,7 +3,7 @@ ghost use Rattle.std.specs.Prelude.{◌≡◌, IfErr, IfOk, codes, string_bytes}
 ghost use Rattle.clap.specs.Words.{found_of, rows_of};
 ghost use Rattle.smap_arguments.specs.CommandLine.{named, source_number};
 ghost use Rattle.smap_arguments.specs.Arguments.{GivesBase, GivesOptions, GivesText, HasArguments, HasNoInners, HasValueIfGiven};
-ghost use Rattle.smap_arguments.specs.Arguments.{IsInRange, NamedAsksFor, has_inner};
+ghost use Rattle.smap_arguments.specs.Arguments.{NamedAsksFor, has_inner};
 ghost use Rattle.smap_arguments.specs.Refusals.{IsNamedRefusal, ReportsCompose, ReportsNoInner};
 ghost use Rattle.clap.specs.declared.builder.value_parser.ValueParser.TheVariants as parser;
 
@@ -24,7 +24,6 @@ pub fn show_in(
     requires required { HasArguments (named (codes "show")) (rows_of (found_of matches.now)) }
     requires given { GivesBase (rows_of (found_of matches.now)) base }
     ensures asked { IfOk result (NamedAsksFor (codes "show") (rows_of (found_of matches.now))) }
-    ensures in_range { IfOk result IsInRange }
 {
     Ok(Command::Show {
         path: text_in(alloc, matches, "PATH")?,
@@ -42,7 +41,6 @@ pub fn compose_in(
     requires required { HasArguments (named (codes "compose")) (rows_of (found_of matches.now)) }
     requires given { GivesBase (rows_of (found_of matches.now)) base }
     ensures asked { IfOk result (NamedAsksFor (codes "compose") (rows_of (found_of matches.now))) }
-    ensures in_range { IfOk result IsInRange }
     ensures refused { IfErr result (IsNamedRefusal
         (ReportsCompose (rows_of (found_of matches.now)))) }
 {
@@ -77,7 +75,6 @@ fn one_inner_in(
     requires alone { HasNoInners (rows_of (found_of matches.now)) }
     requires given { GivesBase (rows_of (found_of matches.now)) base }
     ensures asked { IfOk result (NamedAsksFor (codes "compose") (rows_of (found_of matches.now))) }
-    ensures in_range { IfOk result IsInRange }
     ensures refused { IfErr result (IsNamedRefusal
         (ReportsNoInner (rows_of (found_of matches.now)))) }
 {

@@ -1,9 +1,11 @@
 -- What `fit` prints: of each map, whether it can be that of its generated file.
-use Rattle.std.specs.Prelude.{◌≡◌, ℕ, ◌+◌, ◌*◌, Bool, true, false, List, [], ◌∷◌, ◌++◌, ◌&&◌, not, Option, None, Some, codes, if◌then◌else◌, unwrap_or}
+use Rattle.std.specs.Prelude.{◌≡◌, ℕ, ◌+◌, ◌*◌, Bool, true, false, List, [], ◌∷◌, ◌++◌, ◌&&◌, not, Option, None, Some, codes, if◌then◌else◌, map, string_bytes, unwrap_or}
 use Rattle.std.specs.Fmt.{decimal}
 use Rattle.serde_json.specs.Data.{Data, boolean, null, string, object, no_members, member}
 use Rattle.smap_command.specs.Lines.{line_from}
 use Rattle.smap_command.specs.Options.{is_json}
+use Rattle.smap_command.specs.Limits.{usual_interval}
+use Rattle.smap_command.specs.declared.asked.Fit as asked
 use Rattle.smap_command.specs.declared.options.FitOptions.{FitOptions}
 use Rattle.smap_fit.specs.Fit.{fit_in, fits}
 use Rattle.smap_fit.specs.Lines.{lines_in}
@@ -17,11 +19,12 @@ use Rattle.smap_record.specs.Record.{MapRecord}
 use Rattle.smap_record.specs.Written.{value_of_text}
 use Rattle.smap_check_answers.specs.Misfits.{misfits_text}
 use Rattle.smap_replies.specs.Files.{MayRead}
+use Rattle.smap_replies.specs.InTurn.{ReportsEach}
 use Rattle.smap_replies.specs.Map.{OfText, ReportsMap}
 use Rattle.smap_replies.specs.Outcome.{Report, answer, refused_answer}
+use Rattle.smap_replies.specs.Streams.{Sinks}
 use Rattle.smap_text.specs.Shown.{shown}
 use Rattle.smap_verdicts.specs.Texts.{count}
-use Rattle.url.specs.Parts.{Parts}
 
 -- ---- a pair
 
@@ -86,8 +89,8 @@ abbrev pub FitsText : MayRead → FitOptions → (number : ℕ) → (pair : List
 FitsText Reads options number pair stated = OfText Reads (2 * number + 1) pair.1 (λ text. IsFitReported options pair.0 pair.1 text stated)
 
 -- the pair of this number, from 0, is reported: its files are the two of that number among all
-abbrev pub FitsPair : MayRead → Option Parts → (k : ℕ) → FitOptions → (number : ℕ) → (pair : List ℕ × List ℕ) → Report → Type 0
-FitsPair Reads base k options number pair = ReportsMap Reads (2 * number) pair.0 base k (FitsText Reads options number pair)
+abbrev pub FitsPair : MayRead → FitOptions → (number : ℕ) → (pair : List ℕ × List ℕ) → Report → Type 0
+FitsPair Reads options number pair = ReportsMap Reads (2 * number) pair.0 None usual_interval (FitsText Reads options number pair)
 
 -- ---- several pairs
 
@@ -96,3 +99,7 @@ abbrev pub pairs_of : List (List ℕ) → List (List ℕ × List ℕ)
 pairs_of [] = []
 pairs_of (path ∷ []) = []
 pairs_of (path ∷ generated ∷ paths) = (path, generated) ∷ pairs_of paths
+
+-- each of those of a command is reported, one after another
+abbrev pub FitsAll : MayRead → asked.Fit → (status : ℕ) → (before after : Sinks) → Type 0
+FitsAll Reads asked = ReportsEach (FitsPair Reads asked.options) 0 (pairs_of (map string_bytes asked.paths.items))

@@ -1,19 +1,20 @@
 //! Saying what a code means.
-ghost use Rattle.std.specs.Prelude.{◌≡◌, option_copied, string_bytes, IfOk};
+ghost use Rattle.std.specs.Prelude.{◌≡◌, option_map, string_bytes, IfOk};
 ghost use Rattle.smap_check_answers.specs.Explain.{ReportsCalled, ReportsCode, no_code_text};
 ghost use Rattle.smap_replies.specs.Outcome.{OrMemory, report_of};
 ghost use Rattle.smap_code_texts.specs.Words.{code_called};
 
 use smap_code_texts::{all_codes_text, code_called, code_text, row_of};
+use smap_command::Explain;
 use smap_replies::{Failure, Reply};
 use smap_text::shown;
 use std::alloc::{AllocError, Global};
 
 /// What the code or the name means, what usually causes it and what to do about it; without one, how all codes are called.
-pub fn answer_explain(alloc: Global, code: Option<&str>) -> Result<Reply, Failure>
-    ensures { OrMemory (ReportsCode (option_copied code.entry)) (report_of result) }
+pub fn answer_explain(alloc: Global, asked: &Explain) -> Result<Reply, Failure>
+    ensures { OrMemory (ReportsCode (option_map string_bytes asked.now.code)) (report_of result) }
 {
-    match code {
+    match &asked.code {
         Some(word) => answer_word(alloc, word),
         None => Ok(Reply::Text(all_codes_text(alloc)?)),
     }

@@ -1,13 +1,12 @@
 //! Whether maps can be those of their generated files.
-ghost use Rattle.std.specs.Prelude.{◌≡◌, ◌+◌, ◌*◌, ◌<◌, ◌^◌, ◌&&◌, false, not, map, option_copied, option_map, string_bytes, IfOk};
+ghost use Rattle.std.specs.Prelude.{◌≡◌, ◌+◌, ◌*◌, ◌<◌, ◌^◌, ◌&&◌, false, not, option_copied, option_map, string_bytes, IfOk};
 ghost use Rattle.serde_json.specs.View.{view};
-ghost use Rattle.smap_check_answers.specs.Fit.{FitsPair, FitsText, IsFitReported, IsWhyTold, fit_line, fit_value, fits_line};
-ghost use Rattle.smap_check_answers.specs.Fit.{misfits_line, pairs_of, place_value};
+ghost use Rattle.smap_check_answers.specs.Fit.{FitsAll, FitsPair, FitsText, IsFitReported, IsWhyTold, fit_line, fit_value};
+ghost use Rattle.smap_check_answers.specs.Fit.{fits_line, misfits_line, place_value};
 ghost use Rattle.smap_command.specs.Options.{is_json};
 ghost use Rattle.smap_fit.specs.Fit.{fits};
 ghost use Rattle.smap_positions.specs.Json.{json_line};
 ghost use Rattle.smap_record.specs.Written.{value_of_text};
-ghost use Rattle.smap_replies.specs.InTurn.{ReportsEach};
 ghost use Rattle.smap_replies.specs.Outcome.{OrMemory, reply_report, report_of};
 ghost use Rattle.smap_replies.specs.Streams.{sinks_seen};
 
@@ -23,30 +22,44 @@ use smap_replies::{DONE, Failure, FileReader, MapReader, Reply, read_map, read_t
 use smap_text::shown;
 use std::alloc::{AllocError, Global};
 
-/// Says of each map whether it can be that of its generated file: the paths are those of a map and of its generated file, of
-/// another map and its generated file, and so on. A pair is read, reported and let go before the next is read, also where
-/// a file is refused or can't be read, or memory runs out. Gives the greatest status of all, which is 1 for a map that
-/// does not fit. Where standard output fails, nothing more is read. The caller gives a standard output that has not
-/// failed. The code of the first refusal that is reported on standard error is put into `first`, where that has none.
+// A map and its generated file.
+#[derive(Clone, Copy)]
+struct Pair<'a> {
+    // Its number, from 0.
+    number: usize,
+    // The path of the map.
+    map: &'a str,
+    generated: &'a str,
+}
+
+/// Says of each map of the command whether it can be that of its generated file. A pair is read, reported and let go before
+/// the next is read, also where a file is refused or can't be read, or memory runs out. Gives the greatest status of all,
+/// which is 1 for a map that does not fit. Where standard output fails, nothing more is read. The caller gives a standard
+/// output that has not failed. The code of the first refusal that is reported on standard error is put into `first`, where
+/// that has none.
 pub fn answer_fit<F: FileReader, W: ByteSink, E: ByteSink>(
     alloc: Global,
-    maps: &MapReader<'_, F>,
-    paths: &[String],
-    options: FitOptions,
+    reader: &F,
+    asked: &smap_command::Fit,
     output: &mut W,
     errors: &mut E,
     first: &mut Option<Code>,
 ) -> u8
     requires output_works { (W.seen output.old).failed ≡ false }
-    ensures { ReportsEach (FitsPair (F.gives maps.now.files.now) (option_copied maps.now.base)
-        maps.now.interval options) 0 (pairs_of (map string_bytes paths.now)) result
+    ensures { FitsAll (F.gives reader.now) asked.now result
         (sinks_seen (W.seen output.old) (E.seen errors.old) first.old)
         (sinks_seen (W.seen output.new) (E.seen errors.new) first.new) }
 {
+    let paths = asked.paths.as_slice();
     let mut status = DONE;
     for number in 0..paths.len() / 2 {
         let (at, behind) = (2 * number, 2 * number + 1);
-        let outcome = fitted_pair(alloc, maps, number, &paths[at], &paths[behind], options);
+        let pair = Pair {
+            number,
+            map: &paths[at],
+            generated: &paths[behind],
+        };
+        let outcome = fitted_pair(alloc, reader, pair, asked.options);
         status = status.max(report(&outcome, output, errors, first));
         if output.failed() {
             break;
@@ -55,39 +68,40 @@ pub fn answer_fit<F: FileReader, W: ByteSink, E: ByteSink>(
     status
 }
 
-// What is said of the pair of this number.
+// What is said of a pair.
 fn fitted_pair<F: FileReader>(
     alloc: Global,
-    maps: &MapReader<'_, F>,
-    number: usize,
-    path: &str,
-    generated: &str,
+    reader: &F,
+    pair: Pair<'_>,
     options: FitOptions,
 ) -> Result<Reply, Failure>
-    requires { 2 * number + 1 < 2 ^ 64 }
-    ensures { OrMemory (FitsPair (F.gives maps.now.files.now) (option_copied maps.now.base)
-        maps.now.interval options number (path.now, generated.now)) (report_of result) }
+    requires { 2 * pair.number + 1 < 2 ^ 64 }
+    ensures { OrMemory (FitsPair (F.gives reader.now) options pair.entry.number
+        (pair.entry.map.now, pair.entry.generated.now)) (report_of result) }
 {
-    let map = read_map(alloc, maps, 2 * number, path)?;
-    fitted_map(alloc, maps.files, &map, number, path, generated, options)
+    let map = read_map(
+        alloc,
+        &MapReader::usual(reader, None),
+        2 * pair.number,
+        pair.map,
+    )?;
+    fitted_map(alloc, reader, &map, pair, options)
 }
 
-// What is said of the map of that pair.
+// What is said of its map.
 fn fitted_map<F: FileReader>(
     alloc: Global,
     reader: &F,
     map: &MapFile,
-    number: usize,
-    path: &str,
-    generated: &str,
+    pair: Pair<'_>,
     options: FitOptions,
 ) -> Result<Reply, Failure>
-    requires { 2 * number + 1 < 2 ^ 64 }
-    ensures { OrMemory (FitsText (F.gives reader.now) options number (path.now, generated.now)
-        map.now.stated) (report_of result) }
+    requires { 2 * pair.number + 1 < 2 ^ 64 }
+    ensures { OrMemory (FitsText (F.gives reader.now) options pair.entry.number
+        (pair.entry.map.now, pair.entry.generated.now) map.now.stated) (report_of result) }
 {
-    let text = read_text(alloc, reader, 2 * number + 1, generated)?;
-    let reply = fit_reply(alloc, map, &text, path, generated, options)?;
+    let text = read_text(alloc, reader, 2 * pair.number + 1, pair.generated)?;
+    let reply = fit_reply(alloc, map, &text, pair, options)?;
     Ok(reply)
 }
 
@@ -96,16 +110,22 @@ fn fit_reply(
     alloc: Global,
     map: &MapFile,
     text: &str,
-    path: &str,
-    generated: &str,
+    pair: Pair<'_>,
     options: FitOptions,
 ) -> Result<Reply, AllocError>
-    ensures { IfOk result (λ reply. IsFitReported options path.now generated.now text.now
-        map.now.stated (reply_report reply)) }
+    ensures { IfOk result (λ reply. IsFitReported options pair.entry.map.now
+        pair.entry.generated.now text.now map.now.stated (reply_report reply)) }
 {
     let fit = fit_of(alloc, map, text)?;
     let why = why_text(alloc, map, text, &fit, options.explain)?;
-    let line = fit_line(alloc, path, generated, fit, why.as_deref(), options.form)?;
+    let line = fit_line(
+        alloc,
+        pair.map,
+        pair.generated,
+        fit,
+        why.as_deref(),
+        options.form,
+    )?;
     if fit.fits() {
         Ok(Reply::Text(line))
     } else {

@@ -3,8 +3,8 @@
 //! ```text
 //! let options = CheckOptions::new(alloc);
 //! let status = answer_check(alloc, &maps, "app.js.map", &options, &mut output, &mut errors, &mut first);
-//! let status = answer_fit(alloc, &maps, &paths, options, &mut output, &mut errors, &mut first);
-//! let outcome = answer_explain(alloc, Some("M14"));
+//! let status = answer_fit(alloc, &reader, &fit, &mut output, &mut errors, &mut first);
+//! let outcome = answer_explain(alloc, &Explain { code });
 //! ```
 #![tactic(auto)]
 

@@ -1,17 +1,17 @@
--- The commands that can be run.
-use Rattle.std.specs.Prelude.{◌≡◌, ◌≤◌, true, IfSome, ⊤}
-use Rattle.smap_command.specs.Limits.{is_interval, most_bytes}
+-- What a run of a command asks of it.
+use Rattle.std.specs.Prelude.{◌≡◌, Bool, true, false, ⊤}
+use Rattle.smap_command.specs.Limits.{is_interval}
 use Rattle.smap_command.specs.Options.{HasBytes}
-use Rattle.smap_command.specs.Reading.{reading_of}
 use Rattle.smap_command.specs.declared.command.Command.{Command}
-use Rattle.smap_command.specs.declared.command.Command.TheVariants.{Rewrite, Locate}
+use Rattle.smap_command.specs.declared.command.Command.TheVariants.{Raw, Rewrite}
 
--- the numbers of bytes, which two commands have, are in their ranges
-abbrev pub IsWithinBytes : Command → Type 0
-IsWithinBytes (Rewrite maps base interval hide_ignored options) = HasBytes options
-IsWithinBytes (Locate asked) = IfSome asked.cache_bytes (λ bytes. bytes ≤ most_bytes)
-IsWithinBytes other = ⊤
+-- the control sequences of a terminal are left out of standard input
+abbrev pub strips_ansi : Command → Bool
+strips_ansi (Rewrite maps base interval hide_ignored options) = options.strip_ansi
+strips_ansi other = false
 
--- a command that can be run: checkpoints may stand at its interval, and its numbers of bytes are in their ranges
+-- a command that can be run: checkpoints may stand in a bare text at its interval, and its numbers of bytes are in their ranges
 abbrev pub IsRunnable : Command → Type 0
-IsRunnable command = (is_interval (reading_of command).interval ≡ true) × IsWithinBytes command
+IsRunnable (Raw line column interval) = is_interval interval ≡ true
+IsRunnable (Rewrite maps base interval hide_ignored options) = HasBytes options
+IsRunnable other = ⊤

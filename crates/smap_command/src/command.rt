@@ -1,12 +1,10 @@
 //! What the program is asked to do.
-ghost use Rattle.std.specs.Prelude.{◌≡◌, option_copied};
-ghost use Rattle.smap_command.specs.Reading.{reading_at, reading_of, reading_of_map, reading_seen};
+ghost use Rattle.std.specs.Prelude.{◌≡◌};
+ghost use Rattle.smap_command.specs.Runnable.{strips_ansi};
 
 use crate::asked::{
-    ComposeAll, Explain, Fit, Generated, Locate, MapChoice, Mappings, Positions, SourceContent,
-    Sources,
+    ComposeAll, Explain, Fit, Generated, Locate, Mappings, Positions, SourceContent, Sources,
 };
-use crate::limits::USUAL_INTERVAL;
 use crate::options::{CheckOptions, FurtherOptions, LookupOptions, WriteOptions};
 use url::Url;
 
@@ -87,68 +85,14 @@ pub enum Command {
     Explain(Explain),
 }
 
-/// How a command reads its maps and standard input.
-#[derive(Clone, Copy)]
-pub struct Reading<'a> {
-    /// The URL against which sources are resolved, where the command has one.
-    pub base: Option<&'a Url>,
-    /// The interval of the checkpoints: the usual one where the command has none.
-    pub interval: u32,
-    /// Whether the control sequences of a terminal are left out of standard input.
-    pub strips_ansi: bool,
-}
-
 impl Command {
-    /// How the command reads.
-    pub fn reading(&self) -> Reading<'_>
-        ensures { reading_seen result ≡ reading_of self.now }
+    /// Whether the control sequences of a terminal are left out of standard input.
+    pub fn strips_ansi(&self) -> bool
+        ensures { result ≡ strips_ansi self.now }
     {
         match self {
-            Command::Raw { interval, .. } => reading_at(None, *interval),
-            Command::Check { base, interval, .. } | Command::Lookup { base, interval, .. } =>
-                reading_at(base.as_ref(), *interval),
-            Command::Show { base, .. } | Command::Compose { base, .. } => reading_at(
-                base.as_ref(),
-                USUAL_INTERVAL,
-            ),
-            Command::Generated(asked) => reading_of_map(&asked.map),
-            Command::Positions(asked) => reading_of_map(&asked.map),
-            Command::Mappings(asked) => reading_of_map(&asked.map),
-            Command::Sources(asked) => reading_of_map(&asked.map),
-            Command::Rewrite {
-                base,
-                interval,
-                options,
-                ..
-            } => Reading {
-                base: base.as_ref(),
-                interval: *interval,
-                strips_ansi: options.strip_ansi,
-            },
-            Command::Locate(asked) => reading_at(asked.base.as_ref(), asked.interval),
-            Command::ComposeAll(asked) => reading_at(asked.base.as_ref(), USUAL_INTERVAL),
-            Command::SourceContent(_) | Command::Fit(_) | Command::Explain(_) => reading_at(
-                None,
-                USUAL_INTERVAL,
-            ),
+            Command::Rewrite { options, .. } => options.strip_ansi,
+            _ => false,
         }
     }
-}
-
-// How a command reads that leaves nothing out of standard input.
-fn reading_at(base: Option<&Url>, interval: u32) -> Reading<'_>
-    ensures { reading_seen result ≡ reading_at (option_copied base.entry) interval }
-{
-    Reading {
-        base,
-        interval,
-        strips_ansi: false,
-    }
-}
-
-// The same over this map.
-fn reading_of_map(map: &MapChoice) -> Reading<'_>
-    ensures { reading_seen result ≡ reading_of_map map.now }
-{
-    reading_at(map.base.as_ref(), map.interval)
 }

@@ -18,7 +18,7 @@ pub use asked::{
     ComposeAll, Explain, Fit, Generated, Locate, MapChoice, Mappings, Positions, SourceContent,
     Sources,
 };
-pub use command::{Command, Reading};
+pub use command::Command;
 pub use limits::{
     LIMIT, MOST_BYTES, MOST_CONTEXT, MOST_HIDDEN, MOST_INTERVAL, USUAL_CACHE_BYTES, USUAL_INTERVAL,
     USUAL_LIMIT_BYTES,

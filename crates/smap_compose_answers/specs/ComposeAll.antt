@@ -1,14 +1,14 @@
 -- What `compose` prints of a map file and the files of the maps of several of its sources: the pairs of a source's name and of a
 -- path are words of the command line, and then lines of a list.
-use Rattle.std.specs.Prelude.{◌≡◌, ◌⊎◌, ℕ, ◌+◌, Bool, false, List, [], ◌∷◌, ◌++◌, Option, Some, None, Result, Ok, Err, MatchBool, MatchOption, is_some, option_and_then}
+use Rattle.std.specs.Prelude.{◌≡◌, ◌⊎◌, ℕ, ◌+◌, Bool, false, List, [], ◌∷◌, ◌++◌, Option, Some, None, Result, Ok, Err, MatchBool, MatchOption, is_some, map, option_and_then, option_map, string_bytes}
 use Rattle.std.specs.List.{list_any}
 use Rattle.std.specs.Option.{option_map_or}
 use Rattle.std.specs.Str.{bytes_eq}
 use Rattle.std.specs.Str.Lines.{lines}
-use Rattle.url.specs.Parts.{Parts}
 use Rattle.smap_codes.specs.Codes.{text_of}
 use Rattle.smap_codes.specs.declared.code.Code.TheVariants.{A2, C4}
 use Rattle.smap_command.specs.Limits.{usual_interval}
+use Rattle.smap_command.specs.declared.asked.ComposeAll.{ComposeAll}
 use Rattle.smap_command.specs.declared.options.WriteOptions.{WriteOptions}
 use Rattle.smap_compose.specs.Composition.{all_composed}
 use Rattle.smap_by_text.specs.ByText.{IsWith, value_under}
@@ -28,7 +28,7 @@ use Rattle.smap_compose_answers.specs.Lines.{no_source_named_text}
 use Rattle.smap_replies.specs.Map.{ReportsMap, refusal_result, refused_file}
 use Rattle.smap_replies.specs.Outcome.{OrMemory, Report, misuse, out_of_memory, refusal}
 use Rattle.smap_replies.specs.Lists.{list_bytes_refusal, list_refusal}
-use Rattle.smap_replies.specs.Arguments.{argument_text}
+use Rattle.smap_replies.specs.Arguments.{argument_of, argument_text}
 use Rattle.smap_replies.specs.Standing.{record_standing}
 use Rattle.smap_replies.specs.Standing.StandingSeen.{at_url}
 use Rattle.smap_compose_answers.specs.Written.{written_result}
@@ -155,7 +155,6 @@ ReportsInners Reads options words list outer report =
     × OrMemory (λ reported. reported ≡ inners_result options outer gathered) report
 
 -- what is said of the outer map, which is read first
-abbrev pub ReportsAllComposed : MayRead → WriteOptions → (outer : List ℕ) → List (List ℕ × List ℕ) → (list : Option (List ℕ)) → Option Parts
-    → Report → Type 0
-ReportsAllComposed Reads options outer words list base =
-    ReportsMap Reads 0 outer base usual_interval (ReportsInners Reads options words list)
+abbrev pub ReportsAllComposed : MayRead → ComposeAll → Report → Type 0
+ReportsAllComposed Reads asked = ReportsMap Reads 0 (string_bytes asked.outer) asked.base usual_interval
+    (ReportsInners Reads asked.options (map argument_of asked.inners.items) (option_map string_bytes asked.list))

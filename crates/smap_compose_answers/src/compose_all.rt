@@ -14,7 +14,7 @@ use crate::compose::reported;
 use crate::inners::{named_inners, read_inners};
 use crate::outer_map::OuterMap;
 use crate::written::{left_out_of, written};
-use smap_command::{ComposeAll, USUAL_INTERVAL, WriteOptions};
+use smap_command::{ComposeAll, WriteOptions};
 use smap_compose::{ComposeRefusal, Composed, compose_all};
 use smap_record::MapFile;
 use smap_replies::{Failure, FileReader, MapReader, Reply, read_map};
@@ -27,16 +27,10 @@ pub fn answer_compose_all<F: FileReader>(
     reader: &F,
     asked: &ComposeAll,
 ) -> Result<Reply, Failure>
-    ensures { OrMemory (ReportsAllComposed (F.gives reader.now) asked.now.options
-        (string_bytes asked.now.outer) (map argument_of asked.now.inners.items)
-        (option_map string_bytes asked.now.list) asked.now.base) (report_of result) }
+    ensures { OrMemory (ReportsAllComposed (F.gives reader.now) asked.now) (report_of result) }
 {
-    let outer_reader = MapReader {
-        files: reader,
-        base: asked.base.as_ref(),
-        interval: USUAL_INTERVAL,
-    };
-    let outer = read_map(alloc, &outer_reader, 0, &asked.outer)?;
+    let maps = MapReader::usual(reader, asked.base.as_ref());
+    let outer = read_map(alloc, &maps, 0, &asked.outer)?;
     composed_with(alloc, reader, asked, outer)
 }
 

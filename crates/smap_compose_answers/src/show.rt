@@ -1,5 +1,6 @@
 //! Writing what a map file states as one regular map.
 ghost use Rattle.std.specs.Prelude.{[], option_copied};
+ghost use Rattle.smap_command.specs.Limits.{usual_interval};
 ghost use Rattle.smap_replies.specs.Map.{IsResult, ReportsMap};
 ghost use Rattle.smap_replies.specs.Outcome.{OrMemory, reply_report, report_of};
 ghost use Rattle.smap_compose_answers.specs.Show.{show_result, show_with_result, shown_result};
@@ -10,25 +11,26 @@ ghost use Rattle.smap_mappings.specs.Exact.{GivesOr};
 
 use crate::written::{left_out_of, line_of, written};
 use smap_codes::Code;
-use smap_command::WriteOptions;
+use smap_command::{Url, WriteOptions};
 use smap_compose::{ComposeRefusal, Composed, compose_all};
 use smap_record::{MapFile, WriteRefusal};
 use smap_replies::{Failure, FileReader, MapReader, Reply, read_map, refused_by};
 use std::alloc::Global;
 
-/// Reads the map that the file at this path is, and writes what it states as one regular map, without what the options leave
-/// out.
+/// Reads the map that the file at this path is, at the base, and writes what it states as one regular map, without what the
+/// options leave out.
 pub fn answer_show<F: FileReader>(
     alloc: Global,
-    maps: &MapReader<'_, F>,
+    reader: &F,
     path: &str,
+    base: Option<&Url>,
     options: WriteOptions,
 ) -> Result<Reply, Failure>
-    ensures { OrMemory (ReportsMap (F.gives maps.now.files.now) 0 path.now
-        (option_copied maps.now.base) maps.now.interval
-        (IsResult (shown_result options))) (report_of result) }
+    ensures { OrMemory (ReportsMap (F.gives reader.now) 0 path.now (option_copied base.entry)
+        usual_interval (IsResult (shown_result options))) (report_of result) }
 {
-    shown_map(alloc, read_map(alloc, maps, 0, path)?, options)
+    let map = read_map(alloc, &MapReader::usual(reader, base), 0, path)?;
+    shown_map(alloc, map, options)
 }
 
 // The map as a line, or why it is not written.

@@ -12,7 +12,7 @@ ghost use Rattle.smap_trace.specs.Rewriting.{Looked};
 
 use crate::locator::Locator;
 use smap_codes::Code;
-use smap_command::{AnswerOptions, Locate, USUAL_CACHE_BYTES};
+use smap_command::{Locate, USUAL_CACHE_BYTES};
 use smap_io::{ByteSink, ByteSource};
 use smap_lines::{LineCounts, LineFault, MOST_TEXT_BYTES, edit_lines};
 use smap_replies::{DONE, Failure, FileReader, MapReader, Reply, report};
@@ -47,11 +47,27 @@ pub fn answer_locate<F: FileReader, R: ByteSource, W: ByteSink, E: ByteSink>(
     let list = asked.list.as_deref();
     match sources_of(alloc, &maps, asked.paths, false, &asked.maps, list) {
         Ok(sources) => {
-            let end = over_store(alloc, &maps, asked, &sources, input, output, errors, first);
+            let run = LocateRun {
+                alloc,
+                maps: &maps,
+                asked,
+                sources: &sources,
+            };
+            let end = over_store(&run, input, output, errors, first);
             finish(&end, output, errors, first)
         }
         Err(failure) => report(&Err(failure), output, errors, first),
     }
+}
+
+// What is asked, and what places are answered over: the maps of words and of what lines name.
+#[derive(Drop)]
+struct LocateRun<'s, 'r, F: FileReader> {
+    alloc: Global,
+    // With the base and the interval of what is asked.
+    maps: &'s MapReader<'r, F>,
+    asked: &'s Locate,
+    sources: &'s MapSources,
 }
 
 // What answering over a store came to.
@@ -65,29 +81,28 @@ struct StoreEnd {
     shortages: u64,
 }
 
-// Answers the places over the maps of words and of what they name, read with the command's base and interval.
+// Answers the places over a store of maps.
 fn over_store<F: FileReader, R: ByteSource, W: ByteSink, E: ByteSink>(
-    alloc: Global,
-    maps: &MapReader<'_, F>,
-    asked: &Locate,
-    sources: &MapSources,
+    run: &LocateRun<'_, '_, F>,
     input: &mut R,
     output: &mut W,
     errors: &mut E,
     first: &mut Option<Code>,
 ) -> StoreEnd
-    requires base { option_copied maps.now.base ≡ asked.now.base }
-    requires interval { maps.now.interval ≡ asked.now.interval }
+    requires base { option_copied run.now.maps.now.base ≡ run.now.asked.now.base }
+    requires interval { run.now.maps.now.interval ≡ run.now.asked.now.interval }
     requires input_works { (R.seen input.old).failed ≡ false }
     requires output_works { (W.seen output.old).failed ≡ false }
-    ensures over { IsOverStore (F.gives maps.now.files.now) asked.now sources.now result
+    ensures over { IsOverStore (F.gives run.now.maps.now.files.now) run.now.asked.now
+        run.now.sources.now result
         (streams_seen (R.seen input.old) (W.seen output.old) (E.seen errors.old) first.old)
         (streams_seen (R.seen input.new) (W.seen output.new) (E.seen errors.new) first.new) }
     ensures output_failure { (W.seen output.new).failed ≡ is_write_fault result.result }
 {
-    let mut cache = MapCache::new(alloc, asked.cache_bytes.unwrap_or(USUAL_CACHE_BYTES));
+    let asked = run.asked;
+    let mut cache = MapCache::new(run.alloc, asked.cache_bytes.unwrap_or(USUAL_CACHE_BYTES));
     let mut loader = FileLoader {
-        maps,
+        maps: run.maps,
         paths: asked.paths,
         number: asked.maps.as_slice().len() + 1,
         errors,
@@ -97,15 +112,7 @@ fn over_store<F: FileReader, R: ByteSource, W: ByteSink, E: ByteSink>(
         refused: 0,
         lost: false,
     };
-    let result = locate_text(
-        alloc,
-        sources,
-        asked.options,
-        &mut cache,
-        &mut loader,
-        input,
-        output,
-    );
+    let result = locate_text(run, &mut cache, &mut loader, input, output);
     let status = loader.status;
     *first = loader.code;
     StoreEnd {
@@ -115,11 +122,9 @@ fn over_store<F: FileReader, R: ByteSource, W: ByteSink, E: ByteSink>(
     }
 }
 
-// Answers the lines of a text over a store of maps.
-fn locate_text<L: MapLoader, R: ByteSource, W: ByteSink>(
-    alloc: Global,
-    sources: &MapSources,
-    options: AnswerOptions,
+// Answers the lines of a text over this store of maps.
+fn locate_text<F: FileReader, L: MapLoader, R: ByteSource, W: ByteSink>(
+    run: &LocateRun<'_, '_, F>,
     cache: &mut MapCache,
     loader: &mut L,
     input: &mut R,
@@ -128,27 +133,28 @@ fn locate_text<L: MapLoader, R: ByteSource, W: ByteSink>(
     requires input_works { (R.seen input.old).failed ≡ false }
     requires output_works { (W.seen output.old).failed ≡ false }
     ensures ends { RunEnds R.seen W.seen input.old input.new output.old output.new
-        (λ before after. EditsInto (LocateStep (FindsIn L.Loads) options) most_text_bytes
-        before after (store_of sources.now cache.old loader.old)
-        (store_of sources.now cache.new loader.new))
+        (λ before after. EditsInto (LocateStep (FindsIn L.Loads) run.now.asked.now.options)
+        most_text_bytes before after (store_of run.now.sources.now cache.old loader.old)
+        (store_of run.now.sources.now cache.new loader.new))
         (EditsFrontInto (BecomesAnswer
-        (GivesIn L.MayLoad (store_of sources.now cache.old loader.old)) options)
-        most_text_bytes) result }
-    ensures looked { Looked (FindsIn L.Loads) (store_of sources.now cache.old loader.old)
-        (store_of sources.now cache.new loader.new) }
+        (GivesIn L.MayLoad (store_of run.now.sources.now cache.old loader.old))
+        run.now.asked.now.options) most_text_bytes) result }
+    ensures looked { Looked (FindsIn L.Loads)
+        (store_of run.now.sources.now cache.old loader.old)
+        (store_of run.now.sources.now cache.new loader.new) }
 {
-    let MapSources { words, locations } = sources;
+    let MapSources { words, locations } = run.sources;
     let mut locator = Locator {
         maps: StoredMaps {
-            alloc,
+            alloc: run.alloc,
             words,
             locations,
             cache,
             loader,
         },
-        options,
+        options: run.asked.options,
     };
-    edit_lines(alloc, input, output, &mut locator, MOST_TEXT_BYTES)
+    edit_lines(run.alloc, input, output, &mut locator, MOST_TEXT_BYTES)
 }
 
 // Reports what answering came to, and gives the exit status.

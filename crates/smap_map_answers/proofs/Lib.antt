@@ -1,4 +1,3 @@
 mod GeneratedLaws
-mod MapLaws
 mod PositionsLaws
 mod RawLaws

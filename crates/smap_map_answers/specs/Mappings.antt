@@ -1,16 +1,16 @@
 -- What `mappings` prints.
-use Rattle.std.specs.Prelude.{◌≡◌, ℕ, ◌⊎◌, true, List, Option, Result, Ok, Err, []}
+use Rattle.std.specs.Prelude.{◌≡◌, ℕ, ◌⊎◌, false, true, List, Result, Ok, Err, []}
 use Rattle.smap_io.specs.Device.{SinkSeen, Takes, TakesFront}
 use Rattle.smap_lines.specs.RunEnds.{is_write_fault}
 use Rattle.smap_lines.specs.declared.fault.LineFault.{LineFault}
 use Rattle.smap_lines.specs.declared.fault.LineFault.TheVariants.{Write, Memory}
 use Rattle.smap_record.specs.Record.{MapRecord}
 use Rattle.smap_positions.specs.Mappings.{mappings_text}
-use Rattle.smap_command.specs.declared.options.MappingsOptions.{MappingsOptions}
+use Rattle.smap_command.specs.declared.asked.Mappings.{Mappings}
 use Rattle.smap_replies.specs.Files.{MayRead}
-use Rattle.smap_replies.specs.Map.{IsStated, Never, ReportsMap}
+use Rattle.smap_replies.specs.Map.{Never, StatesChosen}
 use Rattle.smap_replies.specs.Outcome.{OrMemory, Report, answer, fault_report}
-use Rattle.url.specs.Parts.{Parts}
+use Rattle.smap_replies.specs.Why.{ReportsChosen}
 
 -- nothing is added to what is printed, but why it ends before its end
 abbrev pub printing_report : Result Unit LineFault → Report
@@ -32,7 +32,7 @@ pub record PrintingReports (text : List ℕ) (before after : SinkSeen) (report :
 
 -- what `mappings` prints over the map of a file: that there is none, or memory ran out, and then standard output stays as it
 -- is; or what printing its mappings comes to
-abbrev pub MappingsReports : MayRead → (path : List ℕ) → Option Parts → (k : ℕ) → MappingsOptions → (before after : SinkSeen) → Report → Type 0
-MappingsReports Reads path base k options before after report =
-    ((after ≡ before) × OrMemory (ReportsMap Reads 0 path base k Never) report)
-    ⊎ ((stated : MapRecord) × IsStated Reads 0 path base k stated × PrintingReports (mappings_text options stated) before after report)
+abbrev pub MappingsReports : MayRead → Mappings → (before after : SinkSeen) → Report → Type 0
+MappingsReports Reads asked before after report =
+    ((after ≡ before) × OrMemory (ReportsChosen Reads false asked.map Never) report)
+    ⊎ ((stated : MapRecord) × StatesChosen Reads asked.map stated × PrintingReports (mappings_text asked.options stated) before after report)

@@ -1,5 +1,5 @@
 -- What `positions` prints.
-use Rattle.std.specs.Prelude.{◌≡◌, ℕ, ◌==◌, ◌⊎◌, true, List, Option, Some, None, Result, Ok, Err, [], if◌then◌else◌}
+use Rattle.std.specs.Prelude.{◌≡◌, ℕ, ◌==◌, ◌⊎◌, false, true, Option, Some, None, Result, Ok, Err, [], if◌then◌else◌}
 use Rattle.smap_codes.specs.declared.code.Code.TheVariants.{P1, P2}
 use Rattle.smap_lines.specs.Editing.{DevicesSeen, EditsFront}
 use Rattle.smap_lines.specs.RunEnds.{is_read_fault, is_write_fault}
@@ -9,13 +9,14 @@ use Rattle.smap_lines.specs.declared.fault.LineFault.TheVariants.{TooMuch, Memor
 use Rattle.smap_record.specs.Record.{MapRecord}
 use Rattle.smap_positions.specs.Answering.{AnswersPositions}
 use Rattle.smap_positions.specs.Positions.{answered_line}
+use Rattle.smap_command.specs.declared.asked.Positions as asked
 use Rattle.smap_command.specs.declared.options.AnswerOptions.{AnswerOptions}
 use Rattle.smap_positions.specs.declared.answering.PositionsSummary.{PositionsSummary}
 use Rattle.smap_replies.specs.Files.{MayRead}
 use Rattle.smap_map_answers.specs.Lines.{bad_position_refused_line}
-use Rattle.smap_replies.specs.Map.{IsStated, Never, ReportsMap}
+use Rattle.smap_replies.specs.Map.{Never, StatesChosen}
 use Rattle.smap_replies.specs.Outcome.{OrMemory, Report, answer, fault_report, refusal, refused_by}
-use Rattle.url.specs.Parts.{Parts}
+use Rattle.smap_replies.specs.Why.{ReportsChosen}
 
 -- ---- what is reported
 
@@ -53,7 +54,7 @@ pub record AnsweredReports (stated : MapRecord) (options : AnswerOptions) (befor
 
 -- what `positions` prints over the map of a file: that there is none, or memory ran out, and then standard input and output
 -- stay as they are; or what the answers come to
-abbrev pub PositionsReports : MayRead → (path : List ℕ) → Option Parts → (k : ℕ) → AnswerOptions → (before after : DevicesSeen) → Report → Type 0
-PositionsReports Reads path base k options before after report =
-    ((after ≡ before) × OrMemory (ReportsMap Reads 0 path base k Never) report)
-    ⊎ ((stated : MapRecord) × IsStated Reads 0 path base k stated × AnsweredReports stated options before after report)
+abbrev pub PositionsReports : MayRead → asked.Positions → (before after : DevicesSeen) → Report → Type 0
+PositionsReports Reads asked before after report =
+    ((after ≡ before) × OrMemory (ReportsChosen Reads false asked.map Never) report)
+    ⊎ ((stated : MapRecord) × StatesChosen Reads asked.map stated × AnsweredReports stated asked.options before after report)

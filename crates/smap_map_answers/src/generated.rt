@@ -1,11 +1,11 @@
 //! Looking an original place up in a map file: the generated places that come from it.
-ghost use Rattle.std.specs.Prelude.{◌≡◌, option_copied, string_bytes, IfOk};
+ghost use Rattle.std.specs.Prelude.{◌≡◌, string_bytes, IfOk};
 ghost use Rattle.std.specs.Char.{is_ascii_digit};
 ghost use Rattle.std.specs.List.{list_all};
 ghost use Rattle.smap_index.specs.Parts.{joined};
 ghost use Rattle.smap_replies.specs.Map.{IsResult};
 ghost use Rattle.smap_replies.specs.Outcome.{OrMemory, report_of};
-ghost use Rattle.smap_replies.specs.Why.{ReportsMapWhy};
+ghost use Rattle.smap_replies.specs.Why.{ReportsChosen};
 ghost use Rattle.smap_map_answers.specs.Generated.{asked_sources, bracketed, direction_of, generated_result};
 ghost use Rattle.smap_map_answers.specs.Generated.{is_asked, is_in_brackets, mappings_from, mappings_of};
 ghost use Rattle.smap_map_answers.specs.Generated.{alike_line, alike_lines, alike_source, ends_alike};
@@ -16,7 +16,7 @@ use smap_command::Generated;
 use smap_originals::{Asked, Direction, generated_for, generated_next};
 use smap_positions::generated_text;
 use smap_record::{MapFile, Mapping, source_name};
-use smap_replies::{Failure, FileReader, MapReader, Reply, read_map_explained};
+use smap_replies::{Failure, FileReader, Reply, read_chosen};
 use smap_text::shown;
 use std::alloc::{AllocError, Global};
 
@@ -24,14 +24,13 @@ use std::alloc::{AllocError, Global};
 /// too.
 pub fn answer_generated<F: FileReader>(
     alloc: Global,
-    maps: &MapReader<'_, F>,
+    reader: &F,
     asked: &Generated,
 ) -> Result<Reply, Failure>
-    ensures { OrMemory (ReportsMapWhy (F.gives maps.now.files.now) asked.now.options.explain 0
-        (string_bytes asked.now.map.path) (option_copied maps.now.base) maps.now.interval
+    ensures { OrMemory (ReportsChosen (F.gives reader.now) asked.now.options.explain asked.now.map
         (IsResult (generated_result asked.now))) (report_of result) }
 {
-    let map = read_map_explained(alloc, maps, 0, &asked.map.path, asked.options.explain)?;
+    let map = read_chosen(alloc, reader, &asked.map, asked.options.explain)?;
     generated_of(alloc, &map, asked)
 }
 

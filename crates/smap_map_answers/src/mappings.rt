@@ -1,5 +1,5 @@
 //! Printing the mappings of a map file.
-ghost use Rattle.std.specs.Prelude.{◌≡◌, false, option_copied, string_bytes};
+ghost use Rattle.std.specs.Prelude.{◌≡◌, false};
 ghost use Rattle.smap_map_answers.specs.Mappings.{MappingsReports, PrintingReports};
 ghost use Rattle.smap_replies.specs.Outcome.{report_of};
 ghost use Rattle.smap_positions.specs.Mappings.{mappings_text};
@@ -8,23 +8,22 @@ use smap_command::{Mappings, MappingsOptions};
 use smap_io::ByteSink;
 use smap_positions::print_mappings;
 use smap_record::MapFile;
-use smap_replies::{Failure, FileReader, MapReader, Reply, read_map};
+use smap_replies::{Failure, FileReader, Reply, read_chosen};
 use std::alloc::Global;
 
 /// Reads the map of the command, and prints those of its mappings that the options ask for on standard
 /// output. The caller gives one that has not failed.
 pub fn answer_mappings<F: FileReader, W: ByteSink>(
     alloc: Global,
-    maps: &MapReader<'_, F>,
+    reader: &F,
     asked: &Mappings,
     output: &mut W,
 ) -> Result<Reply, Failure>
     requires output_works { (W.seen output.old).failed ≡ false }
-    ensures { MappingsReports (F.gives maps.now.files.now) (string_bytes asked.now.map.path)
-        (option_copied maps.now.base) maps.now.interval asked.now.options (W.seen output.old)
-        (W.seen output.new) (report_of result) }
+    ensures { MappingsReports (F.gives reader.now) asked.now (W.seen output.old) (W.seen output.new)
+        (report_of result) }
 {
-    let map = read_map(alloc, maps, 0, &asked.map.path)?;
+    let map = read_chosen(alloc, reader, &asked.map, false)?;
     printed_mappings(alloc, &map, asked.options, output)
 }
 

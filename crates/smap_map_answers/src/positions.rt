@@ -1,5 +1,5 @@
 //! Answering the positions on standard input from a map file.
-ghost use Rattle.std.specs.Prelude.{◌≡◌, ◌≤◌, ◌+◌, ◌++◌, [], false, length, option_copied, MatchOption};
+ghost use Rattle.std.specs.Prelude.{◌≡◌, ◌≤◌, ◌+◌, ◌++◌, [], false, length, MatchOption};
 ghost use Rattle.std.specs.Prelude.{string_bytes, string_capacity, string_len};
 ghost use Rattle.smap_lines.specs.Editing.{devices_seen};
 ghost use Rattle.smap_codes.specs.declared.code.Code.TheVariants.{P2};
@@ -17,7 +17,7 @@ use smap_io::{ByteSink, ByteSource};
 use smap_lines::LineFault;
 use smap_positions::PositionsSummary;
 use smap_record::MapFile;
-use smap_replies::{Failure, FileReader, MapReader, Reply, read_map};
+use smap_replies::{Failure, FileReader, Reply, read_chosen};
 use std::alloc::Global;
 
 // How many bytes the line has at most that refuses positions.
@@ -27,20 +27,19 @@ const MOST_REFUSAL_BYTES: usize = 80;
 /// failed.
 pub fn answer_positions<F: FileReader, R: ByteSource, W: ByteSink>(
     alloc: Global,
-    maps: &MapReader<'_, F>,
+    reader: &F,
     asked: &Positions,
     input: &mut R,
     output: &mut W,
 ) -> Result<Reply, Failure>
     requires input_works { (R.seen input.old).failed ≡ false }
     requires output_works { (W.seen output.old).failed ≡ false }
-    ensures { PositionsReports (F.gives maps.now.files.now) (string_bytes asked.now.map.path)
-        (option_copied maps.now.base) maps.now.interval asked.now.options
+    ensures { PositionsReports (F.gives reader.now) asked.now
         (devices_seen (R.seen input.old) (W.seen output.old))
         (devices_seen (R.seen input.new) (W.seen output.new))
         (report_of result) }
 {
-    let map = read_map(alloc, maps, 0, &asked.map.path)?;
+    let map = read_chosen(alloc, reader, &asked.map, false)?;
     answer_over(alloc, &map, asked.options, input, output)
 }
 

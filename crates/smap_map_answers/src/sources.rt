@@ -1,7 +1,9 @@
 //! Printing the sources of a map, and how much of the generated file each makes.
-ghost use Rattle.std.specs.Prelude.{◌≡◌, option_copied, option_map, string_bytes};
+ghost use Rattle.std.specs.Prelude.{◌≡◌, None, false, option_copied, option_map, string_bytes};
+ghost use Rattle.smap_command.specs.Limits.{usual_interval};
 ghost use Rattle.smap_replies.specs.Map.{IsResult, ReportsMap};
 ghost use Rattle.smap_replies.specs.Outcome.{OrMemory, report_of};
+ghost use Rattle.smap_replies.specs.Why.{ReportsChosen};
 ghost use Rattle.smap_map_answers.specs.Sources.{IsSourcesReported, ReportsSources, content_report, content_result};
 
 use crate::lines;
@@ -9,23 +11,24 @@ use smap_codes::Code;
 use smap_command::{SourceContent, SourceOptions, Sources};
 use smap_positions::sources_text;
 use smap_record::MapFile;
-use smap_replies::{Failure, FileReader, MapReader, Reply, read_map, read_text, refused_by};
+use smap_replies::{
+    Failure, FileReader, MapReader, Reply, read_chosen, read_map, read_text, refused_by,
+};
 use std::alloc::Global;
 
 /// Reads the map of the command, and its generated file, where one is given, and prints the map's sources.
 pub fn answer_sources<F: FileReader>(
     alloc: Global,
-    maps: &MapReader<'_, F>,
+    reader: &F,
     asked: &Sources,
 ) -> Result<Reply, Failure>
-    ensures { OrMemory (ReportsMap (F.gives maps.now.files.now) 0 (string_bytes asked.now.map.path)
-        (option_copied maps.now.base) maps.now.interval
-        (ReportsSources (F.gives maps.now.files.now) asked.now.options
+    ensures { OrMemory (ReportsChosen (F.gives reader.now) false asked.now.map
+        (ReportsSources (F.gives reader.now) asked.now.options
         (option_map string_bytes asked.now.generated))) (report_of result) }
 {
-    let map = read_map(alloc, maps, 0, &asked.map.path)?;
+    let map = read_chosen(alloc, reader, &asked.map, false)?;
     let generated = asked.generated.as_deref();
-    sources_of(alloc, maps.files, &map, generated, asked.options)
+    sources_of(alloc, reader, &map, generated, asked.options)
 }
 
 // The sources of a map, with its generated file at this path, where one is given.
@@ -65,14 +68,14 @@ fn reported_sources(
 /// Reads the map that the file at the path is, and prints the content of its source of the index, from 0.
 pub fn answer_content<F: FileReader>(
     alloc: Global,
-    maps: &MapReader<'_, F>,
+    reader: &F,
     asked: &SourceContent,
 ) -> Result<Reply, Failure>
-    ensures { OrMemory (ReportsMap (F.gives maps.now.files.now) 0 (string_bytes asked.now.path)
-        (option_copied maps.now.base) maps.now.interval
-        (IsResult (content_result asked.now.source))) (report_of result) }
+    ensures { OrMemory (ReportsMap (F.gives reader.now) 0 (string_bytes asked.now.path) None
+        usual_interval (IsResult (content_result asked.now.source))) (report_of result) }
 {
-    reported_content(alloc, &read_map(alloc, maps, 0, &asked.path)?, asked.source)
+    let map = read_map(alloc, &MapReader::usual(reader, None), 0, &asked.path)?;
+    reported_content(alloc, &map, asked.source)
 }
 
 // The content of the source of this index, or that there is no such source.

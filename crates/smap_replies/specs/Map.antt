@@ -1,9 +1,10 @@
 -- What a command reports a map file: what the map states decides, or why the map is refused.
-use Rattle.std.specs.Prelude.{◌≡◌, ℕ, ◌⊎◌, List, Option, Result, Ok, Err, Some, None, MatchOption, if◌then◌else◌, length, nat_lt, not}
+use Rattle.std.specs.Prelude.{◌≡◌, ℕ, ◌⊎◌, List, Option, Result, Ok, Err, Some, None, MatchOption, if◌then◌else◌, length, nat_lt, not, string_bytes}
 use Rattle.std.specs.Str.{is_utf8}
 use Rattle.smap_codes.specs.Codes.{name_of}
 use Rattle.smap_codes.specs.declared.code.Code.{Code}
 use Rattle.smap_codes.specs.declared.code.Code.TheVariants.{M1, NotUtf8}
+use Rattle.smap_command.specs.declared.asked.MapChoice.{MapChoice}
 use Rattle.smap_record.specs.Codes.{map_code}
 use Rattle.smap_record.specs.Limits.{most_file_bytes}
 use Rattle.smap_record.specs.Record.{MapRecord, record_of}
@@ -73,6 +74,10 @@ IsLine line_of stated report = report ≡ answer (line_of stated)
 -- it gives a map that states this
 abbrev pub IsStated : MayRead → (number : ℕ) (path : List ℕ) → Option Parts → (k : ℕ) → MapRecord → Type 0
 IsStated Reads number path base k stated = (bytes : List ℕ) × Reads number path (Ok bytes) × (record_of bytes base k ≡ Ok stated)
+
+-- the same of the map that a command chooses, which is the first of its files
+abbrev pub StatesChosen : MayRead → MapChoice → MapRecord → Type 0
+StatesChosen Reads chosen = IsStated Reads 0 (string_bytes chosen.path) chosen.base chosen.interval
 
 -- nothing is reported a map
 abbrev pub Never : MapRecord → Report → Type 0

@@ -1,5 +1,6 @@
 -- Why a file gives no map, where that is asked.
-use Rattle.std.specs.Prelude.{◌≡◌, ℕ, ◌⊎◌, ◌++◌, ◌&&◌, Bool, true, false, List, [], Option, Some, Ok, Err, codes, if◌then◌else◌}
+use Rattle.std.specs.Prelude.{◌≡◌, ℕ, ◌⊎◌, ◌++◌, ◌&&◌, Bool, true, false, List, [], Option, Some, Ok, Err, codes, if◌then◌else◌, string_bytes}
+use Rattle.smap_command.specs.declared.asked.MapChoice.{MapChoice}
 use Rattle.smap_explain.specs.Beginning.{has_bytes}
 use Rattle.smap_explain.specs.Explain.{IsExplained}
 use Rattle.smap_explain.specs.declared.explanation.Beginning.{Beginning}
@@ -84,3 +85,7 @@ OfFileWhy Reads explain number path Reports report =
 abbrev pub ReportsMapWhy : MayRead → (explain : Bool) → (number : ℕ) (path : List ℕ) → Option Parts → (k : ℕ) → (MapRecord → Report → Type 0) → Report → Type 0
 ReportsMapWhy Reads explain number path base k Reports =
     OfFileWhy Reads explain number path (λ bytes. ReportsRead (IsRefused bytes path explain) (record_of bytes base k) Reports)
+
+-- the same of the map that a command chooses, which is the first of its files
+abbrev pub ReportsChosen : MayRead → (explain : Bool) → MapChoice → (MapRecord → Report → Type 0) → Report → Type 0
+ReportsChosen Reads explain chosen = ReportsMapWhy Reads explain 0 (string_bytes chosen.path) chosen.base chosen.interval

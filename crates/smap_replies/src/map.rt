@@ -1,12 +1,15 @@
 //! Reading the map that a file is.
-ghost use Rattle.std.specs.Prelude.{option_copied, IfErr, IfOk, Ok};
+ghost use Rattle.std.specs.Prelude.{◌≡◌, option_copied, IfErr, IfOk, Ok};
+ghost use Rattle.smap_command.specs.Limits.{usual_interval};
 ghost use Rattle.smap_replies.specs.Files.{IsUnread};
-ghost use Rattle.smap_replies.specs.Map.{IsStated, Never, ReportsMap};
+ghost use Rattle.smap_replies.specs.Map.{IsStated, Never, ReportsMap, StatesChosen};
 ghost use Rattle.smap_replies.specs.Outcome.{OrMemory, failure_report};
+ghost use Rattle.smap_replies.specs.Why.{ReportsChosen};
 
 use crate::files::FileReader;
 use crate::outcome::Failure;
 use crate::why::{file_bytes_explained, read_map_explained};
+use smap_command::{MapChoice, USUAL_INTERVAL};
 use smap_record::{MapFile, Url};
 use std::alloc::Global;
 
@@ -19,6 +22,41 @@ pub struct MapReader<'a, F: FileReader> {
     pub base: Option<&'a Url>,
     /// The interval at which the checkpoints of a map stand.
     pub interval: u32,
+}
+
+impl<'a, F: FileReader> MapReader<'a, F> {
+    /// At this base, where one is given, with checkpoints at the usual interval.
+    pub fn usual(files: &'a F, base: Option<&'a Url>) -> MapReader<'a, F>
+        ensures files { result.files ≡ files.entry }
+        ensures base { result.base ≡ base.entry }
+        ensures interval { result.interval ≡ usual_interval }
+    {
+        MapReader {
+            files,
+            base,
+            interval: USUAL_INTERVAL,
+        }
+    }
+}
+
+/// The map that a command chooses, which is the first of its files. Where it is none, and `explain` asks for that, why is
+/// reported too.
+pub fn read_chosen<F: FileReader>(
+    alloc: Global,
+    reader: &F,
+    chosen: &MapChoice,
+    explain: bool,
+) -> Result<MapFile, Failure>
+    ensures read { IfOk result (λ map. StatesChosen (F.gives reader.now) chosen.now map.stated) }
+    ensures refused { IfErr result (λ failure. OrMemory
+        (ReportsChosen (F.gives reader.now) explain chosen.now Never) (failure_report failure)) }
+{
+    let maps = MapReader {
+        files: reader,
+        base: chosen.base.as_ref(),
+        interval: chosen.interval,
+    };
+    read_map_explained(alloc, &maps, 0, &chosen.path, explain)
 }
 
 /// The map that the file of this number and path is.

@@ -6,9 +6,9 @@ use Rattle.std.specs.Fmt.{decimal}
 use Rattle.std.specs.List.{concat}
 use Rattle.url.specs.Parts.{Parts}
 use Rattle.smap_codes.specs.declared.code.Code.{Code}
-use Rattle.smap_io.specs.Device.{SinkSeen}
+use Rattle.smap_io.specs.Device.{SinkSeen, SourceSeen}
 use Rattle.smap_lines.specs.Editing.{DevicesSeen, devices_seen}
-use Rattle.smap_lines.specs.RunEnds.{is_read_fault}
+use Rattle.smap_lines.specs.RunEnds.{RunEnds, is_read_fault}
 use Rattle.smap_lines.specs.declared.fault.LineFault.{LineFault}
 use Rattle.smap_lines.specs.declared.fault.LineFault.TheVariants as fault
 use Rattle.smap_anywhere.specs.Anywhere.{PlacesAsked, RewritesAnywhere, RewritesAnywhereFront}
@@ -106,6 +106,15 @@ abbrev pub RewritesTextFront : RequestSeen → MapSources → (Gives : (url : Li
 RewritesTextFront request sources Gives before after fault =
     MatchBool request.anywhere (RewritesAnywhereFront Gives (places_asked request sources) before after fault)
     (RewritesFrontOver Gives request.hide request.limit_bytes before after fault)
+
+-- how a run over a store of maps that are loaded so ends, and how the store stands then
+pub record EndsText {R W L : Type 0} (input_seen : R → SourceSeen) (output_seen : W → SinkSeen) (Loads : LoadsStep L) (May : LoadsMay L) (request : RequestSeen)
+    (sources : MapSources) (input_old input_new : R) (output_old output_new : W) (old new : StoredSeen L) (notes others : NotesSeen)
+    (result : Result RewriteCounts LineFault) : Type 0 where
+  pub ends : RunEnds input_seen output_seen input_old input_new output_old output_new
+      (λ before after counts. RewritesText request sources (FindsIn Loads) before after old new counts notes others)
+      (RewritesTextFront request sources (GivesIn May old)) result
+  pub looked : Looked (FindsIn Loads) old new
 
 -- a text was rewritten over a store of maps that are loaded so to its end, or up to a fault, and the store and the notes stand so
 -- then

@@ -3,9 +3,8 @@ ghost use Rattle.std.specs.Prelude.{◌≡◌, ◌<◌, ◌^◌, false, true, op
 ghost use Rattle.smap_lines.specs.RunEnds.{RunEnds, is_write_fault};
 ghost use Rattle.smap_replies.specs.Outcome.{or_reported};
 ghost use Rattle.smap_replies.specs.Streams.{streams_seen};
-ghost use Rattle.smap_store.specs.Stored.{FindsIn, GivesIn};
 ghost use Rattle.smap_text_answers.specs.Request.{request_seen};
-ghost use Rattle.smap_text_answers.specs.RewriteFrom.{IsOverStore, asked_by, RewritesFrom, RewritesText, RewritesTextFront, SaysUrls, says_urls, store_of};
+ghost use Rattle.smap_text_answers.specs.RewriteFrom.{EndsText, IsOverStore, RewritesFrom, SaysUrls, asked_by, says_urls, store_of};
 ghost use Rattle.smap_text_answers.specs.Sources.{GathersSources};
 ghost use Rattle.smap_anywhere.specs.Anywhere.{AreNone};
 ghost use Rattle.smap_trace.specs.NotesSeen.{notes_seen};
@@ -177,17 +176,11 @@ fn rewrite_text<F: FileReader, L: MapLoader, R: ByteSource, W: ByteSink>(
     requires input_works { (R.seen input.old).failed ≡ false }
     requires output_works { (W.seen output.old).failed ≡ false }
     requires limit { (request_seen run.now.request.now).limit_bytes < 2 ^ 63 }
-    ensures ends { RunEnds R.seen W.seen input.old input.new output.old output.new
-        (λ before after counts. RewritesText (request_seen run.now.request.now)
-        run.now.sources.now (FindsIn L.Loads) before after
+    ensures { EndsText R.seen W.seen L.Loads L.MayLoad (request_seen run.now.request.now)
+        run.now.sources.now input.old input.new output.old output.new
         (store_of run.now.sources.now cache.old loader.old)
-        (store_of run.now.sources.now cache.new loader.new) counts
-        (notes_seen notes.new.named) (notes_seen notes.new.others))
-        (RewritesTextFront (request_seen run.now.request.now) run.now.sources.now
-        (GivesIn L.MayLoad (store_of run.now.sources.now cache.old loader.old))) result }
-    ensures looked { Looked (FindsIn L.Loads)
-        (store_of run.now.sources.now cache.old loader.old)
-        (store_of run.now.sources.now cache.new loader.new) }
+        (store_of run.now.sources.now cache.new loader.new)
+        (notes_seen notes.new.named) (notes_seen notes.new.others) result }
 {
     if run.request.options.anywhere {
         rewrite_places(run, cache, loader, notes, input, output)
@@ -210,17 +203,11 @@ fn rewrite_frames<F: FileReader, L: MapLoader, R: ByteSource, W: ByteSink>(
     requires input_works { (R.seen input.old).failed ≡ false }
     requires output_works { (W.seen output.old).failed ≡ false }
     requires limit { (request_seen run.now.request.now).limit_bytes < 2 ^ 63 }
-    ensures ends { RunEnds R.seen W.seen input.old input.new output.old output.new
-        (λ before after counts. RewritesText (request_seen run.now.request.now)
-        run.now.sources.now (FindsIn L.Loads) before after
+    ensures { EndsText R.seen W.seen L.Loads L.MayLoad (request_seen run.now.request.now)
+        run.now.sources.now input.old input.new output.old output.new
         (store_of run.now.sources.now cache.old loader.old)
-        (store_of run.now.sources.now cache.new loader.new) counts
-        (notes_seen notes.new.named) (notes_seen notes.new.others))
-        (RewritesTextFront (request_seen run.now.request.now) run.now.sources.now
-        (GivesIn L.MayLoad (store_of run.now.sources.now cache.old loader.old))) result }
-    ensures looked { Looked (FindsIn L.Loads)
-        (store_of run.now.sources.now cache.old loader.old)
-        (store_of run.now.sources.now cache.new loader.new) }
+        (store_of run.now.sources.now cache.new loader.new)
+        (notes_seen notes.new.named) (notes_seen notes.new.others) result }
 {
     let alloc = run.alloc;
     let MapSources { words, locations } = run.sources;
@@ -287,17 +274,11 @@ fn rewrite_places<F: FileReader, L: MapLoader, R: ByteSource, W: ByteSink>(
     requires input_works { (R.seen input.old).failed ≡ false }
     requires output_works { (W.seen output.old).failed ≡ false }
     requires limit { (request_seen run.now.request.now).limit_bytes < 2 ^ 63 }
-    ensures ends { RunEnds R.seen W.seen input.old input.new output.old output.new
-        (λ before after counts. RewritesText (request_seen run.now.request.now)
-        run.now.sources.now (FindsIn L.Loads) before after
+    ensures { EndsText R.seen W.seen L.Loads L.MayLoad (request_seen run.now.request.now)
+        run.now.sources.now input.old input.new output.old output.new
         (store_of run.now.sources.now cache.old loader.old)
-        (store_of run.now.sources.now cache.new loader.new) counts
-        (notes_seen notes.new.named) (notes_seen notes.new.others))
-        (RewritesTextFront (request_seen run.now.request.now) run.now.sources.now
-        (GivesIn L.MayLoad (store_of run.now.sources.now cache.old loader.old))) result }
-    ensures looked { Looked (FindsIn L.Loads)
-        (store_of run.now.sources.now cache.old loader.old)
-        (store_of run.now.sources.now cache.new loader.new) }
+        (store_of run.now.sources.now cache.new loader.new)
+        (notes_seen notes.new.named) (notes_seen notes.new.others) result }
 {
     let (alloc, request) = (run.alloc, run.request);
     let MapSources { words, locations } = run.sources;

@@ -13,7 +13,6 @@ use crate::rewriting::StoreRun;
 use crate::url_lines::ends::end_of;
 use smap_anywhere::PlaceNotes;
 use smap_io::ByteSink;
-use smap_locations::Locations;
 use smap_replies::{DONE, FAILED, FileReader, NO_MEMORY, print_error};
 use smap_text::shown_byte;
 use smap_trace::UrlNote;
@@ -88,59 +87,50 @@ fn lines_of<F: FileReader, E: ByteSink>(
         refused: 0,
         lost: false,
     };
-    all_lines(
-        run.alloc,
-        &loader,
-        request.arguments,
-        &run.sources.locations,
-        request.options.anywhere,
-        &notes.named.notes,
-        &notes.others.notes,
-    )
+    all_lines(run, &loader, &notes.named.notes, &notes.others.notes)
 }
 
 // The lines of all of these, or that there is none.
 #[tactic(auto, using(crate::proofs::UrlLinesLaws::lines_all, crate::proofs::UrlLinesLaws::lines_none))]
 fn all_lines<F: FileReader, E: ByteSink>(
-    alloc: Global,
+    run: &StoreRun<'_, '_, '_, F>,
     loader: &FileLoader<'_, '_, '_, F, E>,
-    arguments: &[(String, String)],
-    locations: &Locations,
-    anywhere: bool,
     notes: &[UrlNote],
     others: &[UrlNote],
 ) -> Result<Vec<u8>, AllocError>
-    ensures { IfOk result (λ text.
+    ensures { let request = run.now.request.now in IfOk result (λ text.
         AreAllLines (F.gives loader.now.maps.now.files.now) loader.now.paths
         (option_copied loader.now.maps.now.base) loader.now.maps.now.interval loader.now.number
-        (map argument_of arguments.now) locations.now anywhere
+        (map argument_of request.arguments.now) run.now.sources.now.locations
+        request.options.now.anywhere
         (map note_seen notes.now ++ map note_seen others.now) text.items) }
 {
     let count = notes.len() + others.len();
     if count == 0 {
-        return Vec::from_slice(alloc, nothing_line(anywhere).as_bytes());
+        return Vec::from_slice(
+            run.alloc,
+            nothing_line(run.request.options.anywhere).as_bytes(),
+        );
     }
-    lines_of_both(alloc, loader, arguments, locations, anywhere, notes, others)
+    lines_of_both(run, loader, notes, others)
 }
 
 // The lines of all of these, one after another.
 fn lines_of_both<F: FileReader, E: ByteSink>(
-    alloc: Global,
+    run: &StoreRun<'_, '_, '_, F>,
     loader: &FileLoader<'_, '_, '_, F, E>,
-    arguments: &[(String, String)],
-    locations: &Locations,
-    anywhere: bool,
     notes: &[UrlNote],
     others: &[UrlNote],
 ) -> Result<Vec<u8>, AllocError>
-    ensures { IfOk result (λ text.
+    ensures { let request = run.now.request.now in IfOk result (λ text.
         AreUrlLines (F.gives loader.now.maps.now.files.now) loader.now.paths
         (option_copied loader.now.maps.now.base) loader.now.maps.now.interval loader.now.number
-        (map argument_of arguments.now) locations.now anywhere
+        (map argument_of request.arguments.now) run.now.sources.now.locations
+        request.options.now.anywhere
         (map note_seen notes.now ++ map note_seen others.now) text.items) }
 {
-    let mut text = lines_by(alloc, loader, arguments, locations, anywhere, notes)?;
-    let more = lines_by(alloc, loader, arguments, locations, anywhere, others)?;
+    let mut text = lines_by(run, loader, notes)?;
+    let more = lines_by(run, loader, others)?;
     text.extend_from_slice(&more)?;
     Ok(text)
 }
@@ -154,22 +144,19 @@ fn nothing_line(anywhere: bool) -> &'static str
 
 // The lines of all of these.
 fn lines_by<F: FileReader, E: ByteSink>(
-    alloc: Global,
+    run: &StoreRun<'_, '_, '_, F>,
     loader: &FileLoader<'_, '_, '_, F, E>,
-    arguments: &[(String, String)],
-    locations: &Locations,
-    anywhere: bool,
     notes: &[UrlNote],
 ) -> Result<Vec<u8>, AllocError>
-    ensures { IfOk result (λ text.
+    ensures { let request = run.now.request.now in IfOk result (λ text.
         AreUrlLines (F.gives loader.now.maps.now.files.now) loader.now.paths
         (option_copied loader.now.maps.now.base) loader.now.maps.now.interval loader.now.number
-        (map argument_of arguments.now) locations.now anywhere (map note_seen notes.now)
-        text.items) }
+        (map argument_of request.arguments.now) run.now.sources.now.locations
+        request.options.now.anywhere (map note_seen notes.now) text.items) }
 {
-    let mut text = Vec::new(alloc);
+    let mut text = Vec::new(run.alloc);
     for note in notes {
-        let line = line_of(alloc, loader, arguments, locations, anywhere, note)?;
+        let line = line_of(run, loader, note)?;
         text.extend_from_slice(&line)?;
     }
     Ok(text)
@@ -177,20 +164,25 @@ fn lines_by<F: FileReader, E: ByteSink>(
 
 // The line of a URL.
 fn line_of<F: FileReader, E: ByteSink>(
-    alloc: Global,
+    run: &StoreRun<'_, '_, '_, F>,
     loader: &FileLoader<'_, '_, '_, F, E>,
-    arguments: &[(String, String)],
-    locations: &Locations,
-    anywhere: bool,
     note: &UrlNote,
 ) -> Result<Vec<u8>, AllocError>
-    ensures { IfOk result (λ line.
+    ensures { let request = run.now.request.now in IfOk result (λ line.
         IsUrlLine (F.gives loader.now.maps.now.files.now) loader.now.paths
         (option_copied loader.now.maps.now.base) loader.now.maps.now.interval loader.now.number
-        (map argument_of arguments.now) locations.now anywhere (note_seen note.now) line.items) }
+        (map argument_of request.arguments.now) run.now.sources.now.locations
+        request.options.now.anywhere (note_seen note.now) line.items) }
 {
-    let end = end_of(alloc, loader, arguments, locations, note)?;
-    let counts = counts_text(alloc, anywhere, note.frames, note.mapped)?;
+    let (alloc, request) = (run.alloc, run.request);
+    let end = end_of(
+        alloc,
+        loader,
+        request.arguments,
+        &run.sources.locations,
+        note,
+    )?;
+    let counts = counts_text(alloc, request.options.anywhere, note.frames, note.mapped)?;
     let mut line = shown_url(alloc, &note.url)?;
     line.extend_from_slice(counts.as_bytes())?;
     line.extend_from_slice(&end)?;

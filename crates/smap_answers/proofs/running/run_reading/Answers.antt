@@ -1,5 +1,5 @@
 use Rattle.std.proofs.Common.{◌≡◌, ◌∙◌, [], ap, subst, sym}
-use Rattle.smap_command.specs.Reading.{reading_of}
+use Rattle.smap_command.specs.Runnable.{strips_ansi}
 use Rattle.smap_io.specs.Device.{SourceSeen}
 use Rattle.smap_replies.specs.Streams.{streams_seen}
 use Rattle.smap_sequences.specs.Sequences.{most_sequences}
@@ -10,7 +10,7 @@ use Rattle.smap_answers.proofs.running.run_reading.Goals as goal
 
 pub returns-then-not-strips_ansi : goal.returns-then-not-strips_ansi
 returns-then-not-strips_ansi g c =
-    in_other (reading_of c.args.command.now).strips_ansi _ _ (ap (λ seen. seen.strips_ansi) (sym c.reading-strips_ansi.ensures) ∙ c.if-not-strips_ansi.true)
+    in_other (strips_ansi c.args.command.now) _ _ (sym c.strips_ansi.ensures ∙ c.if-not-strips_ansi.true)
     c.run_over-status.ensures
 
 pub returns : goal.returns
@@ -26,7 +26,7 @@ returns g c =
     let runs = λ (old new : SourceSeen). Runs (g.F.FileReader.gives c.args.reader.now) c.args.hint c.args.command.now run.result
     (streams_seen old (g.W.ByteSink.seen c.args.output.now) (g.E.ByteSink.seen c.args.errors.now) c.args.first.now)
     (streams_seen new (g.W.ByteSink.seen run.new.output) (g.E.ByteSink.seen run.new.errors) run.new.first) in
-    in_case (reading_of c.args.command.now).strips_ansi _ _ (ap (λ seen. seen.strips_ansi) (sym c.reading-strips_ansi.ensures) ∙ c.if-not-strips_ansi.false) (
+    in_case (strips_ansi c.args.command.now) _ _ (sym c.strips_ansi.ensures ∙ c.if-not-strips_ansi.false) (
       text.held,
       text.most,
       subst (λ new. runs (without_seen [] most_sequences (seen c.args.input)) new) after

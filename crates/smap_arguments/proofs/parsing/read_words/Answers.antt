@@ -19,5 +19,5 @@ returns-in-Ok-try_get_matches_from c =
     let parsed = parsed_line (texts c.args.words.now) _ c.in-Ok.ensures c.in-Ok-try_get_matches_from.matches c.in-Ok-try_get_matches_from.ensures.kinds c.in-Ok-try_get_matches_from.ensures.matches in
     let read = c.command_in.result in
     read_line (texts c.args.words.now) rows parsed.0 parsed.1 read
-    (subst (λ b. IfOk read (SubcommandAsksFor b rows)) c.asks_generated.ensures c.command_in.ensures.asked) c.command_in.ensures.in_range
+    (subst (λ b. IfOk read (SubcommandAsksFor b rows)) c.asks_generated.ensures c.command_in.ensures.asked)
     (subst (λ b. IfErr read (IsNamedRefusal (SubcommandReports b rows))) c.asks_generated.ensures c.command_in.ensures.refused)

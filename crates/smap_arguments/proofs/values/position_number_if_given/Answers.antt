@@ -11,20 +11,14 @@ overflow_sub-result c =
     (position_read (found_of c.args.matches.now) c.args.name.now c.get_one.result c.requires c.get_one.ensures.none c.get_one.ensures.value) in
     omega (arith, read.0)
 
-pub returns-in-Some-clause-given : goal.returns-in-Some-clause-given
-returns-in-Some-clause-given c =
+pub returns-in-Some : goal.returns-in-Some
+returns-in-Some c =
     let read = subst (IsReadWithin 1 (limit + 1) (rows_of (found_of c.args.matches.now)) c.args.name.now) c.in-Some.is
     (position_read (found_of c.args.matches.now) c.args.name.now c.get_one.result c.requires c.get_one.ensures.none c.get_one.ensures.value) in
     let back : c.in-Some.number ≡ c.in-Some.number - 1 + 1 = omega (arith, read.0) in
-    subst (GivesNumber (rows_of (found_of c.args.matches.now)) c.args.name.now) back read.2
+    (subst (GivesNumber (rows_of (found_of c.args.matches.now)) c.args.name.now) back read.2, omega (arith, read.0, read.1))
 
-pub returns-in-Some-clause-in_range : goal.returns-in-Some-clause-in_range
-returns-in-Some-clause-in_range c =
-    let read = subst (IsReadWithin 1 (limit + 1) (rows_of (found_of c.args.matches.now)) c.args.name.now) c.in-Some.is
-    (position_read (found_of c.args.matches.now) c.args.name.now c.get_one.result c.requires c.get_one.ensures.none c.get_one.ensures.value) in
-    omega (arith, read.0, read.1)
-
-pub returns-in-None-clause-given : goal.returns-in-None-clause-given
-returns-in-None-clause-given c =
+pub returns-in-None : goal.returns-in-None
+returns-in-None c =
     subst (IsReadWithin 1 (limit + 1) (rows_of (found_of c.args.matches.now)) c.args.name.now) c.in-None.is
     (position_read (found_of c.args.matches.now) c.args.name.now c.get_one.result c.requires c.get_one.ensures.none c.get_one.ensures.value)

@@ -18,17 +18,10 @@ overflow_sub-result c =
     let same : c.unwrap.result ≡ read.0 = cc in
     omega arith
 
-pub returns-clause-given : goal.returns-clause-given
-returns-clause-given c =
+pub returns : goal.returns
+returns c =
     let read = number_read 1 (limit + 1) (omega arith) (found_of c.args.matches.now) c.args.name.now c.get_one.result c.requires c.get_one.ensures.value in
     let some : Some c.unwrap.result ≡ Some read.0 = sym c.unwrap.ensures ∙ read.1 in
     let same : c.unwrap.result ≡ read.0 = cc in
     let back : read.0 ≡ c.unwrap.result - 1 + 1 = omega arith in
-    subst (GivesNumber (rows_of (found_of c.args.matches.now)) c.args.name.now) back read.4
-
-pub returns-clause-in_range : goal.returns-clause-in_range
-returns-clause-in_range c =
-    let read = number_read 1 (limit + 1) (omega arith) (found_of c.args.matches.now) c.args.name.now c.get_one.result c.requires c.get_one.ensures.value in
-    let some : Some c.unwrap.result ≡ Some read.0 = sym c.unwrap.ensures ∙ read.1 in
-    let same : c.unwrap.result ≡ read.0 = cc in
-    omega arith
+    (subst (GivesNumber (rows_of (found_of c.args.matches.now)) c.args.name.now) back read.4, omega arith)

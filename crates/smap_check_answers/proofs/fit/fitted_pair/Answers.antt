@@ -1,5 +1,6 @@
 use Rattle.std.proofs.Common.{◌*◌, inl, inr, ℕ, List, Option, subst, sym}
-use Rattle.std.specs.Prelude.{option_copied}
+use Rattle.std.specs.Prelude.{None}
+use Rattle.smap_command.specs.Limits.{usual_interval}
 use Rattle.smap_record.specs.Record.{MapRecord}
 use Rattle.smap_check_answers.specs.Fit.{FitsText}
 use Rattle.smap_replies.specs.Files.{MayRead}
@@ -18,7 +19,9 @@ of_stated Reads number path base k stated Reports report is (inr reported) =
 
 pub returns : goal.returns
 returns g c =
-    of_stated (g.F.FileReader.gives c.args.maps.now.files.now) (2 * c.args.number) c.args.path.now (option_copied c.args.maps.now.base)
-    c.args.maps.now.interval c.in_ok-map.map.stated
-    (FitsText (g.F.FileReader.gives c.args.maps.now.files.now) c.args.options c.args.number (c.args.path.now, c.args.generated.now))
-    (report_of c.fitted_map.result) c.in_ok-map.ensures.read c.fitted_map.ensures
+    let Reads = g.F.FileReader.gives c.args.reader.now in
+    let pair = c.args.pair in
+    let made = c.usual.ensures in
+    of_stated Reads (2 * pair.number) pair.map.now None usual_interval c.in_ok-map.map.stated
+    (FitsText Reads c.args.options pair.number (pair.map.now, pair.generated.now))
+    (report_of c.fitted_map.result) (rw (made.files, made.base, made.interval) at c.in_ok-map.ensures.read) c.fitted_map.ensures

@@ -18,8 +18,8 @@ returns-clause-ends g c =
     let before = devices_seen (g.R.ByteSource.seen c.args.input.now) (g.W.ByteSink.seen c.args.output.now) in
     let after = devices_seen (g.R.ByteSource.seen c.edit_lines.new.input) (g.W.ByteSink.seen c.edit_lines.new.output) in
     ends_wider c.edit_lines.result (λ counts is.
-    subst (λ (s : StoredSeen g.row.L.Denot). EditsInto (LocateStep (FindsIn g.L.MapLoader.Loads) c.args.options) most_text_bytes before after
-    (store_of c.args.sources.now c.args.cache.now c.args.loader.now) s counts)
+    subst (λ (s : StoredSeen g.row.L.Denot). EditsInto (LocateStep (FindsIn g.L.MapLoader.Loads) c.args.run.now.asked.now.options) most_text_bytes before after
+    (store_of c.args.run.now.sources.now c.args.cache.now c.args.loader.now) s counts)
     (store_after _ new.maps c.edit_lines.ensures.reaches.1 _ _ cache loader)
     (locates_seen g.L.MapLoader.Loads _ most_text_bytes before after new counts (refl, same_store_self _) is))
     (λ fault is. is) c.edit_lines.ensures.ends
@@ -29,5 +29,5 @@ returns-clause-looked g c =
     let new = c.edit_lines.new.editor in
     let cache : c.cache-1.given.0 ≡ new.maps.cache.now = search rules in
     let loader : c.loader-1.given.0 ≡ new.maps.loader.now = search rules in
-    subst (λ (s : StoredSeen g.row.L.Denot). Looked (FindsIn g.L.MapLoader.Loads) (store_of c.args.sources.now c.args.cache.now c.args.loader.now) s)
+    subst (λ (s : StoredSeen g.row.L.Denot). Looked (FindsIn g.L.MapLoader.Loads) (store_of c.args.run.now.sources.now c.args.cache.now c.args.loader.now) s)
     (store_after _ new.maps c.edit_lines.ensures.reaches.1 _ _ cache loader) c.edit_lines.ensures.reaches.0
