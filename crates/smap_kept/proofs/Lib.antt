@@ -6,3 +6,4 @@ mod UnderLaws
 mod OwnLaws
 mod RunLaws
 mod Examples
+mod FirstLaws

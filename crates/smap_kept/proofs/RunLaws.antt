@@ -14,7 +14,8 @@ use Rattle.smap_kept.specs.declared.answer.Answer.TheVariants.{Known, NoneKnown,
 use Rattle.smap_kept.specs.declared.bounded.Counted.{Counted}
 use Rattle.smap_kept.specs.declared.kept.Absence.{Absence}
 use Rattle.smap_kept.proofs.OwnLaws.{key_of_put, key_stays, own_of_put, own_stays, whole_is}
-use Rattle.smap_kept.proofs.UnderLaws.{IsOnceUnder, found_first, found_put, found_without, none_there, once_put, once_used, once_without, other_without, same_used}
+use Rattle.smap_kept.proofs.UnderLaws.{IsOnceUnder, found_without, none_there, once_put, once_used, once_without}
+use Rattle.smap_kept.specs.Laws.Under.{found_first, found_put, other_without, same_used}
 
 own_or : (own : OwnSeen) (url there : List ℕ) (before : Bool) → (before ≡ true → has_query url ≡ true → is_own own url ≡ true)
     → (b : Bool) → bytes_eq url there ≡ b → cond b true before ≡ true → has_query url ≡ true → is_own (own_with there own) url ≡ true
@@ -50,7 +51,7 @@ module _ {T : Type 0} where
       nones_once = once_without there kept.nones was.nones_once;
       values = λ url found is.
           put_or (bytes_eq url there) one found (value_under url kept.values) (said_of calls url)
-          (found_put kept.most there one kept.values url found was.values_once is) (was.values url found);
+          (found_put kept.most there one kept.values url found is) (was.values url found);
       nones = λ url found is.
           let parts = found_without url there kept.nones found was.nones_once is in
           ap (λ b. cond b (ValueSaid one.value) (said_of calls url)) parts.0 ∙ was.nones url found parts.1;
@@ -68,7 +69,7 @@ module _ {T : Type 0} where
               ap (λ b. cond b (NoneSaid none) (said_of calls url)) parts.0 ∙ was.values url found parts.1;
           nones = λ url found is.
               none_or (bytes_eq url there) one found (value_under url kept.nones) (said_of calls url)
-              (found_put (kept.most / 16) there one kept.nones url found was.nones_once is) (was.nones url found);
+              (found_put (kept.most / 16) there one kept.nones url found is) (was.nones url found);
           own = λ url. own_or kept.own url there (was_put calls url) (was.own url) (bytes_eq url there) refl;
         }
 
@@ -339,7 +340,7 @@ module _ {T : Type 0} where
       others_at_most_wanted now calls kept (with_value there one kept) there was refl
       (λ other off. record {
         values = λ found is. sym (ap (λ b. cond b (Some one) (value_under other kept.values)) off)
-            ∙ found_put kept.most there one kept.values other found was.values_once is;
+            ∙ found_put kept.most there one kept.values other found is;
         nones = λ found is. (found_without other there kept.nones found was.nones_once is).1;
       })
       url apart cut_apart
@@ -355,6 +356,6 @@ module _ {T : Type 0} where
       (λ other off. record {
         values = λ found is. (found_without other there kept.values found was.values_once is).1;
         nones = λ found is. sym (ap (λ b. cond b (Some one) (value_under other kept.nones)) off)
-            ∙ found_put (kept.most / 16) there one kept.nones other found was.nones_once is;
+            ∙ found_put (kept.most / 16) there one kept.nones other found is;
       })
       url apart cut_apart

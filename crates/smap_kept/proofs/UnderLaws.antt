@@ -3,9 +3,9 @@ use Rattle.std.proofs.Common.{◌≡◌, ℕ, ◌-◌, Bool, true, false, cond, 
 use Rattle.std.proofs.lemmas.Slice.Eq.{bytes_eq-Decides}
 use Rattle.std.specs.Str.{bytes_eq}
 use Rattle.smap_by_text.specs.ByText.{value_under}
-use Rattle.smap_by_text.specs.Laws.ByText.{same_text}
-use Rattle.smap_kept.specs.Bounded.{entry_bytes, fitting, kept_within}
+use Rattle.smap_kept.specs.Bounded.{entry_bytes, fitting}
 use Rattle.smap_kept.specs.InOrder.{in_front, used, without}
+use Rattle.smap_kept.specs.Laws.Under.{found_fitting, other_without, put_first}
 use Rattle.smap_kept.specs.declared.bounded.Counted.{Counted}
 use Rattle.smap_kept.proofs.Numbers.{passed}
 
@@ -15,31 +15,6 @@ either P true one other holds rest = holds
 either P false one other holds rest = rest
 
 module _ {X : Type 0} where
-  pub other_without : (other text : List ℕ) (entries : List (List ℕ × X)) → bytes_eq other text ≡ false
-      → value_under other (without text entries) ≡ value_under other entries
-  other_without other text [] apart = refl
-  other_without other text (e ∷ entries) apart = go (bytes_eq text e.0) refl (other_without other text entries apart)
-    where
-      go : (b : Bool) → bytes_eq text e.0 ≡ b → value_under other (without text entries) ≡ value_under other entries
-          → value_under other (cond b entries (e ∷ without text entries)) ≡ value_under other (e ∷ entries)
-      go true same below =
-          let off : bytes_eq other e.0 ≡ false = subst (λ t. bytes_eq other t ≡ false) ((bytes_eq-Decides text e.0).0 same) apart in
-          sym (ap (λ b. cond b (Some e.1) (value_under other entries)) off)
-      go false differ below = ap (λ o. cond (bytes_eq other e.0) (Some e.1) o) below
-
-  -- what is used stays under its text
-  pub same_used : (other text : List ℕ) (entries : List (List ℕ × X)) → value_under other (used text entries) ≡ value_under other entries
-  same_used other text entries = go (value_under text entries) refl
-    where
-      at : (value : X) → value_under text entries ≡ Some value → (b : Bool) → bytes_eq other text ≡ b
-          → cond b (Some value) (value_under other (without text entries)) ≡ value_under other entries
-      at value is true same = sym (subst (λ t. value_under t entries ≡ Some value) (sym ((bytes_eq-Decides other text).0 same)) is)
-      at value is false apart = other_without other text entries apart
-
-      go : (found : Option X) → value_under text entries ≡ found → value_under other (in_front text found entries) ≡ value_under other entries
-      go None is = refl
-      go (Some value) is = at value is (bytes_eq other text) refl
-
   pub none_without : (other text : List ℕ) (entries : List (List ℕ × X)) → value_under other entries ≡ None → value_under other (without text entries) ≡ None
   none_without other text [] is = is
   none_without other text (e ∷ entries) is =
@@ -90,22 +65,6 @@ module _ {X : Type 0} where
 -- ---- as many as there is room for
 
 module _ {T : Type 0} where
-  pub found_fitting : (text : List ℕ) (room : ℕ) (entries : List (List ℕ × Counted T)) (one : Counted T) → value_under text (fitting room entries) ≡ Some one
-      → value_under text entries ≡ Some one
-  found_fitting text room [] one is = is
-  found_fitting text room (e ∷ entries) one is =
-      go (nat_le (entry_bytes e) room) (fitting (room - entry_bytes e) entries) (found_fitting text (room - entry_bytes e) entries one) is
-    where
-      at : (rest : Option (Counted T)) → (rest ≡ Some one → value_under text entries ≡ Some one) → (b : Bool) → cond b (Some e.1) rest ≡ Some one
-          → cond b (Some e.1) (value_under text entries) ≡ Some one
-      at rest below true is = is
-      at rest below false is = below is
-
-      go : (b : Bool) (rest : List (List ℕ × Counted T)) → (value_under text rest ≡ Some one → value_under text entries ≡ Some one)
-          → value_under text (cond b (e ∷ rest) []) ≡ Some one → value_under text (e ∷ entries) ≡ Some one
-      go true rest below is = at (value_under text rest) below (bytes_eq text e.0) is
-      go false rest below is = cc
-
   none_fitting : (text : List ℕ) (room : ℕ) (entries : List (List ℕ × Counted T)) → value_under text entries ≡ None → value_under text (fitting room entries) ≡ None
   none_fitting text room entries none = go (value_under text (fitting room entries)) refl
     where
@@ -121,29 +80,8 @@ module _ {T : Type 0} where
 
   -- ---- one comes first, and others go for it
 
-  abbrev put_first : (most : ℕ) (text : List ℕ) → Counted T → List (List ℕ × Counted T) → List (List ℕ × Counted T)
-  put_first most text one entries = kept_within most ((text, one) ∷ without text entries)
-
   pub once_put : (most : ℕ) (text : List ℕ) (one : Counted T) (entries : List (List ℕ × Counted T)) → IsOnceUnder entries
       → IsOnceUnder (put_first most text one entries)
   once_put most text one entries once =
       let room = most - entry_bytes (text, one) in
       (none_fitting text room (without text entries) (none_there text entries once), once_fitting room (without text entries) (once_without text entries once))
-
-  pub found_first : (most : ℕ) (text : List ℕ) (one : Counted T) (entries : List (List ℕ × Counted T)) → value_under text (put_first most text one entries) ≡ Some one
-  found_first most text one entries =
-      ap (λ b. cond b (Some one) (value_under text (fitting (most - entry_bytes (text, one)) (without text entries)))) (same_text text)
-
-  -- what is found is it, or was there under another text
-  pub found_put : (most : ℕ) (text : List ℕ) (one : Counted T) (entries : List (List ℕ × Counted T)) (other : List ℕ) (there : Counted T) → IsOnceUnder entries
-      → value_under other (put_first most text one entries) ≡ Some there
-      → cond (bytes_eq other text) (Some one) (value_under other entries) ≡ Some there
-  found_put most text one entries other there once is = go (bytes_eq other text) refl is
-    where
-      left : List (List ℕ × Counted T)
-      left = fitting (most - entry_bytes (text, one)) (without text entries)
-
-      go : (b : Bool) → bytes_eq other text ≡ b → cond b (Some one) (value_under other left) ≡ Some there → cond b (Some one) (value_under other entries) ≡ Some there
-      go true same is = is
-      go false apart is =
-          (found_without other text entries there once (found_fitting other (most - entry_bytes (text, one)) (without text entries) there is)).1

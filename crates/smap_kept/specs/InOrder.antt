@@ -9,6 +9,11 @@ module _ {T : Type 0} where
   without text [] = []
   without text (e ∷ entries) = if bytes_eq text e.0 then entries else e ∷ without text entries
 
+  -- what stands first, if it is under a text
+  abbrev pub first_under : (text : List ℕ) → List (List ℕ × T) → Option T
+  first_under text [] = None
+  first_under text (e ∷ entries) = if bytes_eq text e.0 then Some e.1 else None
+
   -- what is under a text is moved to the front, if there is something
   abbrev pub in_front : (text : List ℕ) → Option T → List (List ℕ × T) → List (List ℕ × T)
   in_front text None entries = entries

@@ -3,4 +3,5 @@ pub mod Bounded
 pub mod OwnUrls
 pub mod Kept
 pub mod Runs
+pub mod Laws
 pub mod Private

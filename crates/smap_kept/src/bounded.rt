@@ -16,9 +16,10 @@ pub(crate) struct Counted<V> {
     pub(crate) bytes: u64,
 }
 
-/// Values under texts, in the order of their last use, of which the longest unused are dropped where their bytes pass a bound.
+/// Values under texts, in the order of their last use. A value counts for its bytes, those of its text, and 128; their sum
+/// is within a bound, or one value stands alone: where there is no room for one more, the longest unused are dropped.
 #[derive(Drop)]
-pub(crate) struct Bounded<V> {
+pub struct Bounded<V> {
     entries: InOrder<Counted<V>>,
     bytes: u64,
     most: u64,
@@ -36,7 +37,7 @@ impl<V> Model for Bounded<V> {
 
 impl<V: Drop> Bounded<V> {
     /// No value, and a bound in bytes.
-    pub(crate) fn new(alloc: Global, most: u64) -> Result<Bounded<V>, AllocError>
+    pub fn new(alloc: Global, most: u64) -> Result<Bounded<V>, AllocError>
         ensures { IfOk result (λ all. all ≡ record { entries = []; most = most }) }
     {
         let entries = InOrder::new(alloc)?;
@@ -48,7 +49,7 @@ impl<V: Drop> Bounded<V> {
     }
 
     /// For how many bytes all count.
-    pub(crate) fn bytes(&self) -> u64
+    pub fn bytes(&self) -> u64
         ensures sum { result ≡ bytes_of self.now.entries }
         ensures within { is_within self.now.most self.now.entries ≡ true }
     {
@@ -63,7 +64,7 @@ impl<V: Drop> Bounded<V> {
     }
 
     /// The value under a text, where there is one. The order stays.
-    pub(crate) fn get(&self, text: &[u8]) -> Option<&V>
+    pub fn get(&self, text: &[u8]) -> Option<&V>
         ensures { option_copied result ≡ known_under text.now self.now.entries }
     {
         match self.entries.get(text) {
@@ -81,7 +82,7 @@ impl<V: Drop> Bounded<V> {
     }
 
     /// Puts what is under a text first, and says whether there is something.
-    pub(crate) fn touch(&mut self, text: &[u8]) -> bool
+    pub fn touch(&mut self, text: &[u8]) -> bool
         ensures found { result ≡ is_some (value_under text.now self.old.entries) }
         ensures order { self.new ≡ record self.old { entries = used text.now self.old.entries } }
     {
@@ -90,7 +91,7 @@ impl<V: Drop> Bounded<V> {
 
     /// Puts a value under a text, before all others, and drops what there is no room for then. Gives how many were dropped.
     /// Where memory runs out, nothing is changed, and the value comes back.
-    pub(crate) fn put(
+    pub fn put(
         &mut self,
         alloc: Global,
         text: &[u8],

@@ -4,7 +4,7 @@ ghost use Rattle.std.specs.Option.{IfNone, option_to_list};
 ghost use Rattle.std.specs.Map.{lookup, remove_entry};
 ghost use Rattle.lru.specs.LruCache.{lru_cache};
 ghost use Rattle.smap_by_text.specs.ByText.{value_under};
-ghost use Rattle.smap_kept.specs.InOrder.{used, without};
+ghost use Rattle.smap_kept.specs.InOrder.{first_under, used, without};
 
 use lru::LruCache;
 use std::alloc::{AllocError, AllocFailed, Global};
@@ -65,6 +65,28 @@ impl<V: Drop> InOrder<V> {
     pub(crate) fn get(&self, text: &[u8]) -> Option<&V>
         ensures { option_copied result ≡ value_under text.now self.now }
     {
+        match self.first_under(text) {
+            Some(value) => Some(value),
+            None => self.numbered_under(text),
+        }
+    }
+
+    // The value that was used last, where it is under this text: the next look-up is often for the same.
+    fn first_under(&self, text: &[u8]) -> Option<&V>
+        ensures { option_copied result ≡ first_under text.now self.now }
+    {
+        let (_, named) = self.entries.peek_mru()?;
+        if text == named.text.as_slice() {
+            Some(&named.value)
+        } else {
+            None
+        }
+    }
+
+    // The value under a text, by its number.
+    fn numbered_under(&self, text: &[u8]) -> Option<&V>
+        ensures { option_copied result ≡ value_under text.now self.now }
+    {
         let number = self.numbers.get(text)?;
         match self.entries.peek(number) {
             Some(named) => Some(&named.value),
@@ -74,6 +96,14 @@ impl<V: Drop> InOrder<V> {
 
     /// Puts what is under a text first, and says whether there is something.
     pub(crate) fn touch(&mut self, text: &[u8]) -> bool
+        ensures found { result ≡ is_some (value_under text.now self.old) }
+        ensures order { self.new ≡ used text.now self.old }
+    {
+        self.first_under(text).is_some() || self.promote(text)
+    }
+
+    // The same, by the number of what is under the text.
+    fn promote(&mut self, text: &[u8]) -> bool
         ensures found { result ≡ is_some (value_under text.now self.old) }
         ensures order { self.new ≡ used text.now self.old }
     {

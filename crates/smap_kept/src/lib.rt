@@ -8,7 +8,7 @@
 //! let map = maps.peek(b"https://example.test/app.js?v=2", now);
 //! ```
 //!
-//! What is wanted is put under its key, `maps.key_for(url)`.
+//! What is wanted is put under its key, `maps.key_for(url)`. [`Bounded`] keeps values under texts as they are.
 #![tactic(auto)]
 
 mod answer;
@@ -19,4 +19,5 @@ pub mod laws;
 mod own_urls;
 
 pub use answer::{Answer, NoValue};
+pub use bounded::Bounded;
 pub use kept::Kept;

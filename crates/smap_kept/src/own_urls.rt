@@ -61,10 +61,11 @@ impl OwnUrls {
     pub(crate) fn key_for<'u>(&self, url: &'u [u8]) -> &'u [u8]
         ensures { result.now ≡ key_of self.now url.now }
     {
-        if has_query(url) && self.has(url) {
+        let short = without_query(url);
+        if short.len() < url.len() && self.has(url) {
             url
         } else {
-            without_query(url)
+            short
         }
     }
 

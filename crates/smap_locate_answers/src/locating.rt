@@ -100,7 +100,7 @@ fn over_store<F: FileReader, R: ByteSource, W: ByteSink, E: ByteSink>(
     ensures output_failure { (W.seen output.new).failed ≡ is_write_fault result.result }
 {
     let asked = run.asked;
-    let mut cache = MapCache::new(run.alloc, asked.cache_bytes.unwrap_or(USUAL_CACHE_BYTES));
+    let mut cache = MapCache::new(asked.cache_bytes.unwrap_or(USUAL_CACHE_BYTES));
     let mut loader = FileLoader {
         maps: run.maps,
         paths: asked.paths,

@@ -1,5 +1,6 @@
 mod FolderLaws
 mod PathLaws
+mod QueryLaws
 mod PatternLaws
 mod DecidingLaws
 mod InTextLaws

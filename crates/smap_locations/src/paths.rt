@@ -5,6 +5,7 @@ ghost use Rattle.smap_locations.specs.Paths.{has_map_path, is_before_query, is_p
 ghost use Rattle.smap_locations.specs.Patterns.{path_byte};
 
 use crate::pieces::path_byte;
+use memchr::memchr2;
 use std::alloc::{AllocError, Global};
 
 /// A URL without its query and its fragment: what stands before its first `?` or `#`.
@@ -72,14 +73,5 @@ fn bytes_before_query(url: &[u8]) -> usize
     ensures count { result ≡ prefix_len is_before_query url.now }
     ensures within { result ≤ length url.now }
 {
-    url.iter()
-        .take_while(|byte| is_before_query(**byte))
-        .count()
-}
-
-// Whether neither a query nor a fragment begins with this byte.
-fn is_before_query(byte: u8) -> bool
-    ensures { result ≡ is_before_query byte }
-{
-    !(byte == b'?' || byte == b'#')
+    memchr2(b'?', b'#', url).unwrap_or(url.len())
 }

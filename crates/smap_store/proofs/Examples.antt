@@ -1,12 +1,12 @@
 -- The definitions on small examples.
-use Rattle.std.proofs.Common.{◌≡◌, ℕ, true, false, List, [], ◌∷◌, Some, None, Err, codes, refl}
+use Rattle.std.proofs.Common.{◌≡◌, ℕ, List, [], ◌∷◌, Some, None, Err, codes, refl}
 use Rattle.smap_locations.specs.Locations.{LocationsSeen, key_for, path_for}
 use Rattle.smap_record.specs.Record.{MapRecord}
 use Rattle.smap_trace.specs.Table.{is_bad_url}
-use Rattle.smap_store.specs.Cache.{KeptMaps, bytes_of, is_bounded}
+use Rattle.smap_store.specs.Cache.{CacheSeen, cache_at_first, kept_under, with_none}
 use Rattle.smap_locations.specs.ListLine.{entry_of}
 use Rattle.smap_store.specs.MapList.{line_fault}
-use Rattle.smap_store.specs.declared.loader.NoMap.TheVariants.{Unnamed}
+use Rattle.smap_store.specs.declared.loader.NoMap.TheVariants.{Unnamed, Unread}
 use Rattle.smap_locations.specs.declared.refusal.ListFault.TheVariants.{NoTab, NoFolder, Twice}
 
 -- a file, a folder and a pattern
@@ -30,21 +30,21 @@ path_of_file : path_for places (codes "a:/f?1") ≡ Some (codes "f.map")
 unfolding places
 path_of_file = refl
 
--- two URLs that have none, of 4 and 5 bytes
-kept : KeptMaps
-kept = (codes "a:/f", record { found = Err Unnamed; file_bytes = 0 }) ∷ (codes "a:/fg", record { found = Err Unnamed; file_bytes = 0 }) ∷ []
+-- two URLs that have none, of 4 and 5 bytes, within a sixteenth of 4,240 bytes; of 4,239 the longest unused is dropped
+first_none : (most : ℕ) → CacheSeen
+first_none most = with_none (codes "a:/f") Unnamed (cache_at_first most)
 
-bytes_of_two : bytes_of kept ≡ 265
-unfolding kept
-bytes_of_two = refl
+both_kept : kept_under (codes "a:/f") (with_none (codes "a:/fg") Unread (first_none 4240)) ≡ Some (Err Unnamed)
+unfolding first_none
+both_kept = refl
 
-within_265 : is_bounded 265 kept ≡ true
-unfolding kept
-within_265 = refl
+last_kept : kept_under (codes "a:/fg") (with_none (codes "a:/fg") Unread (first_none 4239)) ≡ Some (Err Unread)
+unfolding first_none
+last_kept = refl
 
-past_264 : is_bounded 264 kept ≡ false
-unfolding kept
-past_264 = refl
+first_dropped : kept_under (codes "a:/f") (with_none (codes "a:/fg") Unread (first_none 4239)) ≡ None
+unfolding first_none
+first_dropped = refl
 
 -- a line is cut at its first TAB
 cut_line : entry_of (codes "a:/f\tb\tc") ≡ Some (codes "a:/f", codes "b\tc")

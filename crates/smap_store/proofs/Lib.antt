@@ -1,3 +1,2 @@
-mod KeptLaws
 mod ListLaws
 mod Examples

@@ -4,8 +4,9 @@ use Rattle.std.specs.Prelude.{◌≡◌, ℕ, List, Option, Some, None}
 use Rattle.smap_locations.specs.Locations.{LocationsSeen, key_for, path_for}
 use Rattle.smap_record.specs.Record.{MapRecord}
 use Rattle.smap_trace.specs.MapsOf.{MapsByUrl}
-use Rattle.smap_by_text.specs.ByText.{value_under}
-use Rattle.smap_store.specs.Cache.{Kept, kept_record}
+use Rattle.std.specs.Result.{result_ok}
+use Rattle.smap_store.specs.Cache.{IsKept}
+use Rattle.smap_store.specs.Loaded.{Outcome}
 use Rattle.smap_store.specs.Fileless.{known_of}
 use Rattle.smap_store.specs.Stored.{StoredSeen, or_other}
 
@@ -28,7 +29,7 @@ stored_maps load words locations url = or_other (known_of words locations url) (
 pub record IsRight {L : Type 0} (load : MapsByPath) (table : List (List ℕ × MapRecord)) (places : LocationsSeen) (maps : StoredSeen L) : Type 0 where
   pub words : maps.words ≡ table
   pub locations : maps.locations ≡ places
-  pub kept : (key : List ℕ) (one : Kept) → value_under key maps.cache.kept ≡ Some one → kept_record one ≡ by_path load key (path_for places key)
+  pub kept : (key : List ℕ) (found : Outcome) → IsKept maps.cache key found → result_ok found ≡ by_path load key (path_for places key)
 
 -- ---- what may go wrong
 

@@ -1,64 +1,62 @@
 -- What is remembered of the URLs that were asked for (this project's own): the map of each, or why it has none, while the
--- bytes that this counts for are within a bound, or where there is no other.
-use Rattle.std.specs.Prelude.{◌≡◌, ◌⊎◌, ℕ, ◌+◌, ◌-◌, ◌^◌, ◌==◌, ◌||◌, Bool, true, min, nat_le, List, [], ◌∷◌, Option, Result, Ok, Err}
-use Rattle.std.specs.Prelude.{MatchBool, length}
-use Rattle.std.specs.Result.{result_map_both, result_ok}
-use Rattle.std.specs.List.{sum_by}
-use Rattle.smap_by_text.specs.ByText.{IsWith, all_seen}
-use Rattle.smap_record.specs.Record.{MapRecord}
-use Rattle.smap_store.specs.Loaded.{Came, Outcome, outcome_in}
-use Rattle.smap_store.specs.declared.cache.KeptMap.{KeptMap}
+-- bytes that these count for are within a bound each, or where there is no other; what was longest not asked for is dropped.
+use Rattle.std.specs.Prelude.{◌≡◌, ◌⊎◌, ℕ, ◌+◌, ◌-◌, ◌/◌, ◌^◌, Bool, true, false, min, List, [], ◌∷◌, Option, Some, None, MatchOption, Ok, Err, is_some}
+use Rattle.smap_by_text.specs.ByText.{value_under}
+use Rattle.smap_kept.specs.Bounded.{kept_within, known_under}
+use Rattle.smap_kept.specs.InOrder.{used, without}
+use Rattle.smap_kept.specs.declared.bounded.Counted.{Counted}
+use Rattle.smap_record.specs.MapFile.{Map}
+use Rattle.smap_store.specs.Loaded.{Came, Outcome}
+use Rattle.smap_store.specs.declared.cache.HeldMaps.{HeldMaps}
 use Rattle.smap_store.specs.declared.cache.MapCache.TheInside.{Inside}
+use Rattle.smap_store.specs.declared.loader.NoMap.{NoMap}
 
--- what is remembered of a URL: what its map states, with how many bytes its file has, or why it has none
-pub record Kept : Type 0 where
-  pub found : Outcome
-  pub file_bytes : ℕ
-
--- what the map states, where there is one
-abbrev pub kept_record : Kept → Option MapRecord
-kept_record one = result_ok one.found
-
--- what is remembered, each under its URL
-abbrev pub KeptMaps : Type 0
-KeptMaps = List (List ℕ × Kept)
-
--- what is remembered, how many bytes it may count for, how many maps were read, how often a URL had none, and how often
--- there was not enough memory
+-- the maps, and why other URLs have none, each under its URL; what was used last stands first. How many bytes the maps may count
+-- for, how many were read, how often a URL had none, and how often there was not enough memory
 pub record CacheSeen : Type 0 where
-  pub kept : KeptMaps
+  pub maps : List (List ℕ × Counted Map)
+  pub nones : List (List ℕ × Counted NoMap)
   pub most : ℕ
   pub read : ℕ
   pub missing : ℕ
   pub shortages : ℕ
 
--- how many bytes it counts for: those of its file, those of its URL, and 128 more
-abbrev pub entry_bytes : List ℕ × Kept → ℕ
-entry_bytes (url, one) = one.file_bytes + length url + 128
+abbrev pub cache_at_first : (most : ℕ) → CacheSeen
+cache_at_first most = record { maps = []; nones = []; most = most; read = 0; missing = 0; shortages = 0 }
 
-abbrev pub bytes_of : KeptMaps → ℕ
-bytes_of kept = sum_by entry_bytes kept
+-- nothing is remembered
+abbrev pub IsEmpty : CacheSeen → Type 0
+IsEmpty cache = (cache.maps ≡ []) × (cache.nones ≡ [])
 
--- the bytes are within the bound, or one stands alone
-abbrev pub is_bounded : (most : ℕ) → KeptMaps → Bool
-is_bounded most kept = nat_le (bytes_of kept) most || length kept == 1
+-- what is remembered of a URL: what its map states, or why it has none
+abbrev pub found_of : Option Map → (why : Option NoMap) → Option Outcome
+found_of (Some map) why = Some (Ok map.stated)
+found_of None (Some why) = Some (Err why)
+found_of None None = None
 
--- one more is remembered: beside the others, where that is within the bound, and else alone
-abbrev pub Keeps : (most : ℕ) (old : KeptMaps) (url : List ℕ) → Kept → (new : KeptMaps) → Type 0
-Keeps most old url one new = MatchBool (nat_le (bytes_of old + entry_bytes (url, one)) most) (IsWith old url one new) (new ≡ (url, one) ∷ [])
+abbrev pub kept_under : (url : List ℕ) → CacheSeen → Option Outcome
+kept_under url cache = found_of (known_under url cache.maps) (known_under url cache.nones)
+
+-- this is what is remembered of it, among the maps or the others
+abbrev pub IsKept : CacheSeen → (url : List ℕ) → Outcome → Type 0
+IsKept cache url found =
+    ((map : Map) × (known_under url cache.maps ≡ Some map) × (found ≡ Ok map.stated))
+    ⊎ ((why : NoMap) × (known_under url cache.nones ≡ Some why) × (found ≡ Err why))
+
+-- ---- what is remembered of a URL is used
+
+abbrev pub used_among : (is_map : Bool) → (url : List ℕ) → CacheSeen → CacheSeen
+used_among true url cache = record cache { maps = used url cache.maps }
+used_among false url cache = record cache { nones = used url cache.nones }
+
+abbrev pub used_in : (url : List ℕ) → CacheSeen → CacheSeen
+used_in url cache = used_among (is_some (value_under url cache.maps)) url cache
+
+-- ---- what came for a URL
 
 -- one more, as far as 64 bits can count
 abbrev pub one_more : ℕ → ℕ
 one_more count = min (count + 1) (2 ^ 64 - 1)
-
--- ---- what came for a URL
-
-abbrev pub came_bytes : Came → ℕ
-came_bytes (Ok one) = one.1
-came_bytes (Err why) = 0
-
-abbrev pub kept_of : Came → Kept
-kept_of came = record { found = outcome_in came; file_bytes = came_bytes came }
 
 -- it is counted
 abbrev pub counted : CacheSeen → Came → CacheSeen
@@ -69,30 +67,55 @@ counted cache (Ok one) = record cache { read = one_more cache.read }
 abbrev pub short : CacheSeen → CacheSeen
 short cache = record cache { shortages = one_more cache.shortages }
 
+-- a map is put before the others, and those that there is no room for then are dropped
+abbrev pub with_map : (url : List ℕ) → Counted Map → CacheSeen → CacheSeen
+with_map url one cache = record cache { maps = kept_within cache.most ((url, one) ∷ without url cache.maps) }
+
+-- the same of why there is none, which has a sixteenth of the bound for itself
+abbrev pub with_none : (url : List ℕ) → NoMap → CacheSeen → CacheSeen
+with_none url why cache =
+    record cache { nones = kept_within (cache.most / 16) ((url, record { value = why; bytes = 0 }) ∷ without url cache.nones) }
+
+-- what came is put
+abbrev pub Keeps : (old : CacheSeen) (url : List ℕ) → Came → (new : CacheSeen) → Type 0
+Keeps old url (Err why) new = new ≡ with_none url why old
+Keeps old url (Ok one) new = (map : Map) × (map.stated ≡ one.0) × (new ≡ with_map url (record { value = map; bytes = one.1 }) old)
+
 -- what came is counted, and remembered where there is memory for it
 abbrev pub Remembers : (old : CacheSeen) (url : List ℕ) → Came → (new : CacheSeen) → Type 0
-Remembers old url came new =
-    (Keeps old.most old.kept url (kept_of came) new.kept × (new ≡ record (counted old came) { kept = new.kept }))
-    ⊎ (new ≡ short (counted old came))
+Remembers old url came new = Keeps (counted old came) url came new ⊎ (new ≡ short (counted old came))
 
 -- ---- what its fields stand for
 
-abbrev pub kept_seen : KeptMap → Kept
-kept_seen kept = record { found = result_map_both (λ map. map.stated) (λ why. why) kept.map; file_bytes = kept.file_bytes }
+abbrev pub maps_in : Option HeldMaps → List (List ℕ × Counted Map)
+maps_in None = []
+maps_in (Some held) = held.maps.entries
 
-abbrev pub kept_in : Inside → KeptMaps
-kept_in inside = all_seen kept_seen inside.kept
+abbrev pub nones_in : Option HeldMaps → List (List ℕ × Counted NoMap)
+nones_in None = []
+nones_in (Some held) = held.nones.entries
 
 abbrev pub cache_seen : Inside → CacheSeen
 cache_seen inside = record {
-  kept = kept_in inside;
+  maps = maps_in inside.held;
+  nones = nones_in inside.held;
   most = inside.most;
   read = inside.read;
   missing = inside.missing;
   shortages = inside.shortages;
 }
 
--- the sum of the bytes is up to date, as far as the bound, and what is kept is bounded
-pub record IsCounted (inside : Inside) : Type 0 where
-  pub sum : inside.bytes ≡ min (bytes_of (kept_in inside)) inside.most
-  pub bounded : is_bounded inside.most (kept_in inside) ≡ true
+-- each of these has its bound
+abbrev pub IsHeld : Inside → Type 0
+IsHeld inside = MatchOption inside.held (Unit {0}) (λ held. (held.maps.most ≡ inside.most) × (held.nones.most ≡ inside.most / 16))
+
+abbrev pub held_in : CacheSeen → HeldMaps
+held_in cache = record { maps = record { entries = cache.maps; most = cache.most }; nones = record { entries = cache.nones; most = cache.most / 16 } }
+
+-- what came is put
+abbrev pub KeepsIn : (old : HeldMaps) (url : List ℕ) → Came → (new : HeldMaps) → Type 0
+KeepsIn old url (Err why) new =
+    new ≡ record old { nones = record old.nones { entries = kept_within old.nones.most ((url, record { value = why; bytes = 0 }) ∷ without url old.nones.entries) } }
+KeepsIn old url (Ok one) new =
+    (map : Map) × (map.stated ≡ one.0)
+    × (new ≡ record old { maps = record old.maps { entries = kept_within old.maps.most ((url, record { value = map; bytes = one.1 }) ∷ without url old.maps.entries) } })

@@ -2,19 +2,18 @@
 -- that are remembered, under the text that stands for the URL; else in its file, which is then read, and what came of that is
 -- remembered.
 use Rattle.std.specs.Prelude.{◌≡◌, ◌⊎◌, ℕ, List, Option, Some, None, MatchOption, Ok, Err}
-use Rattle.std.specs.Option.{IsSomeAnd}
+use Rattle.std.specs.Result.{result_ok}
 use Rattle.smap_locations.specs.Locations.{LocationsSeen, key_for, path_for}
 use Rattle.smap_record.specs.Record.{MapRecord}
-use Rattle.smap_by_text.specs.ByText.{value_under}
-use Rattle.smap_store.specs.Cache.{CacheSeen, Kept, Remembers, kept_record, short}
+use Rattle.smap_store.specs.Cache.{CacheSeen, IsKept, Remembers, kept_under, short, used_in}
 use Rattle.smap_store.specs.Fileless.{known_of}
 use Rattle.smap_store.specs.Loaded.{Came, Outcome}
 use Rattle.smap_store.specs.declared.loader.NoMap.TheVariants.{Unnamed, Memory}
 
 -- the map that is remembered, where one is
-abbrev pub map_in : Option Kept → Option MapRecord
+abbrev pub map_in : Option Outcome → Option MapRecord
 map_in None = None
-map_in (Some one) = kept_record one
+map_in (Some found) = result_ok found
 
 -- the map that a URL is known to have, or that it has none; and else another
 abbrev pub or_other : (known : Option (Option MapRecord)) → (other : Option MapRecord) → Option MapRecord
@@ -22,12 +21,12 @@ or_other None other = other
 or_other (Some known) other = known
 
 -- what is found by what is remembered: where nothing is, memory ran out
-abbrev pub outcome_of : Option Kept → Outcome
+abbrev pub outcome_of : Option Outcome → Outcome
 outcome_of None = Err Memory
-outcome_of (Some one) = one.found
+outcome_of (Some found) = found
 
 -- what is found for a URL that is known to have a map, or none; and else by what is remembered
-abbrev pub known_outcome : (known : Option (Option MapRecord)) → Option Kept → Outcome
+abbrev pub known_outcome : (known : Option (Option MapRecord)) → Option Outcome → Outcome
 known_outcome None kept = outcome_of kept
 known_outcome (Some None) kept = Err Unnamed
 known_outcome (Some (Some stated)) kept = Ok stated
@@ -72,19 +71,24 @@ module _ {L : Type 0} where
   abbrev pub Asks : LoadsStep L → (old : StoredSeen L) (url : List ℕ) (new : StoredSeen L) → Type 0
   Asks Loads old url new = Asked Loads old url new ⊎ Unasked old new
 
+  -- what is remembered under a text was used
+  pub record Recalled (old : StoredSeen L) (url : List ℕ) (new : StoredSeen L) : Type 0 where
+    pub cache : new.cache ≡ used_in url old.cache
+    pub loader : new.loader ≡ old.loader
+
   -- what is remembered under this text is used, or it is asked for
   abbrev pub Recalls : LoadsStep L → (old : StoredSeen L) (url : List ℕ) (new : StoredSeen L) → Type 0
-  Recalls Loads old url new = MatchOption (value_under url old.cache.kept) (Asks Loads old url new) (λ one. Untouched old new)
+  Recalls Loads old url new = MatchOption (kept_under url old.cache) (Asks Loads old url new) (λ found. Recalled old url new)
 
   -- what is found under a URL: what it is known to have, and else what is remembered
   abbrev pub found_in : StoredSeen L → (url : List ℕ) → Option MapRecord
   found_in maps url =
-      or_other (known_of maps.words maps.locations url) (map_in (value_under (key_for maps.locations url) maps.cache.kept))
+      or_other (known_of maps.words maps.locations url) (map_in (kept_under (key_for maps.locations url) maps.cache))
 
   -- the same, or why there is none
   abbrev pub outcome_at : StoredSeen L → (url : List ℕ) → Outcome
   outcome_at maps url =
-      known_outcome (known_of maps.words maps.locations url) (value_under (key_for maps.locations url) maps.cache.kept)
+      known_outcome (known_of maps.words maps.locations url) (kept_under (key_for maps.locations url) maps.cache)
 
   -- how the maps stand after the map of a URL was looked for
   pub record FindsIn (Loads : LoadsStep L) (old : StoredSeen L) (url : List ℕ) (new : StoredSeen L) : Type 0 where
@@ -102,5 +106,5 @@ module _ {L : Type 0} where
   GivesIn MayLoad maps url found =
       let key = key_for maps.locations url in
       MatchOption (known_of maps.words maps.locations url)
-      (IsSomeAnd (value_under key maps.cache.kept) (λ one. found ≡ kept_record one) ⊎ MayCome MayLoad maps.loader key (path_for maps.locations url) found)
+      (((it : Outcome) × IsKept maps.cache key it × (found ≡ result_ok it)) ⊎ MayCome MayLoad maps.loader key (path_for maps.locations url) found)
       (λ known. found ≡ known)

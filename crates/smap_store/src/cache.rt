@@ -1,23 +1,24 @@
 //! What is kept of the maps that were read.
-ghost use Rattle.std.specs.Prelude.{◌≡◌, ◌+◌, ◌≤◌, [], None, SomeIff, OnErr, OnOk, is_some, min, option_map, true};
+ghost use Rattle.std.specs.Prelude.{◌≡◌, ◌/◌, [], is_some, option_map, IfOk, OnErr, OnOk, true};
 ghost use Rattle.std.specs.Result.{result_map_both};
-ghost use Rattle.smap_by_text.specs.ByText.{value_under};
-ghost use Rattle.smap_store.specs.Cache.{Keeps, Remembers, bytes_of, counted, is_bounded, kept_of, kept_seen, short};
+ghost use Rattle.smap_kept.specs.Bounded.{bytes_of, is_within, known_under};
+ghost use Rattle.smap_store.specs.Cache.{Keeps, KeepsIn, Remembers, cache_at_first, counted, found_of, held_in, kept_under, short, used_in};
 ghost use Rattle.smap_store.specs.Loaded.{came_seen};
 
 use crate::loader::{LoadedMap, NoMap};
-use smap_by_text::ByText;
+use smap_kept::Bounded;
 use smap_record::MapFile;
 use std::alloc::{AllocError, Global};
 use std::marker::Model;
 
-/// What is remembered of the URLs that were asked for: the map of each, or why it has none. What is remembered counts for
-/// the bytes of its file and its URL, and 128 more. Their sum is within a bound, or one stands alone: where one more would
-/// pass the bound, all that is kept is dropped.
+/// What is remembered of the URLs that were asked for: the map of each, or why it has none. A map counts for the bytes of
+/// its file and its URL, and 128 more; their sum is within a bound, or one stands alone. What has none counts for the bytes
+/// of its URL and 128, within a sixteenth of that bound for itself. Where there is no room for one more, what was longest
+/// not asked for is dropped.
 #[derive(Drop)]
 pub struct MapCache {
-    kept: ByText<KeptMap>,
-    bytes: u64,
+    // They are made when the first is remembered.
+    held: Option<HeldMaps>,
     most: u64,
     read: u64,
     missing: u64,
@@ -25,43 +26,78 @@ pub struct MapCache {
 }
 
 impl Model for MapCache {
-    ghost use Rattle.smap_store.specs.Cache.{CacheSeen, IsCounted, cache_seen};
+    ghost use Rattle.smap_store.specs.Cache.{CacheSeen, IsHeld, cache_seen};
 
     ghost Value = { CacheSeen };
 
     ghost view = { cache_seen };
 
-    ghost invariant = { IsCounted };
+    ghost invariant = { IsHeld };
 }
 
-// A map and how many bytes its file has, or why there is none.
+// The maps, and why other URLs have none.
 #[derive(Drop)]
-pub(crate) struct KeptMap {
-    map: Result<MapFile, NoMap>,
-    file_bytes: u64,
+pub(crate) struct HeldMaps {
+    pub(crate) maps: Bounded<MapFile>,
+    pub(crate) nones: Bounded<NoMap>,
 }
 
-impl KeptMap {
-    // The map, or why there is none.
-    pub(crate) fn outcome(&self) -> Result<&MapFile, NoMap>
-        ensures { result_map_both (λ map. map.now.stated) (λ why. why) result
-            ≡ (kept_seen self.now).found }
+impl HeldMaps {
+    fn new(alloc: Global, most: u64) -> Result<HeldMaps, AllocError>
+        ensures { IfOk result (λ held. held ≡ held_in (cache_at_first most)) }
     {
-        match &self.map {
-            Ok(map) => Ok(map),
-            Err(why) => Err(*why),
+        let maps = Bounded::new(alloc, most)?;
+        let nones = Bounded::new(alloc, most / 16)?;
+        Ok(HeldMaps { maps, nones })
+    }
+
+    // What is remembered of a URL.
+    fn recall(&self, url: &[u8]) -> Option<Result<&MapFile, NoMap>>
+        ensures { option_map (result_map_both (λ map. map.now.stated) (λ why. why)) result
+            ≡ found_of (known_under url.now self.now.maps.entries)
+            (known_under url.now self.now.nones.entries) }
+    {
+        if let Some(map) = self.maps.get(url) {
+            return Some(Ok(map));
+        }
+        match self.nones.get(url) {
+            Some(why) => Some(Err(*why)),
+            None => None,
+        }
+    }
+
+    // Keeps what came for a URL. Where memory runs out, nothing is changed.
+    fn keep(
+        &mut self,
+        alloc: Global,
+        url: &[u8],
+        loaded: Result<LoadedMap, NoMap>,
+    ) -> Result<(), AllocError>
+        ensures kept { OnOk result (KeepsIn self.old url.now (came_seen loaded) self.new) }
+        ensures memory { OnErr result (self.new ≡ self.old) }
+    {
+        match loaded {
+            Ok(LoadedMap { map, file_bytes }) => {
+                match self.maps.put(alloc, url, map, file_bytes) {
+                    Ok(_) => Ok(()),
+                    Err(_) => Err(AllocError),
+                }
+            }
+            Err(why) => match self.nones.put(alloc, url, why, 0) {
+                Ok(_) => Ok(()),
+                Err(_) => Err(AllocError),
+            },
         }
     }
 }
 
 impl MapCache {
     /// A cache that remembers nothing, with a bound in bytes. The call takes no memory.
-    pub fn new(alloc: Global, most: u64) -> MapCache
-        ensures { result ≡ record { kept = []; most = most; read = 0; missing = 0; shortages = 0 } }
+    pub fn new(most: u64) -> MapCache
+        ensures { result ≡ cache_at_first most }
     {
         MapCache {
-            kept: ByText::new(alloc),
-            bytes: 0,
+            held: None,
             most,
             read: 0,
             missing: 0,
@@ -69,12 +105,26 @@ impl MapCache {
         }
     }
 
-    /// How many bytes what is kept counts for, up to the bound.
+    /// For how many bytes the maps count that are kept.
     pub fn bytes(&self) -> u64
-        ensures sum { result ≡ min (bytes_of self.now.kept) self.now.most }
-        ensures bounded { is_bounded self.now.most self.now.kept ≡ true }
+        ensures sum { result ≡ bytes_of self.now.maps }
+        ensures within { is_within self.now.most self.now.maps ≡ true }
     {
-        self.bytes
+        match &self.held {
+            Some(held) => held.maps.bytes(),
+            None => 0,
+        }
+    }
+
+    /// For how many bytes the URLs count of which it is kept that they have none.
+    pub fn none_bytes(&self) -> u64
+        ensures sum { result ≡ bytes_of self.now.nones }
+        ensures within { is_within (self.now.most / 16) self.now.nones ≡ true }
+    {
+        match &self.held {
+            Some(held) => held.nones.bytes(),
+            None => 0,
+        }
     }
 
     /// How many maps were read, up to 18,446,744,073,709,551,615.
@@ -99,18 +149,26 @@ impl MapCache {
         self.shortages
     }
 
-    // Whether something is remembered of a URL.
-    pub(crate) fn remembers(&self, url: &[u8]) -> bool
-        ensures { result ≡ is_some (value_under url.now self.now.kept) }
+    // What is remembered of a URL, where something is.
+    pub(crate) fn recall(&self, url: &[u8]) -> Option<Result<&MapFile, NoMap>>
+        ensures { option_map (result_map_both (λ map. map.now.stated) (λ why. why)) result
+            ≡ kept_under url.now self.now }
     {
-        self.recall(url).is_some()
+        match &self.held {
+            Some(held) => held.recall(url),
+            None => None,
+        }
     }
 
-    // What is remembered of a URL, where something is.
-    pub(crate) fn recall(&self, url: &[u8]) -> Option<&KeptMap>
-        ensures { option_map (λ one. kept_seen one.now) result ≡ value_under url.now self.now.kept }
+    // Uses what is remembered of a URL, and says whether something is.
+    pub(crate) fn touch(&mut self, url: &[u8]) -> bool
+        ensures found { result ≡ is_some (kept_under url.now self.old) }
+        ensures used { self.new ≡ used_in url.now self.old }
     {
-        self.kept.get(url)
+        match &mut self.held {
+            Some(held) => held.maps.touch(url) || held.nones.touch(url),
+            None => false,
+        }
     }
 
     // Counts that there was not enough memory.
@@ -121,67 +179,50 @@ impl MapCache {
     }
 
     // Counts what came for a URL that is not remembered, and remembers it where there is memory for it.
-    pub(crate) fn remember(&mut self, alloc: Global, url: Vec<u8>, loaded: Result<LoadedMap, NoMap>)
-        requires { value_under url.items self.old.kept ≡ None }
-        ensures { Remembers self.old url.items (came_seen loaded) self.new }
+    pub(crate) fn remember(&mut self, alloc: Global, url: &[u8], loaded: Result<LoadedMap, NoMap>)
+        ensures { Remembers self.old url.now (came_seen loaded) self.new }
     {
-        let kept = self.count(loaded);
-        if self.keep(alloc, url, kept).is_err() {
+        self.count(&loaded);
+        if self.keep(alloc, url, loaded).is_err() {
             self.count_shortage();
         }
     }
 
     // Counts what came.
-    fn count(&mut self, loaded: Result<LoadedMap, NoMap>) -> KeptMap
-        ensures counted { self.new ≡ counted self.old (came_seen loaded) }
-        ensures kept { kept_seen result ≡ kept_of (came_seen loaded) }
+    fn count(&mut self, loaded: &Result<LoadedMap, NoMap>)
+        ensures { self.new ≡ counted self.old (came_seen loaded.now) }
     {
         match loaded {
-            Ok(LoadedMap { map, file_bytes }) => {
-                self.read = self.read.saturating_add(1);
-                KeptMap {
-                    map: Ok(map),
-                    file_bytes,
-                }
-            }
-            Err(why) => {
-                self.missing = self.missing.saturating_add(1);
-                KeptMap {
-                    map: Err(why),
-                    file_bytes: 0,
-                }
-            }
+            Ok(_) => self.read = self.read.saturating_add(1),
+            Err(_) => self.missing = self.missing.saturating_add(1),
         }
     }
 
-    // Keeps what a URL has, beside the others or alone. Where memory runs out, nothing is changed.
-    fn keep(&mut self, alloc: Global, url: Vec<u8>, kept: KeptMap) -> Result<(), AllocError>
-        requires { value_under url.items self.old.kept ≡ None }
-        ensures kept { OnOk result
-            (Keeps self.old.most self.old.kept url.items (kept_seen kept) self.new.kept) }
-        ensures others { self.new ≡ record self.old { kept = self.new.kept } }
+    // Keeps what came for a URL. Where memory runs out, nothing is changed.
+    fn keep(
+        &mut self,
+        alloc: Global,
+        url: &[u8],
+        loaded: Result<LoadedMap, NoMap>,
+    ) -> Result<(), AllocError>
+        ensures kept { OnOk result (Keeps self.old url.now (came_seen loaded) self.new) }
         ensures memory { OnErr result (self.new ≡ self.old) }
     {
-        if let Some(bytes) = sum_within(self.bytes, kept.file_bytes, url.len(), self.most) {
-            self.kept.add(url, kept)?;
-            self.bytes = bytes;
-            return Ok(());
-        }
-        let bytes = sum_within(0, kept.file_bytes, url.len(), self.most).unwrap_or(self.most);
-        let mut alone = ByText::new(alloc);
-        alone.add(url, kept)?;
-        self.kept = alone;
-        self.bytes = bytes;
-        Ok(())
+        let mut held = self.take_held(alloc)?;
+        let kept = held.keep(alloc, url, loaded);
+        self.held = Some(held);
+        kept
     }
-}
 
-// How many bytes are counted with one more that is kept, where that is within the bound.
-fn sum_within(bytes: u64, file_bytes: u64, url_bytes: usize, most: u64) -> Option<u64>
-    ensures { let sum = bytes + (file_bytes + url_bytes + 128) in SomeIff result (sum ≤ most) sum }
-{
-    let with_file = bytes.checked_add(file_bytes)?;
-    let with_url = with_file.checked_add(url_bytes as u64)?;
-    let sum = with_url.checked_add(128)?;
-    if sum <= most { Some(sum) } else { None }
+    // Takes out what is held, or makes it. Where memory runs out, nothing is changed.
+    fn take_held(&mut self, alloc: Global) -> Result<HeldMaps, AllocError>
+        ensures held { IfOk result (λ held. held ≡ held_in self.old) }
+        ensures left { OnOk result (self.new ≡ record self.old { maps = []; nones = [] }) }
+        ensures memory { OnErr result (self.new ≡ self.old) }
+    {
+        match self.held.take() {
+            Some(held) => Ok(held),
+            None => HeldMaps::new(alloc, self.most),
+        }
+    }
 }

@@ -1,14 +1,14 @@
 //! Maps that are read when they are named.
-ghost use Rattle.std.specs.Prelude.{◌≡◌, None, option_map};
+ghost use Rattle.std.specs.Prelude.{◌≡◌, option_map, string_bytes};
 ghost use Rattle.std.specs.Result.{result_map_both};
-ghost use Rattle.smap_by_text.specs.ByText.{value_under};
 ghost use Rattle.smap_store.specs.Fileless.{known_of};
-ghost use Rattle.smap_store.specs.Stored.{Asks, outcome_at};
+ghost use Rattle.smap_store.specs.Loaded.{came_seen};
+ghost use Rattle.smap_store.specs.Stored.{Asks, Comes, outcome_at};
 ghost use Rattle.smap_store.specs.StoredMaps.{IsSameStore, stored_seen};
 
 use crate::cache::MapCache;
 use crate::fileless::asks_no_file;
-use crate::loader::{MapLoader, NoMap};
+use crate::loader::{LoadedMap, MapLoader, NoMap};
 use smap_locations::Locations;
 use smap_record::MapFile;
 use smap_trace::{Maps, Table};
@@ -50,30 +50,38 @@ impl<L: MapLoader> StoredMaps<'_, '_, L> {
             return known.ok_or(NoMap::Unnamed);
         }
         match self.cache.recall(self.locations.key_for(url)) {
-            Some(kept) => kept.outcome(),
+            Some(found) => found,
             None => Err(NoMap::Memory),
         }
     }
 
     // Asks for the map of a URL that is not remembered, and remembers what came.
     fn ask(&mut self, url: &[u8])
-        requires { value_under url.now self.old.cache.now.kept ≡ None }
         ensures steps { Asks L.Loads (stored_seen self.old) url.now (stored_seen self.new) }
         ensures same { IsSameStore self.old self.new }
     {
-        let Ok(key) = Vec::from_slice(self.alloc, url) else {
-            self.cache.count_shortage();
-            return;
-        };
         let Ok(path) = self.locations.path_for(self.alloc, url) else {
             self.cache.count_shortage();
             return;
         };
-        let loaded = match path {
-            Some(path) => self.loader.load(self.alloc, url, &path),
-            None => Err(NoMap::Unnamed),
-        };
-        self.cache.remember(self.alloc, key, loaded);
+        let loaded = load_from(self.alloc, self.loader, url, path);
+        self.cache.remember(self.alloc, url, loaded);
+    }
+}
+
+// What comes for a URL from the file at a path, where it has one.
+fn load_from<L: MapLoader>(
+    alloc: Global,
+    loader: &mut L,
+    url: &[u8],
+    path: Option<String>,
+) -> Result<LoadedMap, NoMap>
+    ensures { Comes L.Loads loader.old url.now (option_map string_bytes path) (came_seen result)
+        loader.new }
+{
+    match path {
+        Some(path) => loader.load(alloc, url, &path),
+        None => Err(NoMap::Unnamed),
     }
 }
 
@@ -94,7 +102,7 @@ impl<L: MapLoader> Maps for StoredMaps<'_, '_, L> {
             return false;
         }
         let key = self.locations.key_for(url);
-        if self.cache.remembers(key) {
+        if self.cache.touch(key) {
             return false;
         }
         self.ask(key);
@@ -107,7 +115,7 @@ impl<L: MapLoader> Maps for StoredMaps<'_, '_, L> {
         }
         let key = self.locations.key_for(url);
         match self.cache.recall(key) {
-            Some(kept) => kept.outcome().ok(),
+            Some(found) => found.ok(),
             None => None,
         }
     }

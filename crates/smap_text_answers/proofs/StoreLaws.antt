@@ -8,12 +8,11 @@ use Rattle.smap_lines.specs.declared.fault.LineFault.TheVariants.{Memory}
 use Rattle.smap_locations.specs.Locations.{key_for, path_for}
 use Rattle.smap_anywhere.specs.Laws.AnywhereSeen.{anywhere_front_seen, anywhere_seen}
 use Rattle.smap_record.specs.Record.{MapRecord}
-use Rattle.smap_by_text.specs.ByText.{value_under}
-use Rattle.smap_store.specs.Cache.{Kept}
+use Rattle.smap_store.specs.Cache.{kept_under}
 use Rattle.smap_store.specs.Fileless.{known_of as known_of_url}
-use Rattle.smap_store.specs.Loaded.{Came}
+use Rattle.smap_store.specs.Loaded.{Came, Outcome}
 use Rattle.smap_store.specs.Laws.Seen.{finds_seen, gives_seen, see_store}
-use Rattle.smap_store.specs.Stored.{Asks, Comes, FindsIn, GivesIn, LoadsMay, LoadsStep, Recalls, StoredSeen, Untouched, found_in}
+use Rattle.smap_store.specs.Stored.{Asks, Comes, FindsIn, GivesIn, LoadsMay, LoadsStep, Recalled, Recalls, StoredSeen, Untouched, found_in}
 use Rattle.smap_trace.specs.Noted.{nothing_noted}
 use Rattle.smap_trace.specs.Rewriting.{Looked, RewritesOver}
 use Rattle.smap_trace.specs.UrlNotes.{NotesSeen}
@@ -59,14 +58,14 @@ module _ {F E : Type 0} (gives : F → MayRead) (seen : E → SinkSeen) where
   same_asked old new url (inl asked) = same_comes old.loader new.loader url (path_for old.locations url) asked.came asked.comes
   same_asked old new url (inr short) = same_of old.loader new.loader short.loader
 
-  same_recalled : (old new : StoredSeen (FileLoader F E)) (url : List ℕ) (one : Option Kept)
-      → MatchOption one (Asks Steps old url new) (λ _. Untouched old new) → IsSameLoader old.loader new.loader
+  same_recalled : (old new : StoredSeen (FileLoader F E)) (url : List ℕ) (found : Option Outcome)
+      → MatchOption found (Asks Steps old url new) (λ _. Recalled old url new) → IsSameLoader old.loader new.loader
   same_recalled old new url None asks = same_asked old new url asks
-  same_recalled old new url (Some one) same = same_of old.loader new.loader same.loader
+  same_recalled old new url (Some found) same = same_of old.loader new.loader same.loader
 
   same_step : (old new : StoredSeen (FileLoader F E)) (url : List ℕ) (known : Option (Option MapRecord))
       → MatchOption known (Recalls Steps old url new) (λ _. Untouched old new) → IsSameLoader old.loader new.loader
-  same_step old new url None recalls = same_recalled old new url (value_under url old.cache.kept) recalls
+  same_step old new url None recalls = same_recalled old new url (kept_under url old.cache) recalls
   same_step old new url (Some known) same = same_of old.loader new.loader same.loader
 
   same_found : (old new : StoredSeen (FileLoader F E)) (url : List ℕ) → FindsIn Steps old url new → IsSameLoader old.loader new.loader

@@ -21,7 +21,7 @@ use Rattle.smap_anywhere.specs.SeemingUrls.{urls_seeming}
 use Rattle.smap_pairs.specs.Known.{UrlsKnown}
 use Rattle.smap_record.specs.Record.{MapRecord}
 use Rattle.smap_store.specs.ByPath.{stored_maps}
-use Rattle.smap_store.specs.Cache.{CacheSeen}
+use Rattle.smap_store.specs.Cache.{CacheSeen, cache_at_first}
 use Rattle.smap_store.specs.Stored.{FindsIn, GivesIn, LoadsMay, LoadsStep, StoredSeen, found_in}
 use Rattle.smap_trace.specs.Hiding.{HidingSeen}
 use Rattle.smap_trace.specs.MapsOf.{MapsByUrl, RewritesBy}
@@ -54,7 +54,7 @@ abbrev pub store_start : MapSources → (cache_bytes : ℕ) → (errors : SinkSe
 store_start sources cache_bytes errors code = record {
   words = sources.words;
   locations = sources.locations;
-  cache = record { kept = []; most = cache_bytes; read = 0; missing = 0; shortages = 0 };
+  cache = cache_at_first cache_bytes;
   loader = record { errors = errors; status = 0; code = code; reported = 0; refused = 0; lost = false };
 }
 

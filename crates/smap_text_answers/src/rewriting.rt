@@ -136,7 +136,7 @@ fn over_store<F: FileReader, R: ByteSource, W: ByteSink, E: ByteSink>(
     ensures output_failure { (W.seen output.new).failed ≡ is_write_fault result.result }
 {
     let (request, sources) = (run.request, run.sources);
-    let mut cache = MapCache::new(run.alloc, request.cache_bytes());
+    let mut cache = MapCache::new(request.cache_bytes());
     let mut loader = FileLoader {
         maps: request.maps,
         paths: request.options.paths,

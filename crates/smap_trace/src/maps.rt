@@ -17,10 +17,10 @@ pub trait Maps {
     ghost found: { Self → (url : List ℕ) → Option MapRecord };
 
     /// Looks for the map of a URL, which may be read for it; and says whether other maps may be found after that, of
-    /// whatever URL.
+    /// whatever URL: if not, those that are found stay.
     fn find(&mut self, url: &[u8]) -> bool
         ensures finds { Finds self.old url.now self.new }
-        ensures same { result ≡ false → self.new ≡ self.old };
+        ensures same { result ≡ false → found self.new ≡ found self.old };
 
     /// The map of the URL that was looked for last, where it has one. The call takes no memory.
     fn map_for(&self, url: &[u8]) -> Option<&MapFile>

@@ -101,10 +101,14 @@ fn each_url_has_its_map(rt: HostRuntime) -> Result<(), Fail> {
     let words = words(alloc)?;
     let mut locations = Locations::new(alloc);
     assert!(&rt; add_list(alloc, &mut locations, &words, LIST).is_ok());
-    // What is kept counts for 1,152 bytes, 1,150, 153 and 150, in the order of the rows. The second bound has room for one
-    // map.
-    for (most, read, missing, kept) in [(1_000_000, 2, 2, 2_605), (1_150, 4, 4, 303)] {
-        let mut cache = MapCache::new(alloc, most);
+    // What is kept counts for 1,152 bytes, 1,150, 153 and 150, in the order of the rows. The second bound has room for both
+    // maps, and a sixteenth of it for one URL that has none; the third for one of each.
+    for (most, read, missing, kept) in [
+        (1_000_000, 2, 2, (2_302, 303)),
+        (2_302, 2, 4, (2_302, 150)),
+        (1_150, 4, 4, (1_150, 150)),
+    ] {
+        let mut cache = MapCache::new(most);
         let mut loader = Named { asked: 0 };
         {
             let mut maps = StoredMaps {
@@ -122,7 +126,7 @@ fn each_url_has_its_map(rt: HostRuntime) -> Result<(), Fail> {
         }
         assert_eq!(&rt; loader.asked, read + missing / 2);
         assert_eq!(&rt; (cache.read(), cache.missing()), (read, missing));
-        assert_eq!(&rt; cache.bytes(), kept);
+        assert_eq!(&rt; (cache.bytes(), cache.none_bytes()), kept);
         assert_eq!(&rt; cache.shortages(), 0);
     }
     Ok(())
@@ -142,7 +146,7 @@ fn a_pattern_is_read_once_for_a_cut_url(rt: HostRuntime) -> Result<(), Fail> {
     let words = words(alloc)?;
     let mut locations = Locations::new(alloc);
     assert!(&rt; add_list(alloc, &mut locations, &words, "*\tall.map\n").is_ok());
-    let mut cache = MapCache::new(alloc, 1_000_000);
+    let mut cache = MapCache::new(1_000_000);
     let mut loader = Named { asked: 0 };
     for (url, asked) in OF_PATTERN {
         let mut maps = StoredMaps {

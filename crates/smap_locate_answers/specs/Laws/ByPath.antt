@@ -4,8 +4,6 @@ use Rattle.std.specs.Prelude.{◌≡◌, ◌⊎◌, ℕ, Bool, true, false, List
 use Rattle.std.specs.List.{AllZip, concat}
 use Rattle.std.proofs.Common.{ap, inl, inr, refl, subst, sym, ◌∙◌}
 use Rattle.url.specs.Parts.{Parts}
-use Rattle.smap_by_text.specs.ByText.{value_under}
-use Rattle.smap_by_text.specs.Laws.ByText.{IsOf}
 use Rattle.smap_lines.specs.Edited.{IsEditedLine, StepsLines, is_short}
 use Rattle.smap_lines.specs.Editing.{DevicesSeen, EditsInto}
 use Rattle.smap_lines.specs.Lines.{Line, line_text, lines_with_ends}
@@ -20,11 +18,11 @@ use Rattle.smap_record.specs.Record.{MapRecord}
 use Rattle.smap_record.specs.declared.refusal.MapRefusal.{MapRefusal}
 use Rattle.smap_replies.specs.Files.{MayRead}
 use Rattle.smap_replies.specs.Outcome.{Report}
-use Rattle.smap_store.specs.Cache.{CacheSeen, Keeps, Kept, Remembers, kept_of}
+use Rattle.smap_store.specs.Cache.{IsEmpty, IsKept, kept_under}
 use Rattle.smap_store.specs.Fileless.{known_of}
-use Rattle.smap_store.specs.Laws.Kept.{other_remembered}
+use Rattle.smap_store.specs.Laws.Kept.{IsBefore, is_kept, kept_after, none_kept, used_kept}
 use Rattle.smap_store.specs.Loaded.{Came, Outcome, outcome_in}
-use Rattle.smap_store.specs.Stored.{Asks, Comes, FindsIn, Recalls, StoredSeen, Untouched, known_outcome, outcome_at, outcome_of}
+use Rattle.smap_store.specs.Stored.{Asks, Comes, FindsIn, Recalled, Recalls, StoredSeen, Untouched, known_outcome, outcome_at, outcome_of}
 use Rattle.smap_store.specs.declared.loader.NoMap.{NoMap}
 use Rattle.smap_store.specs.declared.loader.NoMap.TheVariants.{Unnamed, Unread, Refused, Memory}
 use Rattle.smap_replies.specs.Standing.{IsRefusedFor}
@@ -65,12 +63,6 @@ module _ {E : Type 0} (Steps : E → Line → List ℕ → E → Type 0) (Is : E
 
 -- ---- what is remembered
 
-kept_after : (old : CacheSeen) (url : List ℕ) (came : Came) (new : CacheSeen) → Remembers old url came new
-    → Keeps old.most old.kept url (kept_of came) new.kept ⊎ (new.kept ≡ old.kept)
-kept_after old url came new (inl kept) = inl kept.0
-kept_after old url (Err why) new (inr is) = inr (ap (λ c. c.kept) is)
-kept_after old url (Ok one) new (inr is) = inr (ap (λ c. c.kept) is)
-
 module _ (Reads : MayRead) (paths : Bool) (base : Option Parts) (k number : ℕ) (bytes_at : BytesByPath) (alike : ReadsAlike Reads number bytes_at) where
   abbrev Found : (url : List ℕ) (path : Option (List ℕ)) → Outcome → Type 0
   Found url path outcome = (outcome ≡ Err Memory) ⊎ IsFoundFor paths base k bytes_at url path outcome
@@ -109,65 +101,62 @@ module _ (Reads : MayRead) (paths : Bool) (base : Option Parts) (k number : ℕ)
     pub record IsRight (maps : StoredSeen LoaderSeen) : Type 0 where
       pub words_are : maps.words ≡ words
       pub locations_are : maps.locations ≡ locations
-      pub kept : (key : List ℕ) (one : Kept) → value_under key maps.cache.kept ≡ Some one → Found key (path_for locations key) one.found
+      pub kept : (key : List ℕ) (found : Outcome) → IsKept maps.cache key found → Found key (path_for locations key) found
 
     abbrev AllKept : StoredSeen LoaderSeen → Type 0
-    AllKept maps = (key : List ℕ) (one : Kept) → value_under key maps.cache.kept ≡ Some one → Found key (path_for locations key) one.found
+    AllKept maps = (key : List ℕ) (found : Outcome) → IsKept maps.cache key found → Found key (path_for locations key) found
 
-    untouched_kept : (old new : StoredSeen LoaderSeen) → new.cache.kept ≡ old.cache.kept → AllKept old → AllKept new
-    untouched_kept old new same kept key one is = kept key one (ap (value_under key) (sym same) ∙ is)
+    untouched_kept : (old new : StoredSeen LoaderSeen) → new.cache ≡ old.cache → AllKept old → AllKept new
+    untouched_kept old new same kept key found is = kept key found (subst (λ c. IsKept c key found) same is)
 
     asked_kept : (old new : StoredSeen LoaderSeen) (key : List ℕ) → Asks (Loads Reads paths base k number) old key new → old.locations ≡ locations → AllKept old → AllKept new
-    asked_kept old new key (inr is) same kept = untouched_kept old new (ap (λ c. c.kept) is.cache) kept
-    asked_kept old new key (inl asked) same kept = go (kept_after old.cache key asked.came new.cache asked.remembered)
+    asked_kept old new key (inr is) same kept other found has = kept other found (subst (λ c. IsKept c other found) is.cache has)
+    asked_kept old new key (inl asked) same kept other found has = of (kept_after old.cache key asked.came new.cache asked.remembered other found has)
       where
         own : Found key (path_for locations key) (outcome_in asked.came)
         own = subst (λ l. Found key (path_for l key) (outcome_in asked.came)) same
             (came_found old.loader new.loader key (path_for old.locations key) asked.came asked.comes)
 
-        of : (other : List ℕ) (it : Kept) → IsOf other key (kept_of asked.came) it (value_under other old.cache.kept) → Found other (path_for locations other) it.found
-        of other it (inr was) = kept other it was
-        of other it (inl now) =
-            subst (λ o. Found other (path_for locations other) o) (sym (ap (λ it. it.found) now.1))
+        of : IsBefore old.cache key asked.came other found → Found other (path_for locations other) found
+        of (inr was) = kept other found was
+        of (inl now) =
+            subst (λ o. Found other (path_for locations other) o) (sym now.1)
             (subst (λ k. Found k (path_for locations k) (outcome_in asked.came)) (sym now.0) own)
 
-        go : Keeps old.cache.most old.cache.kept key (kept_of asked.came) new.cache.kept ⊎ (new.cache.kept ≡ old.cache.kept) → AllKept new
-        go (inr is) = untouched_kept old new is kept
-        go (inl keeps) = λ other it has.
-            of other it (other_remembered old.cache.kept key (kept_of asked.came) new.cache.kept old.cache.most keeps other it has)
-
-    recalled_kept : (old new : StoredSeen LoaderSeen) (key : List ℕ) (one : Option Kept)
-        → MatchOption one (Asks (Loads Reads paths base k number) old key new) (λ one. Untouched old new) → old.locations ≡ locations → AllKept old → AllKept new
+    recalled_kept : (old new : StoredSeen LoaderSeen) (key : List ℕ) (found : Option Outcome)
+        → MatchOption found (Asks (Loads Reads paths base k number) old key new) (λ found. Recalled old key new) → old.locations ≡ locations → AllKept old → AllKept new
     recalled_kept old new key None asks same kept = asked_kept old new key asks same kept
-    recalled_kept old new key (Some one) untouched same kept = untouched_kept old new (ap (λ c. c.kept) untouched.cache) kept
+    recalled_kept old new key (Some one) recalled same kept = λ other found has.
+        kept other found (used_kept old.cache key other found (subst (λ c. IsKept c other found) recalled.cache has))
 
     step_kept : (old new : StoredSeen LoaderSeen) (key : List ℕ) (known : Option (Option MapRecord))
         → MatchOption known (Recalls (Loads Reads paths base k number) old key new) (λ known. Untouched old new) → old.locations ≡ locations → AllKept old → AllKept new
-    step_kept old new key None recalls same kept = recalled_kept old new key (value_under key old.cache.kept) recalls same kept
-    step_kept old new key (Some known) untouched same kept = untouched_kept old new (ap (λ c. c.kept) untouched.cache) kept
+    step_kept old new key None recalls same kept = recalled_kept old new key (kept_under key old.cache) recalls same kept
+    step_kept old new key (Some known) untouched same kept = untouched_kept old new untouched.cache kept
 
     -- ---- what is found for a URL
 
     abbrev Defined : (url : List ℕ) → Outcome → Type 0
     Defined url outcome = (outcome ≡ Err Memory) ⊎ IsDefined paths base k bytes_at words locations url outcome
 
-    kept_found : (maps : StoredSeen LoaderSeen) (url : List ℕ) (one : Option Kept) → value_under (key_for locations url) maps.cache.kept ≡ one → AllKept maps
-        → Found (key_for locations url) (path_for locations url) (outcome_of one)
+    kept_found : (maps : StoredSeen LoaderSeen) (url : List ℕ) (found : Option Outcome) → kept_under (key_for locations url) maps.cache ≡ found → AllKept maps
+        → Found (key_for locations url) (path_for locations url) (outcome_of found)
     kept_found maps url None is kept = inl refl
-    kept_found maps url (Some one) is kept =
-        subst (λ p. Found (key_for locations url) p one.found) (path_of_key locations url) (kept (key_for locations url) one is)
+    kept_found maps url (Some found) is kept =
+        let key = key_for locations url in
+        subst (λ p. Found key p found) (path_of_key locations url) (kept key found (is_kept maps.cache key found is))
 
     known_defined : (maps : StoredSeen LoaderSeen) (url : List ℕ) (known : Option (Option MapRecord)) → AllKept maps
-        → (known_outcome known (value_under (key_for locations url) maps.cache.kept) ≡ Err Memory)
-        ⊎ IsKnown paths base k bytes_at words locations known url (known_outcome known (value_under (key_for locations url) maps.cache.kept))
-    known_defined maps url None kept = kept_found maps url (value_under (key_for locations url) maps.cache.kept) refl kept
+        → (known_outcome known (kept_under (key_for locations url) maps.cache) ≡ Err Memory)
+        ⊎ IsKnown paths base k bytes_at words locations known url (known_outcome known (kept_under (key_for locations url) maps.cache))
+    known_defined maps url None kept = kept_found maps url (kept_under (key_for locations url) maps.cache) refl kept
     known_defined maps url (Some None) kept = inr refl
     known_defined maps url (Some (Some stated)) kept = inr refl
 
     defined_at : (maps : StoredSeen LoaderSeen) (url : List ℕ) → IsRight maps → Defined url (outcome_at maps url)
     defined_at maps url right =
-        let outcome : outcome_at maps url ≡ known_outcome (known_of words locations url) (value_under (key_for locations url) maps.cache.kept) =
-        λ i. known_outcome (known_of (right.words_are i) (right.locations_are i) url) (value_under (key_for (right.locations_are i) url) maps.cache.kept) in
+        let outcome : outcome_at maps url ≡ known_outcome (known_of words locations url) (kept_under (key_for locations url) maps.cache) =
+        λ i. known_outcome (known_of (right.words_are i) (right.locations_are i) url) (kept_under (key_for (right.locations_are i) url) maps.cache) in
         subst (Defined url) (sym outcome) (known_defined maps url (known_of words locations url) right.kept)
 
     right_after : (old new : StoredSeen LoaderSeen) (url : List ℕ) → FindsIn (Loads Reads paths base k number) old url new → IsRight old → IsRight new
@@ -186,7 +175,7 @@ module _ (Reads : MayRead) (paths : Bool) (base : Option Parts) (k number : ℕ)
         ((outcome_at new place.url, defined_at new place.url after, step.1), after)
 
     pub located_by_path : (options : AnswerOptions) (most : ℕ) (before after : DevicesSeen) (old new : StoredSeen LoaderSeen) (counts : LineCounts)
-        → old.words ≡ words → old.locations ≡ locations → old.cache.kept ≡ []
+        → old.words ≡ words → old.locations ≡ locations → IsEmpty old.cache
         → EditsInto (LocateStep (FindsIn (Loads Reads paths base k number)) options) most before after old new counts
         → AnswersAll (AnswersLine paths base k bytes_at words locations options) before after
     located_by_path options most before after old new counts words_are locations_are empty edits =
@@ -195,5 +184,5 @@ module _ (Reads : MayRead) (paths : Bool) (base : Option Parts) (k number : ℕ)
         (record {
           words_are = words_are;
           locations_are = locations_are;
-          kept = λ key one is. let none : None ≡ Some one = ap (value_under key) (sym empty) ∙ is in cc;
+          kept = λ key found is. absurd (none_kept old.cache key found empty is);
         }) edits

@@ -23,4 +23,4 @@ run_by_path Reads asked sources end before after over bytes_at alike counts resu
     let P : Result LineCounts LineFault → Type 0 = λ result. IsStoredLocated Reads asked.paths asked.base asked.interval number asked.options start over.last
     (devices_seen before.input before.sinks.output) (devices_seen after.input after.sinks.output) result in
     located_by_path Reads asked.paths asked.base asked.interval number bytes_at alike sources.words sources.locations asked.options most_text_bytes
-    (devices_seen before.input before.sinks.output) (devices_seen after.input after.sinks.output) start over.last counts refl refl refl (subst P result over.located)
+    (devices_seen before.input before.sinks.output) (devices_seen after.input after.sinks.output) start over.last counts refl refl (refl, refl) (subst P result over.located)

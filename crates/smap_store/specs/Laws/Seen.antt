@@ -1,14 +1,13 @@
 -- Laws of maps that are found in a table and in files, where only some is seen of what loads them: what is seen goes the same way.
 use Rattle.std.specs.Prelude.{◌≡◌, ◌⊎◌, ℕ, List, Option, Some, None, MatchOption}
-use Rattle.std.specs.Option.{IsSomeAnd}
+use Rattle.std.specs.Result.{result_ok}
 use Rattle.std.proofs.Common.{ap, inl, inr}
 use Rattle.smap_locations.specs.Locations.{key_for, path_for}
 use Rattle.smap_record.specs.Record.{MapRecord}
-use Rattle.smap_by_text.specs.ByText.{value_under}
-use Rattle.smap_store.specs.Cache.{Kept, kept_record}
+use Rattle.smap_store.specs.Cache.{IsKept, kept_under}
 use Rattle.smap_store.specs.Fileless.{known_of}
-use Rattle.smap_store.specs.Loaded.{Came}
-use Rattle.smap_store.specs.Stored.{Asks, Comes, FindsIn, GivesIn, LoadsMay, LoadsStep, MayCome, Recalls, StoredSeen, Untouched}
+use Rattle.smap_store.specs.Loaded.{Came, Outcome}
+use Rattle.smap_store.specs.Stored.{Asks, Comes, FindsIn, GivesIn, LoadsMay, LoadsStep, MayCome, Recalled, Recalls, StoredSeen, Untouched}
 
 module _ {L N : Type 0} (see : L → N) where
   abbrev pub see_store : StoredSeen L → StoredSeen N
@@ -16,6 +15,9 @@ module _ {L N : Type 0} (see : L → N) where
 
   untouched_seen : (old new : StoredSeen L) → Untouched old new → Untouched (see_store old) (see_store new)
   untouched_seen old new is = record { cache = is.cache; loader = ap see is.loader }
+
+  recalled_seen : (old new : StoredSeen L) (url : List ℕ) → Recalled old url new → Recalled (see_store old) url (see_store new)
+  recalled_seen old new url is = record { cache = is.cache; loader = ap see is.loader }
 
   module _ (Loads : LoadsStep L) (Seen : LoadsStep N) where
     -- what a step of the loader is seen as
@@ -35,15 +37,15 @@ module _ {L N : Type 0} (see : L → N) where
     })
     asks_seen old new loads url (inr short) = inr (record { cache = short.cache; loader = ap see short.loader })
 
-    recalls_seen : (old new : StoredSeen L) (loads : StepSeen old.loader new.loader) (url : List ℕ) (one : Option Kept) → MatchOption one (Asks Loads old url new) (λ _. Untouched old new)
-        → MatchOption one (Asks Seen (see_store old) url (see_store new)) (λ _. Untouched (see_store old) (see_store new))
+    recalls_seen : (old new : StoredSeen L) (loads : StepSeen old.loader new.loader) (url : List ℕ) (found : Option Outcome) → MatchOption found (Asks Loads old url new) (λ _. Recalled old url new)
+        → MatchOption found (Asks Seen (see_store old) url (see_store new)) (λ _. Recalled (see_store old) url (see_store new))
     recalls_seen old new loads url None asks = asks_seen old new loads url asks
-    recalls_seen old new loads url (Some one) same = untouched_seen old new same
+    recalls_seen old new loads url (Some found) same = recalled_seen old new url same
 
     steps_seen : (old new : StoredSeen L) (loads : StepSeen old.loader new.loader) (url : List ℕ) (known : Option (Option MapRecord))
         → MatchOption known (Recalls Loads old url new) (λ _. Untouched old new)
         → MatchOption known (Recalls Seen (see_store old) url (see_store new)) (λ _. Untouched (see_store old) (see_store new))
-    steps_seen old new loads url None recalls = recalls_seen old new loads url (value_under url old.cache.kept) recalls
+    steps_seen old new loads url None recalls = recalls_seen old new loads url (kept_under url old.cache) recalls
     steps_seen old new loads url (Some known) same = untouched_seen old new same
 
     pub finds_seen : (old new : StoredSeen L) (loads : StepSeen old.loader new.loader) (url : List ℕ) → FindsIn Loads old url new → FindsIn Seen (see_store old) url (see_store new)
@@ -63,7 +65,7 @@ module _ {L N : Type 0} (see : L → N) where
 
     abbrev ByCache : {K : Type 0} → LoadsMay K → (loader : K) → (url key : List ℕ) → (found : Option MapRecord) → Type 0
     ByCache May loader url key found =
-        IsSomeAnd (value_under key maps.cache.kept) (λ one. found ≡ kept_record one) ⊎ MayCome May loader key (path_for maps.locations url) found
+        ((it : Outcome) × IsKept maps.cache key it × (found ≡ result_ok it)) ⊎ MayCome May loader key (path_for maps.locations url) found
 
     by_cache_seen : (url key : List ℕ) (found : Option MapRecord) → ByCache MayLoad maps.loader url key found → ByCache MaySeen (see maps.loader) url key found
     by_cache_seen url key found (inl is) = inl is

@@ -1,55 +1,49 @@
 -- Laws of maps that are found in a table and in files, which their trait asks for.
-use Rattle.std.specs.Prelude.{◌≡◌, ◌⊎◌, ℕ, List, Option, Some, None, Ok, Err, MatchOption}
-use Rattle.std.specs.Option.{IsSomeAnd}
+use Rattle.std.specs.Prelude.{◌≡◌, ◌⊎◌, ℕ, List, Option, Some, None, MatchOption}
+use Rattle.std.specs.Result.{result_ok}
 use Rattle.std.proofs.Common.{refl, sym, ap, subst, ◌∙◌, inl, inr}
 use Rattle.smap_locations.specs.Laws.Key.{path_of_key}
 use Rattle.smap_locations.specs.Locations.{LocationsSeen, key_for, path_for}
 use Rattle.smap_record.specs.Record.{MapRecord}
-use Rattle.smap_by_text.specs.ByText.{value_under}
-use Rattle.smap_by_text.specs.Laws.ByText.{IsOf}
-use Rattle.smap_store.specs.Cache.{CacheSeen, Keeps, Kept, Remembers, counted, kept_of, kept_record}
+use Rattle.smap_store.specs.Cache.{IsKept, kept_under}
 use Rattle.smap_store.specs.Fileless.{known_of}
-use Rattle.smap_store.specs.Laws.Kept.{other_remembered, own_remembered}
-use Rattle.smap_store.specs.Loaded.{Came, record_in}
-use Rattle.smap_store.specs.Stored.{Asks, Comes, FindsIn, GivesIn, LoadsMay, LoadsStep, MayCome, Recalls, StoredSeen, Untouched, found_in, map_in, or_other}
-
-counted_kept : (cache : CacheSeen) (came : Came) → (counted cache came).kept ≡ cache.kept
-counted_kept cache (Err why) = refl
-counted_kept cache (Ok one) = refl
+use Rattle.smap_store.specs.Laws.Kept.{IsBefore, is_kept, kept_after, used_kept}
+use Rattle.smap_store.specs.Loaded.{Came, Outcome, record_in}
+use Rattle.smap_store.specs.Stored.{Asks, Comes, FindsIn, GivesIn, LoadsMay, LoadsStep, MayCome, Recalled, Recalls, StoredSeen, Untouched, found_in, map_in, or_other}
 
 module _ {L : Type 0} (Loads : LoadsStep L) where
   -- nothing came
   record IsSame (old new : StoredSeen L) : Type 0 where
-    kept : new.cache.kept ≡ old.cache.kept
+    kept : (other : List ℕ) (found : Outcome) → IsKept new.cache other found → IsKept old.cache other found
     loader : new.loader ≡ old.loader
 
   -- this came for a URL that was not remembered, and it is remembered, where there was memory for it
   record CameAnew (old : StoredSeen L) (url : List ℕ) (new : StoredSeen L) : Type 0 where
-    absent : value_under url old.cache.kept ≡ None
     came : Came
     comes : Comes Loads old.loader url (path_for old.locations url) came new.loader
-    kept : Keeps old.cache.most old.cache.kept url (kept_of came) new.cache.kept ⊎ (new.cache.kept ≡ old.cache.kept)
+    kept : (other : List ℕ) (found : Outcome) → IsKept new.cache other found → IsBefore old.cache url came other found
 
   -- one of these
   abbrev Moves : (old : StoredSeen L) (url : List ℕ) (new : StoredSeen L) → Type 0
   Moves old url new = IsSame old new ⊎ CameAnew old url new
 
-  kept_after : (old : CacheSeen) (url : List ℕ) (came : Came) (new : CacheSeen) → Remembers old url came new
-      → Keeps old.most old.kept url (kept_of came) new.kept ⊎ (new.kept ≡ old.kept)
-  kept_after old url came new (inl kept) = inl kept.0
-  kept_after old url came new (inr is) = inr (ap (λ cache. cache.kept) is ∙ counted_kept old came)
+  same_cache : (old new : StoredSeen L) → new.cache ≡ old.cache → (other : List ℕ) (found : Outcome) → IsKept new.cache other found → IsKept old.cache other found
+  same_cache old new is other found kept = subst (λ c. IsKept c other found) is kept
 
-  recalled : (old : StoredSeen L) (url : List ℕ) (new : StoredSeen L) (one : Option Kept) → value_under url old.cache.kept ≡ one
-      → MatchOption one (Asks Loads old url new) (λ one. Untouched old new) → Moves old url new
-  recalled old url new (Some one) is same = inl (record { kept = ap (λ cache. cache.kept) same.cache; loader = same.loader })
-  recalled old url new None is (inr same) = inl (record { kept = ap (λ cache. cache.kept) same.cache; loader = same.loader })
-  recalled old url new None is (inl asked) =
-      inr (record { absent = is; came = asked.came; comes = asked.comes; kept = kept_after old.cache url asked.came new.cache asked.remembered })
+  recalled : (old : StoredSeen L) (url : List ℕ) (new : StoredSeen L) (found : Option Outcome)
+      → MatchOption found (Asks Loads old url new) (λ found. Recalled old url new) → Moves old url new
+  recalled old url new (Some one) same = inl (record {
+    kept = λ other found kept. used_kept old.cache url other found (subst (λ c. IsKept c other found) same.cache kept);
+    loader = same.loader;
+  })
+  recalled old url new None (inr same) = inl (record { kept = λ other found kept. subst (λ c. IsKept c other found) same.cache kept; loader = same.loader })
+  recalled old url new None (inl asked) =
+      inr (record { came = asked.came; comes = asked.comes; kept = kept_after old.cache url asked.came new.cache asked.remembered })
 
   moved : (old : StoredSeen L) (url : List ℕ) (new : StoredSeen L) (known : Option (Option MapRecord))
       → MatchOption known (Recalls Loads old url new) (λ known. Untouched old new) → Moves old url new
-  moved old url new (Some known) same = inl (record { kept = ap (λ cache. cache.kept) same.cache; loader = same.loader })
-  moved old url new None recalls = recalled old url new (value_under url old.cache.kept) refl recalls
+  moved old url new (Some known) same = inl (record { kept = same_cache old new same.cache; loader = same.loader })
+  moved old url new None recalls = recalled old url new (kept_under url old.cache) recalls
 
 module _ {L : Type 0} (MayLoad : LoadsMay L) where
   none_may : (loader : L) (url : List ℕ) (path : Option (List ℕ)) (found : Option MapRecord) → found ≡ None → MayCome MayLoad loader url path found
@@ -57,7 +51,7 @@ module _ {L : Type 0} (MayLoad : LoadsMay L) where
   none_may loader url (Some path) found is = inl is
 
   some_for : (maps : StoredSeen L) (url : List ℕ) (path : Option (List ℕ)) (known : Option (Option MapRecord)) → (found : Option MapRecord) ×
-      MatchOption known (IsSomeAnd (value_under (key_for maps.locations url) maps.cache.kept) (λ one. found ≡ kept_record one)
+      MatchOption known (((it : Outcome) × IsKept maps.cache (key_for maps.locations url) it × (found ≡ result_ok it))
       ⊎ MayCome MayLoad maps.loader (key_for maps.locations url) path found) (λ known. found ≡ known)
   some_for maps url path None = (None, inr (none_may maps.loader (key_for maps.locations url) path None refl))
   some_for maps url path (Some known) = (known, refl)
@@ -78,46 +72,43 @@ module _ {L : Type 0} (MayLoad : LoadsMay L) where
 
     -- what a URL has by what is remembered of it, or by what may come
     abbrev ByCache : (maps : StoredSeen L) (key : List ℕ) (path : Option (List ℕ)) (found : Option MapRecord) → Type 0
-    ByCache maps key path found = IsSomeAnd (value_under key maps.cache.kept) (λ one. found ≡ kept_record one) ⊎ MayCome MayLoad maps.loader key path found
+    ByCache maps key path found = ((it : Outcome) × IsKept maps.cache key it × (found ≡ result_ok it)) ⊎ MayCome MayLoad maps.loader key path found
 
-    by_kept : (maps : StoredSeen L) (key : List ℕ) (path : Option (List ℕ)) (found : Option MapRecord) (one : Option Kept)
-        → value_under key maps.cache.kept ≡ one → found ≡ map_in one → ByCache maps key path found
-    by_kept maps key path found None is finds = inr (none_may maps.loader key path found finds)
-    by_kept maps key path found (Some one) is finds =
-        let P : Option Kept → Type 0 = λ one. IsSomeAnd one (λ one. found ≡ kept_record one) in
-        inl (subst P (sym is) finds)
-
-    came_found : (old new : StoredSeen L) (key : List ℕ) (found : Option MapRecord) → CameAnew Loads old key new → found ≡ map_in (value_under key new.cache.kept)
-        → MayCome MayLoad old.loader key (path_for old.locations key) found
-    came_found old new key found is finds = go is.kept
+    -- what is remembered was before, or may come
+    kept_before : (old new : StoredSeen L) (key other : List ℕ) (more : Option MapRecord) (it : Outcome) → Moves Loads old key new
+        → IsKept new.cache other it → more ≡ result_ok it → ByCache old other (path_for old.locations other) more
+    kept_before old new key other more it (inl same) has is = inl (it, same.kept other it has, is)
+    kept_before old new key other more it (inr one) has is = go (one.kept other it has)
       where
-        go : Keeps old.cache.most old.cache.kept key (kept_of is.came) new.cache.kept ⊎ (new.cache.kept ≡ old.cache.kept)
-            → MayCome MayLoad old.loader key (path_for old.locations key) found
-        go (inl keeps) =
-            came_may old.loader new.loader key (path_for old.locations key) is.came found is.comes
-            (finds ∙ ap map_in (own_remembered old.cache.kept key (kept_of is.came) new.cache.kept old.cache.most keeps is.absent))
-        go (inr same) =
-            none_may old.loader key (path_for old.locations key) found (finds ∙ ap (λ kept. map_in (value_under key kept)) same ∙ ap map_in is.absent)
+        go : IsBefore old.cache key one.came other it → ByCache old other (path_for old.locations other) more
+        go (inr was) = inl (it, was, is)
+        go (inl now) =
+            let P : List ℕ → Type 0 = λ key. MayCome MayLoad old.loader key (path_for old.locations key) more in
+            inr (subst P (sym now.0)
+            (came_may old.loader new.loader key (path_for old.locations key) one.came more one.comes (is ∙ ap result_ok now.1)))
+
+    found_before : (old new : StoredSeen L) (key : List ℕ) (found : Option MapRecord) (it : Option Outcome) → Moves Loads old key new
+        → kept_under key new.cache ≡ it → found ≡ map_in it → ByCache old key (path_for old.locations key) found
+    found_before old new key found None moves has is = inr (none_may old.loader key (path_for old.locations key) found is)
+    found_before old new key found (Some it) moves has is = kept_before old new key key found it moves (is_kept new.cache key it has) is
 
     found_by : (old new : StoredSeen L) (url : List ℕ) (found : Option MapRecord) → Moves Loads old (key_for old.locations url) new
-        → found ≡ map_in (value_under (key_for old.locations url) new.cache.kept) → ByCache old (key_for old.locations url) (path_for old.locations url) found
-    found_by old new url found (inl same) finds =
-        by_kept old (key_for old.locations url) (path_for old.locations url) found (value_under (key_for old.locations url) old.cache.kept) refl
-        (finds ∙ ap (λ kept. map_in (value_under (key_for old.locations url) kept)) same.kept)
-    found_by old new url found (inr came) finds =
-        let P : Option (List ℕ) → Type 0 = λ path. MayCome MayLoad old.loader (key_for old.locations url) path found in
-        inr (subst P (path_of_key old.locations url) (came_found old new (key_for old.locations url) found came finds))
+        → found ≡ map_in (kept_under (key_for old.locations url) new.cache) → ByCache old (key_for old.locations url) (path_for old.locations url) found
+    found_by old new url found moves finds =
+        let key = key_for old.locations url in
+        let P : Option (List ℕ) → Type 0 = λ path. ByCache old key path found in
+        subst P (path_of_key old.locations url) (found_before old new key found (kept_under key new.cache) moves refl finds)
 
     given_for : (old new : StoredSeen L) (url : List ℕ) (found : Option MapRecord) (known : Option (Option MapRecord))
-        → Moves Loads old (key_for old.locations url) new → found ≡ or_other known (map_in (value_under (key_for old.locations url) new.cache.kept))
+        → Moves Loads old (key_for old.locations url) new → found ≡ or_other known (map_in (kept_under (key_for old.locations url) new.cache))
         → MatchOption known (ByCache old (key_for old.locations url) (path_for old.locations url) found) (λ known. found ≡ known)
     given_for old new url found None moves finds = found_by old new url found moves finds
     given_for old new url found (Some known) moves finds = finds
 
     pub given_in : (old new : StoredSeen L) (url : List ℕ) → FindsIn Loads old url new → GivesIn MayLoad old url (found_in new url)
     given_in old new url finds =
-        let is : found_in new url ≡ or_other (known_of old.words old.locations url) (map_in (value_under (key_for old.locations url) new.cache.kept)) =
-        λ i. or_other (known_of (finds.words i) (finds.locations i) url) (map_in (value_under (key_for (finds.locations i) url) new.cache.kept)) in
+        let is : found_in new url ≡ or_other (known_of old.words old.locations url) (map_in (kept_under (key_for old.locations url) new.cache)) =
+        λ i. or_other (known_of (finds.words i) (finds.locations i) url) (map_in (kept_under (key_for (finds.locations i) url) new.cache)) in
         given_for old new url (found_in new url) (known_of old.words old.locations url)
         (moved Loads old (key_for old.locations url) new (known_of old.words old.locations url) finds.steps) is
 
@@ -145,29 +136,6 @@ module _ {L : Type 0} (MayLoad : LoadsMay L) where
       comes_before old new key other (Some path) more moves (inl none) = inl none
       comes_before old new key other (Some path) more moves (inr may) = inr (loads_before old new key other path more moves may)
 
-      kept_before : (old new : StoredSeen L) (key other : List ℕ) (more : Option MapRecord) (it : Kept) → Moves Loads old key new
-          → value_under other new.cache.kept ≡ Some it → more ≡ kept_record it → ByCache old other (path_for old.locations other) more
-      kept_before old new key other more it (inl same) has is =
-          by_kept old other (path_for old.locations other) more (Some it) (ap (value_under other) (sym same.kept) ∙ has) is
-      kept_before old new key other more it (inr one) has is = go one.kept
-        where
-          of : IsOf other key (kept_of one.came) it (value_under other old.cache.kept) → ByCache old other (path_for old.locations other) more
-          of (inr was) = by_kept old other (path_for old.locations other) more (Some it) was is
-          of (inl now) =
-              let P : List ℕ → Type 0 = λ key. MayCome MayLoad old.loader key (path_for old.locations key) more in
-              inr (subst P (sym now.0)
-              (came_may old.loader new.loader key (path_for old.locations key) one.came more one.comes (is ∙ ap kept_record now.1)))
-
-          go : Keeps old.cache.most old.cache.kept key (kept_of one.came) new.cache.kept ⊎ (new.cache.kept ≡ old.cache.kept)
-              → ByCache old other (path_for old.locations other) more
-          go (inl keeps) = of (other_remembered old.cache.kept key (kept_of one.came) new.cache.kept old.cache.most keeps other it has)
-          go (inr same) = by_kept old other (path_for old.locations other) more (Some it) (ap (value_under other) (sym same) ∙ has) is
-
-      cache_before : (old new : StoredSeen L) (key other : List ℕ) (more : Option MapRecord) (it : Option Kept) → Moves Loads old key new
-          → value_under other new.cache.kept ≡ it → IsSomeAnd it (λ one. more ≡ kept_record one) → ByCache old other (path_for old.locations other) more
-      cache_before old new key other more None moves has is = absurd is
-      cache_before old new key other more (Some it) moves has is = kept_before old new key other more it moves has is
-
       by_cache_before : (old new : StoredSeen L) (key url : List ℕ) (more : Option MapRecord) → Moves Loads old key new
           → ByCache new (key_for old.locations url) (path_for old.locations url) more
           → ByCache old (key_for old.locations url) (path_for old.locations url) more
@@ -175,8 +143,7 @@ module _ {L : Type 0} (MayLoad : LoadsMay L) where
           inr (comes_before old new key (key_for old.locations url) (path_for old.locations url) more moves comes)
       by_cache_before old new key url more moves (inl is) =
           let P : Option (List ℕ) → Type 0 = λ path. ByCache old (key_for old.locations url) path more in
-          subst P (path_of_key old.locations url)
-          (cache_before old new key (key_for old.locations url) more (value_under (key_for old.locations url) new.cache.kept) moves refl is)
+          subst P (path_of_key old.locations url) (kept_before old new key (key_for old.locations url) more is.0 moves is.1 is.2)
 
       gives_before : (old new : StoredSeen L) (key url : List ℕ) (more : Option MapRecord) (known : Option (Option MapRecord)) → Moves Loads old key new
           → MatchOption known (ByCache new (key_for old.locations url) (path_for old.locations url) more) (λ known. more ≡ known)

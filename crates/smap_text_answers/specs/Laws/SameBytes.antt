@@ -1,6 +1,6 @@
 -- Laws of rewriting a trace over files whose paths give the same bytes whenever they are read: what is written and counted is then
 -- what the maps of these files make of it, however few are remembered, if they are settled and memory did not run out.
-use Rattle.std.specs.Prelude.{◌≡◌, ◌<◌, ◌+◌, ◌||◌, ℕ, Bool, true, false, List, [], MatchBool, Option, None, Result, Ok, Err, length}
+use Rattle.std.specs.Prelude.{◌≡◌, ◌<◌, ◌+◌, ◌||◌, ℕ, Bool, true, false, List, MatchBool, Option, None, Result, Ok, Err, length}
 use Rattle.std.proofs.Common.{ap, arith, inl, inr, refl, subst, sym, ◌∙◌}
 use Rattle.url.specs.Parts.{Parts}
 use Rattle.smap_lines.specs.Editing.{DevicesSeen, devices_seen}
@@ -12,6 +12,7 @@ use Rattle.smap_anywhere.specs.Laws.AnywhereBy.{anywhere_by}
 use Rattle.smap_record.specs.Record.{MapRecord}
 use Rattle.smap_record.specs.declared.refusal.MapRefusal.{MapRefusal}
 use Rattle.smap_store.specs.ByPath.{IsGood, IsRight, MapsByPath, stored_maps}
+use Rattle.smap_store.specs.Cache.{IsEmpty}
 use Rattle.smap_store.specs.Loaded.{Came, record_in}
 use Rattle.smap_store.specs.Laws.Same.{good_before, right_after, right_start}
 use Rattle.smap_store.specs.Stored.{FindsIn, LoadsStep, StoredSeen, found_in}
@@ -44,7 +45,7 @@ module _ {L : Type 0} (Steps : LoadsStep L) (Good : L → Type 0) (load : MapsBy
     (loads_right : (old new : L) (url path : List ℕ) (came : Came) → Steps old url path came new → Good new
     → Good old × (record_in came ≡ load url path)) where
   pub rewrites_same : (asked : RewriteAsked) (before after : DevicesSeen) (old new : StoredSeen L) (counts : RewriteCounts) (notes : NotesSeen)
-      → RewritesOver (FindsIn Steps) found_in asked before after old new counts notes → old.cache.kept ≡ [] → IsGood Good new
+      → RewritesOver (FindsIn Steps) found_in asked before after old new counts notes → IsEmpty old.cache → IsGood Good new
       → RewritesBy (stored_maps load old.words old.locations) asked.hide asked.most before after counts
   rewrites_same asked before after old new counts notes all empty good =
       rewrites_by (FindsIn Steps) found_in (stored_maps load old.words old.locations) (IsGood Good) (IsRight load old.words old.locations)
@@ -53,7 +54,7 @@ module _ {L : Type 0} (Steps : LoadsStep L) (Good : L → Type 0) (load : MapsBy
 
   -- and rewriting places
   places_same : (asked : PlacesAsked) (before after : DevicesSeen) (old new : StoredSeen L) (summary : Summary) (named others : NotesSeen)
-      → RewritesAnywhere (FindsIn Steps) found_in asked before after old new summary named others → old.cache.kept ≡ [] → IsGood Good new
+      → RewritesAnywhere (FindsIn Steps) found_in asked before after old new summary named others → IsEmpty old.cache → IsGood Good new
       → RewritesAnywhereBy (stored_maps load old.words old.locations) asked.parts asked.most_bytes before after summary
   places_same asked before after old new summary named others all empty good =
       anywhere_by (FindsIn Steps) found_in (stored_maps load old.words old.locations) (IsGood Good) (IsRight load old.words old.locations)
@@ -112,7 +113,7 @@ module _ (Reads : MayRead) (paths : Bool) (base : Option Parts) (k number : ℕ)
       → MatchBool anywhere (RewritesPlaces request sources (FindsIn (Loads Reads paths base k number)) before after old new counts notes others)
       (RewritesOver (FindsIn (Loads Reads paths base k number)) found_in (asked_of request sources) before after old new counts notes
       × (others ≡ nothing_noted))
-      → old.cache.kept ≡ [] → Settled new.loader → new.cache.shortages ≡ 0
+      → IsEmpty old.cache → Settled new.loader → new.cache.shortages ≡ 0
       → RewritesTextBy anywhere (stored_maps load old.words old.locations) (parts_in (urls_of sources)) request.hide request.limit_bytes before after counts
   same_settled request sources before after old new counts notes others true all empty settled enough =
       places_same (Loads Reads paths base k number) Settled load loads_settled (places_asked request sources) before after old new counts.summary notes others
@@ -135,4 +136,4 @@ same_run Reads base k request sources end notes others before after over bytes_a
     (subst (λ lost. AreSettled Reads number bytes_at end.status lost) over.lost settled) in
     same_settled Reads request.paths base k number bytes_at same request sources
     (devices_seen before.input before.sinks.output) (devices_seen after.input after.sinks.output) first over.last counts notes others request.anywhere
-    (subst P result over.rewritten) refl are (sym over.shortages ∙ enough)
+    (subst P result over.rewritten) (refl, refl) are (sym over.shortages ∙ enough)

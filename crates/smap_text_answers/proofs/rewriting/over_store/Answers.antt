@@ -1,7 +1,7 @@
-use Rattle.std.proofs.Common.{◌≡◌, ◌+◌, ◌∙◌, [], false, length, map, ap, refl, rules, subst, sym, option_copied}
+use Rattle.std.proofs.Common.{◌≡◌, ◌+◌, ◌∙◌, false, length, map, ap, refl, rules, subst, sym, option_copied}
 use Rattle.std.proofs.lemmas.List.{length-map}
 use Rattle.smap_lines.specs.Editing.{devices_seen}
-use Rattle.smap_store.specs.Cache.{CacheSeen}
+use Rattle.smap_store.specs.Cache.{CacheSeen, cache_at_first}
 use Rattle.smap_store.specs.Stored.{StoredSeen}
 use Rattle.smap_text_answers.specs.Loader.{LoaderSeen, Loads, MayLoad, loader_seen}
 use Rattle.smap_trace.specs.NotesSeen.{notes_seen}
@@ -30,8 +30,8 @@ returns-clause-over g c =
       loader = record { errors = seen c.args.errors.now; status = 0; code = c.args.first.now; reported = 0; refused = 0; lost = false };
     } in
     let last : StoredSeen LoaderSeen = store_of sources made.new.cache (loader_seen seen made.new.loader) in
-    let first : c.new-cache.result ≡ record { kept = []; most = (request_seen request).cache_bytes; read = 0; missing = 0; shortages = 0 } =
-    c.new-cache.ensures ∙ ap (λ m. record { kept = []; most = m; read = 0; missing = 0; shortages = 0 }) c.cache_bytes.ensures in
+    let first : c.new-cache.result ≡ cache_at_first (request_seen request).cache_bytes =
+    c.new-cache.ensures ∙ ap cache_at_first c.cache_bytes.ensures in
     let rewritten = rewritten_from gives seen _ _ _ refl (request_seen request) sources before after (notes_seen made.new.notes.named)
     (notes_seen made.new.notes.others) made.result made.ensures.ends.whole made.ensures.ends.front made.ensures.looked in
     let numbered = subst (λ n. IsStoredRewritten (Loads (gives maps.files.now) request.options.now.paths (option_copied maps.base) maps.interval (n + 1))

@@ -1,7 +1,7 @@
 use Rattle.std.proofs.Common.{ap, option_copied, option_map, sym, ◌∙◌}
 use Rattle.smap_by_text.specs.ByText.{value_under}
 use Rattle.smap_kept.proofs.Numbers.{found, no_value}
-use Rattle.smap_kept.proofs.in_order.InOrder.get.Goals as goal
+use Rattle.smap_kept.proofs.in_order.InOrder.numbered_under.Goals as goal
 
 pub returns-in_err-number : goal.returns-in_err-number
 returns-in_err-number g c =

@@ -4,7 +4,7 @@ use Rattle.smap_kept.specs.InOrder.{in_front, used}
 use Rattle.smap_kept.specs.Private.Numbered.{IsOnce, in_order, numbers_of}
 use Rattle.smap_kept.proofs.Numbers.{Found, found, no_value}
 use Rattle.smap_kept.proofs.Moves.{moved_count, moved_numbers, moved_once, moved_order}
-use Rattle.smap_kept.proofs.in_order.InOrder.touch.Goals as goal
+use Rattle.smap_kept.proofs.in_order.InOrder.promote.Goals as goal
 
 module _ (g : _) (c : goal.After-promote g) where
   has_number : value_under c.args.text.now (numbers_of c.self.inside.entries.entries) ≡ Some c.in-Some.number.now
