@@ -172,12 +172,19 @@ typedef struct smap_rewrite_refusal { uint32_t number; uint64_t lines; } smap_re
 
 /* How much a store holds: for how many bytes its maps count, and how many they are; the same of the URLs that are known to
  * have none; how many look-ups were counted, how many of these were answered, and how much was dropped because there was no
- * room. */
-typedef struct smap_store_counts { uint64_t bytes, count, none_bytes, none_count, asked, hits, dropped; } smap_store_counts;
+ * room; and for how many bytes count the URLs with a query or a fragment under which something was put, each of which has its
+ * own answer from then on. */
+typedef struct smap_store_counts { uint64_t bytes, count, none_bytes, none_count, asked, hits, dropped, own_bytes; } smap_store_counts;
 
-/* How a text is rewritten piece by piece: with `hide_ignored` as in smap_rewrite_options, and how many bytes it has at most,
- * up to 9,223,372,036,854,775,807. */
-typedef struct smap_rewriting_options { bool hide_ignored; uint64_t most; } smap_rewriting_options;
+/* How a text is rewritten piece by piece: with `hide_ignored`, `anywhere` and `strip_ansi` as in smap_rewrite_options. With `asks`
+ * maps are asked for: smap_rewriting_run stops before a URL that is a location, as smap_is_location says, and of which it is not
+ * known what map it has, and the places of a text are those of all that looks like a URL without its query and its fragment, as
+ * for smap_next_place_url, beside those of the table. Without it such URLs have no map. The text has at most `most` bytes, or 9,223,372,036,854,775,807,
+ * and at most `most_output` come out. */
+typedef struct smap_rewriting_options {
+    bool hide_ignored, anywhere, strip_ansi, asks;
+    uint64_t most, most_output;
+} smap_rewriting_options;
 
 /* Where the URL of a frame stands in a trace, how many bytes it has, and where the line after the frame begins, or the
  * trace ends. */
@@ -468,32 +475,54 @@ uint32_t smap_store_map(smap_store *store, const uint8_t *url, size_t url_length
 /* Frees the store, with those of its maps that nothing else holds, and leaves its handle empty. */
 void smap_store_free(smap_store *store);
 
-/* Makes a rewriting of a trace that is given piece by piece, as smap_rewrite rewrites a whole one. */
+/* Returns 0 where a map may be asked for under a URL without its query and its fragment, and else 1. It looks like one, as for
+ * smap_next_place_url, and is no pattern; and a scheme, a drive or a separator stands before its names, or no piece between its `/` and
+ * `\` is empty or `..`. */
+uint32_t smap_is_location(const uint8_t *url, size_t length);
+
+/* Writes the path of the map that a folder has for a URL, as the program has it of PREFIX=FOLDER/: the folder, what the URL has behind
+ * the prefix without its query and its fragment, and `.map`. Returns 1 where the URL does not begin with the prefix, where what stands
+ * behind that leads out of the folder, or is no plain path in UTF-8, and where the prefix does not end in `/`, or one of the two is not
+ * UTF-8. The folder stands before the path as it is. The bytes are freed by smap_bytes_free. */
+uint32_t smap_folder_path(const uint8_t *prefix, size_t prefix_length, const uint8_t *folder, size_t folder_length,
+                          const uint8_t *url, size_t url_length, smap_bytes *path);
+
+/* Makes a rewriting of a text that is given piece by piece, as smap_rewrite_within rewrites a whole one with `cut`. */
 uint32_t smap_rewriting_new(const smap_rewriting_options *options, smap_rewriting *rewriting);
 
-/* Gives it the next bytes of the trace, which are copied. Returns 1 where it would have more than it may, or after
+/* Gives it the next bytes of the text, which are copied. Returns 1 where it would have more than it may, or after
  * smap_rewriting_end. */
 uint32_t smap_rewriting_give(smap_rewriting *rewriting, const uint8_t *bytes, size_t length);
 
-/* Tells it that the trace ends with the bytes that were given. Returns 0. */
+/* Tells it that the text ends with the bytes that were given. Returns 0. */
 uint32_t smap_rewriting_end(smap_rewriting *rewriting);
 
-/* Goes on over the maps that the store has, each frame a look-up that is counted. Returns 0 where all is done that can be
- * decided of the bytes that were given; and 2 before a frame of whose URL the store does not know what map it has:
- * smap_rewriting_url lends it. Once that is put, the next call goes on from there. Where it returns 3, what stands before a
- * line is done, and the next call goes on with that. */
-uint32_t smap_rewriting_run(smap_rewriting *rewriting, smap_store *store, uint64_t now);
+/* Goes on. A URL has the map of the table, by the URL, without its query and its fragment, or by a pattern; or else what the store
+ * knows of it at the time `now`, which is a look-up that is counted. Give each run the same table, with the same maps. Returns
+ * 0 where all is done that can be decided of the bytes that were given;
+ * 2 before a frame or a place of whose URL it is not known what map it has: smap_rewriting_url lends it. Once that is put, under what
+ *   smap_store_key lends of it, the next call goes on from there;
+ * 1 before what would make more come out than may: `refusal` has number 5 (X5), and how many whole lines were written, those that were
+ *   let go of, too; or, with number 0, where places are rewritten and the table has a map under `*` alone;
+ * 3 before a line, bytes or a place for which there is no memory: the next call goes on with that.
+ * What stands before is written. */
+uint32_t smap_rewriting_run(smap_rewriting *rewriting, smap_table *table, smap_store *store, uint64_t now,
+                            smap_rewrite_refusal *refusal);
 
-/* Lends the URL of the next frame, where the next line is one. Returns 1 where it is none. */
+/* Lets at most `most_output` bytes come out from now on, behind those that are written, as for each part of a stream. Returns 0. */
+uint32_t smap_rewriting_allow(smap_rewriting *rewriting, uint64_t most_output);
+
+/* Lends the URL before which a run has returned 2. Where it stands in a string with two backslashes for one, it has one. Returns 1
+ * where there is none, as after another run. */
 uint32_t smap_rewriting_url(const smap_rewriting *rewriting, smap_text *url);
 
-/* Lends what is written of the trace and was not let go of. Returns 0. */
+/* Lends what is written of the text and was not let go of. Returns 0. */
 uint32_t smap_rewriting_text(const smap_rewriting *rewriting, smap_text *text);
 
-/* Lets go of what is written of the trace. Returns 0. */
+/* Lets go of what is written of the text. Returns 0. */
 uint32_t smap_rewriting_clear(smap_rewriting *rewriting);
 
-/* Gives what was in the trace as far as it is done. Returns 0. */
+/* Gives what was in the text as far as it is done: `frames` are frames or, with `anywhere`, places. Returns 0. */
 uint32_t smap_rewriting_count(const smap_rewriting *rewriting, smap_trace_count *counts);
 
 /* Frees the rewriting, and leaves its handle empty. */

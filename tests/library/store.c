@@ -73,12 +73,28 @@ static smap_store_counts counts_of(smap_store *store) {
     return counts;
 }
 
-static smap_rewriting rewriting_of(bool hide_ignored, uint64_t most) {
-    const smap_rewriting_options options = {.hide_ignored = hide_ignored, .most = most};
+static smap_rewriting rewriting_with(smap_rewriting_options options) {
     smap_rewriting rewriting = {0};
     insist(smap_rewriting_new(&options, &rewriting) == SMAP_DONE, "a rewriting");
     return rewriting;
 }
+
+static smap_rewriting rewriting_of(bool hide_ignored, uint64_t most) {
+    return rewriting_with((smap_rewriting_options){.hide_ignored = hide_ignored, .asks = true, .most = most, .most_output = UINT64_MAX});
+}
+
+/* A run over this table, or the one without maps, and the store; what it says where it is refused is in `refusal`. */
+static smap_table none;
+static smap_rewrite_refusal refusal;
+
+static uint32_t run_over(smap_rewriting *rewriting, smap_table *table, smap_store *store, uint64_t now) {
+    refusal = (smap_rewrite_refusal){77, 77};
+    uint32_t status = smap_rewriting_run(rewriting, table, store, now, &refusal);
+    insist(status == SMAP_REFUSED || (refusal.number == 77 && refusal.lines == 77), "a refusal alone says why");
+    return status;
+}
+
+static uint32_t run(smap_rewriting *rewriting, smap_store *store, uint64_t now) { return run_over(rewriting, &none, store, now); }
 
 static void give(smap_rewriting *rewriting, const char *text) { insist(smap_rewriting_give(rewriting, BYTES(text)) == SMAP_DONE, "bytes are given"); }
 
@@ -100,10 +116,10 @@ static void late(void) {
     smap_rewriting rewriting = rewriting_of(false, 1000);
     insist(asked(&store, "a.js", 0) == UNKNOWN && counts_of(&store).none_count == 0, "a URL of which nothing is known");
     give(&rewriting, "    at f (a.js:1:1)\n");
-    insist(smap_rewriting_run(&rewriting, &store, 0) == SMAP_WANTED && wants(&rewriting, "a.js"), "a frame of which nothing is known");
+    insist(run(&rewriting, &store, 0) == SMAP_WANTED && wants(&rewriting, "a.js"), "a frame of which nothing is known");
     put(&store, "a.js", 1, 1);
     insist(asked(&store, "a.js", 0) == 1, "a map that came");
-    insist(smap_rewriting_run(&rewriting, &store, 0) == SMAP_DONE && has_written(&rewriting, "    at f (1.ts:1:1)\n"), "and its frame");
+    insist(run(&rewriting, &store, 0) == SMAP_DONE && has_written(&rewriting, "    at f (1.ts:1:1)\n"), "and its frame");
     smap_rewriting_free(&rewriting);
     smap_store_free(&store);
 }
@@ -114,10 +130,10 @@ static void replaced(void) {
     smap_rewriting rewriting = rewriting_of(false, 1000);
     put(&store, "a.js", 1, 1);
     give(&rewriting, "@a.js:1:1\n");
-    insist(smap_rewriting_run(&rewriting, &store, 0) == SMAP_DONE, "a frame");
+    insist(run(&rewriting, &store, 0) == SMAP_DONE, "a frame");
     put(&store, "a.js", 2, 1);
     give(&rewriting, "@a.js:1:1\n");
-    insist(smap_rewriting_run(&rewriting, &store, 0) == SMAP_DONE, "another one");
+    insist(run(&rewriting, &store, 0) == SMAP_DONE, "another one");
     insist(has_written(&rewriting, "@1.ts:1:1\n@2.ts:1:1\n") && asked(&store, "a.js", 0) == 2, "the map that was put last");
     smap_rewriting_free(&rewriting);
     smap_store_free(&store);
@@ -133,7 +149,7 @@ static void queries(void) {
     insist(smap_store_put_none(&store, BYTES("d.js"), 2, false, 0) == SMAP_REFUSED, "another reason");
     give(&rewriting, "@a.js?v=1:1:1\n@b.js?v=1:1:1\n@c.js#x:1:1\n@a.js#y:1:1");
     insist(smap_rewriting_end(&rewriting) == SMAP_DONE && smap_rewriting_give(&rewriting, BYTES("x")) == SMAP_REFUSED, "the end");
-    insist(smap_rewriting_run(&rewriting, &store, 0) == SMAP_DONE, "all frames");
+    insist(run(&rewriting, &store, 0) == SMAP_DONE, "all frames");
     insist(has_written(&rewriting, "@1.ts:1:1\n@b.js?v=1:1:1\n@c.js#x:1:1\n@1.ts:1:1"), "each of its own");
     smap_trace_count count = {0};
     insist(smap_rewriting_count(&rewriting, &count) == SMAP_DONE && count.lines == 4 && count.frames == 4 && count.mapped == 2, "what was counted");
@@ -161,7 +177,7 @@ static void given_once(void) {
         smap_rewriting rewriting = rewriting_of(false, UINT64_MAX);
         long given = 0;
         for (int i = 0; i < LINES; i++) give(&rewriting, i & 1 ? "@a.js:1:1\n" : "@b.js:1:1\n");
-        while (smap_rewriting_run(&rewriting, &store, 0) == SMAP_WANTED) {
+        while (run(&rewriting, &store, 0) == SMAP_WANTED) {
             put(&store, wants(&rewriting, "a.js") ? "a.js" : "b.js", 1 + (int)wants(&rewriting, "b.js"), 1);
             given++;
         }
@@ -184,7 +200,7 @@ static void dropped(void) {
     put(&store, "b.js", 2, 10);
     smap_rewriting rewriting = rewriting_of(false, 1000);
     give(&rewriting, "@a.js:1:1\n");
-    insist(smap_rewriting_run(&rewriting, &store, 0) == SMAP_DONE && counts_of(&store).count == 2, "the first is used again");
+    insist(run(&rewriting, &store, 0) == SMAP_DONE && counts_of(&store).count == 2, "the first is used again");
     put(&store, "c.js", 3, 10);
     insist(counts_of(&store).dropped == 1 && asked(&store, "b.js", 0) == UNKNOWN && asked(&store, "a.js", 0) == 1, "the longest unused is dropped");
     put(&store, "d.js", 4, 1000);
@@ -209,6 +225,73 @@ static void bounds(void) {
     insist(smap_rewriting_give(&rewriting, BYTES("def")) == SMAP_REFUSED && smap_rewriting_give(&rewriting, BYTES("de")) == SMAP_DONE, "five bytes");
     insist(smap_rewriting_give(&rewriting, BYTES("f")) == SMAP_REFUSED && smap_rewriting_give(&rewriting, BYTES("")) == SMAP_DONE, "and no more");
     smap_rewriting_free(&rewriting);
+}
+
+/* No more comes out than may, nothing is lost, and the whole lines are counted that came out. */
+static void outputs(void) {
+    smap_store store = store_of(10000);
+    put(&store, "a.js", 1, 1);
+    for (int anywhere = 0; anywhere < 2; anywhere++) {
+        smap_rewriting rewriting = rewriting_with((smap_rewriting_options){.anywhere = anywhere, .asks = true, .most = 100, .most_output = 15});
+        give(&rewriting, "Error\n@a.js:1:1\n@a.js:1:1\nx\n");
+        insist(run(&rewriting, &store, 0) == SMAP_REFUSED && refusal.number == 5 && refusal.lines == 1, "what would be too much");
+        insist(has_written(&rewriting, anywhere ? "Error\n@1.ts:1:1" : "Error\n"), "what fits");
+        insist(smap_rewriting_clear(&rewriting) == SMAP_DONE && run(&rewriting, &store, 0) == SMAP_REFUSED, "what was let go of counts");
+        insist(refusal.lines == 1 && smap_rewriting_allow(&rewriting, 100) == SMAP_DONE && run(&rewriting, &store, 0) == SMAP_DONE, "more may come out");
+        insist(has_written(&rewriting, anywhere ? "\n@1.ts:1:1\nx\n" : "@1.ts:1:1\n@1.ts:1:1\nx\n"), "nothing is lost");
+        smap_rewriting_free(&rewriting);
+    }
+    smap_store_free(&store);
+}
+
+/* A map that has a name, or a pattern, comes first; what nobody asks for has none, and no `*` alone goes with places. */
+static void tables(void) {
+    smap_store store = store_of(10000);
+    smap_table table = {0};
+    uint32_t why = 77;
+    insist(smap_table_new(&table) == SMAP_DONE, "a table");
+    for (int i = 0; i < 2; i++) {
+        smap_map map = map_of(7 + i);
+        insist(smap_table_add(&table, BYTES(i ? "*x.js" : "a name"), &map, &why) == SMAP_DONE, "a map of a table");
+    }
+    put(&store, "a name", 1, 1);
+    put(&store, "b.js", 2, 1);
+    for (int asks = 0; asks < 2; asks++) {
+        smap_rewriting rewriting = rewriting_with((smap_rewriting_options){.asks = asks, .most = 200, .most_output = 200});
+        give(&rewriting, "@a name?v:1:1\n@h://x.js:1:1\n@b.js:1:1\n@node:fs:1:1\n@../c.js:1:1\n@c.js:1:1\n@*c.js:1:1\n");
+        insist(run_over(&rewriting, &table, &store, 0) == (asks ? SMAP_WANTED : SMAP_DONE), "what is asked for");
+        if (asks) {
+            insist(wants(&rewriting, "c.js"), "a location");
+            insist(smap_store_put_none(&store, BYTES("c.js"), SMAP_MISSING, false, 0) == SMAP_DONE, "none");
+            insist(run_over(&rewriting, &table, &store, 0) == SMAP_DONE, "all frames");
+        }
+        insist(has_written(&rewriting, "@7.ts:1:1\n@8.ts:1:1\n@2.ts:1:1\n@node:fs:1:1\n@../c.js:1:1\n@c.js:1:1\n@*c.js:1:1\n"), "by the table first");
+        smap_rewriting_free(&rewriting);
+    }
+    smap_map all = map_of(9);
+    insist(smap_table_add(&table, BYTES("*"), &all, &why) == SMAP_DONE, "a map of all");
+    smap_rewriting rewriting = rewriting_with((smap_rewriting_options){.anywhere = true, .most = 200, .most_output = 200});
+    give(&rewriting, "a.js:1:1\n");
+    insist(run_over(&rewriting, &table, &store, 0) == SMAP_REFUSED && refusal.number == 0 && has_written(&rewriting, ""), "no places over it");
+    smap_rewriting_free(&rewriting);
+    smap_table_free(&table);
+    smap_store_free(&store);
+}
+
+/* For which URLs maps are asked for, and where a folder has them. */
+static void locations(void) {
+    static const char *const some[] = {"https://h/../a", "/srv/a", "C:\\a\\..\\b", "a.js", "./a.js", "x\\y.cjs", "a:b.js"};
+    static const char *const others[] = {"", "native", "node:fs", "../a.js", "x/../a.js", "x//a.js", "a.ts", "*a.js", "C:a"};
+    for (size_t i = 0; i < sizeof some / sizeof *some; i++) insist(smap_is_location(BYTES(some[i])) == SMAP_DONE, some[i]);
+    for (size_t i = 0; i < sizeof others / sizeof *others; i++) insist(smap_is_location(BYTES(others[i])) == SMAP_REFUSED, others[i]);
+    smap_bytes path = {0};
+    smap_text text = SMAP_TEXT;
+    insist(smap_folder_path(BYTES("h://p/"), BYTES("d/"), BYTES("h://p/x/a.js?v"), &path) == SMAP_DONE, "the path of a map");
+    insist(smap_bytes_text(&path, &text) == SMAP_DONE && is(text, "d/x/a.js.map"), "in its folder");
+    smap_bytes_free(&path);
+    static const char *const refused[][3] = {{"h://p/", "d/", "h://q/a.js"}, {"h://p/", "d/", "h://p/../a.js"}, {"h://p", "d/", "h://p/a.js"}, {"h://p/", "\xff", "h://p/a.js"}};
+    for (size_t i = 0; i < sizeof refused / sizeof *refused; i++)
+        insist(smap_folder_path(BYTES(refused[i][0]), BYTES(refused[i][1]), BYTES(refused[i][2]), &path) == SMAP_REFUSED, "no path");
 }
 
 /* ---- threads: one store behind a lock, which gives each a handle of a map, or wants it */
@@ -339,8 +422,8 @@ static void model_put(int kind, int url, struct known known) {
 static void model_forget(int url) { take_out(VALUES, url), take_out(NONES, url); }
 
 static int model_peek(int url, uint64_t now, int *key, int *kind) {
-    struct known *none = &model.known[NONES][*key = key_of(url)];
-    bool has_none = place_of(NONES, *key) >= 0 && (!none->has_until || now < none->until);
+    struct known *absence = &model.known[NONES][*key = key_of(url)];
+    bool has_none = place_of(NONES, *key) >= 0 && (!absence->has_until || now < absence->until);
     *kind = place_of(VALUES, *key) >= 0 ? VALUES : NONES;
     return *kind == VALUES || has_none ? model.known[*kind][*key].found : UNKNOWN;
 }
@@ -370,6 +453,7 @@ static void counts_alike(smap_store *store) {
     smap_store_counts counts = counts_of(store);
     insist(counts.bytes == bytes_of(VALUES) && counts.count == (uint64_t)model.count[VALUES], "the maps");
     insist(counts.none_bytes == bytes_of(NONES) && counts.none_count == (uint64_t)model.count[NONES], "those that have none");
+    insist(counts.own_bytes == model.own_bytes, "the URLs that stand for themselves");
     insist(counts.asked == model.asked && counts.hits == model.hits && counts.dropped == model.dropped, "the statistics");
 }
 
@@ -443,7 +527,7 @@ static void random_text(smap_store *store) {
             if (found < 0) memcpy(wanted + written, text + from, size), written += size;
             else written += (size_t)sprintf(wanted + written, "    at f (%d.ts:1:1)%s", found, text[ends[done] - 1] == '\n' ? "\n" : "");
         }
-        insist(smap_rewriting_run(&rewriting, store, now) == (unknown < 0 ? SMAP_DONE : SMAP_WANTED), "how a rewriting stops");
+        insist(run(&rewriting, store, now) == (unknown < 0 ? SMAP_DONE : SMAP_WANTED), "how a rewriting stops");
         if (unknown >= 0) {
             insist(smap_rewriting_url(&rewriting, &url) == SMAP_DONE && is(url, urls[unknown]), "at which URL");
             insist(smap_store_key(store, BYTES(urls[unknown]), &url) == SMAP_DONE && is(url, urls[key_of(unknown)]), "under which it is put");
@@ -461,6 +545,58 @@ static void random_text(smap_store *store) {
     smap_rewriting_free(&rewriting);
 }
 
+/* Goes on to the end of what was given; the maps of those of `urls` come when they are wanted, and others are none. */
+static void run_on(smap_rewriting *rewriting, smap_store *store) {
+    smap_text url = SMAP_TEXT;
+    while (run(rewriting, store, 0) == SMAP_WANTED) {
+        insist(smap_rewriting_url(rewriting, &url) == SMAP_DONE && smap_store_key(store, url.bytes, url.length, &url) == SMAP_DONE, "which is wanted");
+        int number = 0;
+        while (number < URLS && !is(url, urls[number])) number++;
+        if (number < URLS) insist(smap_store_put(store, url.bytes, url.length, &maps[cut(number) % MAPS], 1) == SMAP_DONE, "a map comes");
+        else insist(smap_store_put_none(store, url.bytes, url.length, SMAP_MISSING, false, 0) == SMAP_DONE, "none comes");
+    }
+}
+
+/* The places of a text, given in pieces of any length and with colours, while their maps come in the middle of a line: it comes to what
+ * it does where all maps are at hand, and the text is given at once. */
+static void random_places(void) {
+    static const char *const parts[] = {"see a.js:1:1, ", "\"b.js:1:2\" ", "(/d/e.js?v=2:1:1)", "\n", "h://k/c.js:3:1", "12:30:01 ", "x", "\\\\", " at f (a.js:1:1)\n"};
+    char plain[512], coloured[4096];
+    size_t length = 0, size = 0, given = 0;
+    for (uint32_t i = random_below(14); i > 0; i--) {
+        const char *part = parts[random_below(sizeof parts / sizeof *parts)];
+        length += (size_t)sprintf(plain + length, "%s", part);
+        for (; *part; part++) size += (size_t)(random_below(6) ? sprintf(coloured + size, "%c", *part) : sprintf(coloured + size, "\x1b[3%um%c", random_below(8), *part));
+    }
+    smap_text at_once = SMAP_TEXT, got = SMAP_TEXT;
+    smap_trace_count counts[2] = {{0}, {0}};
+    smap_rewriting_options options = {.anywhere = true, .asks = true, .most = UINT64_MAX, .most_output = UINT64_MAX};
+    smap_rewriting whole = rewriting_with(options);
+    options.strip_ansi = true;
+    smap_rewriting pieces = rewriting_with(options);
+    smap_store all = store_of(UINT64_MAX), some = store_of(random_below(2) ? 0 : 10000);
+    for (int i = 0; i < URLS; i++)
+        if (cut(i) == i) insist(smap_store_put(&all, BYTES(urls[i]), &maps[i % MAPS], 1) == SMAP_DONE, "all maps");
+    insist(smap_rewriting_give(&whole, (const uint8_t *)plain, length) == SMAP_DONE && smap_rewriting_end(&whole) == SMAP_DONE, "a text");
+    run_on(&whole, &all);
+    insist(smap_rewriting_text(&whole, &at_once) == SMAP_DONE, "what it comes to");
+    for (bool is_ended = false; !is_ended;) {
+        size_t piece = random_below(40);
+        if (piece > size - given) piece = size - given;
+        insist(smap_rewriting_give(&pieces, (const uint8_t *)coloured + given, piece) == SMAP_DONE, "a piece");
+        given += piece;
+        is_ended = given == size && smap_rewriting_end(&pieces) == SMAP_DONE;
+        run_on(&pieces, &some);
+    }
+    insist(smap_rewriting_text(&pieces, &got) == SMAP_DONE && got.length == at_once.length && !memcmp(got.bytes, at_once.bytes, got.length), "the same text");
+    insist(smap_rewriting_count(&whole, &counts[0]) == SMAP_DONE && smap_rewriting_count(&pieces, &counts[1]) == SMAP_DONE, "counts");
+    insist(!memcmp(&counts[0], &counts[1], sizeof counts[0]), "and the same counts");
+    smap_rewriting_free(&whole);
+    smap_rewriting_free(&pieces);
+    smap_store_free(&all);
+    smap_store_free(&some);
+}
+
 static void random_run(void) {
     static const uint64_t bounds[] = {0, 1, 200, 500, 1000, 3000, 20000, UINT64_MAX};
     uint64_t most = bounds[random_below(sizeof bounds / sizeof *bounds)];
@@ -472,9 +608,11 @@ static void random_run(void) {
     }
     random_text(&store);
     smap_store_free(&store);
+    if (!random_below(20)) random_places();
 }
 
 int main(int argc, char **argv) {
+    insist(smap_table_new(&none) == SMAP_DONE, "a table without maps");
     late();
     replaced();
     queries();
@@ -482,11 +620,15 @@ int main(int argc, char **argv) {
     given_once();
     dropped();
     bounds();
+    outputs();
+    tables();
+    locations();
     long runs = argc > 1 ? atol(argv[1]) : 100000;
     threads(runs / 50);
     for (int i = 0; i < MAPS; i++) maps[i] = map_of(i);
     for (; runs > 0; runs--) random_run();
     for (int i = 0; i < MAPS; i++) smap_map_free(&maps[i]);
+    smap_table_free(&none);
     printf("store %ld\n", reported);
     return 0;
 }

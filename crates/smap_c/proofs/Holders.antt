@@ -3,7 +3,7 @@ use Rattle.std.proofs.Common.{refl}
 use Rattle.smap_shared.specs.contracts.shared_map.SharedMap as shared_map
 use Rattle.smap_anywhere.specs.contracts.url_finder.UrlFinder as url_finder
 use Rattle.smap_originals.specs.contracts.originals.Originals as originals_index
-use Rattle.smap_piecewise.specs.contracts.frame_rewriting.FrameRewriting as frame_rewriting
+use Rattle.smap_piecewise.specs.contracts.rewriting.Rewriting as text_rewriting
 use Rattle.smap_piecewise.specs.contracts.kept_maps.KeptMaps as kept_maps
 use Rattle.smap_tables.specs.contracts.url_table.UrlTable as url_table
 use Rattle.smap_c.specs.contracts.bytes.Bytes as handed
@@ -126,7 +126,7 @@ store = record {
 
 abbrev pub rewriting : Kind
 rewriting = record {
-  R = frame_rewriting.the_row;
+  R = text_rewriting.the_row;
   name = rewriting_handle.the_type.name;
   D = RewritingHandle;
   at = λ h. h.at;

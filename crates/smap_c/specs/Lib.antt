@@ -1,3 +1,4 @@
+pub mod Asking
 pub mod Composing
 pub mod Counts
 pub mod Encoding

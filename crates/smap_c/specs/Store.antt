@@ -76,4 +76,5 @@ counts_of kept = record {
   asked = kept.asked;
   hits = kept.hits;
   dropped = kept.dropped;
+  own_bytes = bytes_of kept.own.urls;
 }

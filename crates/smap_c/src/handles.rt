@@ -8,7 +8,7 @@ ghost use Rattle.smap_anywhere.specs.contracts.url_finder.UrlFinder as url_finde
 ghost use Rattle.smap_originals.specs.contracts.originals.Originals as originals_index;
 ghost use Rattle.smap_originals.specs.declared.place.GeneratedPlace.{GeneratedPlace};
 ghost use Rattle.smap_piecewise.specs.Rewriting.{RewritingNow};
-ghost use Rattle.smap_piecewise.specs.contracts.frame_rewriting.FrameRewriting as frame_rewriting;
+ghost use Rattle.smap_piecewise.specs.contracts.rewriting.Rewriting as text_rewriting;
 ghost use Rattle.smap_piecewise.specs.contracts.kept_maps.KeptMaps as kept_maps;
 ghost use Rattle.smap_piecewise.specs.declared.kept_maps.KeptMaps.{KeptMaps};
 ghost use Rattle.smap_shared.specs.contracts.shared_map.SharedMap as shared_map;
@@ -27,7 +27,7 @@ use crate::inners::Inners;
 use crate::loose::Loose;
 use smap_anywhere::UrlFinder;
 use smap_originals::Originals;
-use smap_piecewise::{FrameRewriting, KeptMaps};
+use smap_piecewise::{KeptMaps, Rewriting};
 use smap_shared::SharedMap;
 use smap_tables::UrlTable;
 use std::alloc::Global;
@@ -202,18 +202,18 @@ impl StoreHandle {
 #[derive(Drop)]
 pub struct RewritingHandle {
     at: *mut u8,
-    pub ghost held: { Option RewritingNow } by { coded_option frame_rewriting.the_row.coded },
+    pub ghost held: { Option RewritingNow } by { coded_option text_rewriting.the_row.coded },
 }
 
 impl Model for RewritingHandle {
-    ghost also_owns = { λ handle. owns_held frame_rewriting.the_row handle.at handle.held };
+    ghost also_owns = { λ handle. owns_held text_rewriting.the_row handle.at handle.held };
 }
 
 unsafe impl Send for RewritingHandle {}
 
 impl RewritingHandle {
     // The handle of this rewriting.
-    fn of(loose: Loose<FrameRewriting, Global>) -> RewritingHandle
+    fn of(loose: Loose<Rewriting, Global>) -> RewritingHandle
         ensures { result.held ≡ Some loose.value }
     {
         let Loose { at, alloc: _ } = loose;

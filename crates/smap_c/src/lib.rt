@@ -16,6 +16,7 @@
 //! in C.
 #![tactic(auto)]
 
+mod asking;
 mod bytes;
 mod composing;
 mod counts;

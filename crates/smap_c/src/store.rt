@@ -24,6 +24,8 @@ pub struct StoreCounts {
     pub hits: u64,
     /// How much was dropped because there was no room.
     pub dropped: u64,
+    /// For how many bytes count the URLs with a query or a fragment that have answers of their own.
+    pub own_bytes: u64,
 }
 
 /// Makes a store that knows of no URL, and whose maps count for at most so many bytes, or are one alone.
@@ -162,6 +164,7 @@ pub extern "C" fn smap_store_count(store: &mut StoreHandle, counts: &mut StoreCo
         asked: kept.asked(),
         hits: kept.hits(),
         dropped: kept.dropped(),
+        own_bytes: kept.own_bytes(),
     };
     DONE
 }

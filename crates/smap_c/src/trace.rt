@@ -263,7 +263,8 @@ fn reported(
     }
 }
 
-fn refused(number: u32, lines: u64) -> RewriteRefusal
+/// A refusal of this number, with so many lines.
+pub(crate) fn refused(number: u32, lines: u64) -> RewriteRefusal
     ensures { result ≡ rewrite_refused number lines }
 {
     RewriteRefusal { number, lines }

@@ -11,3 +11,8 @@ pub mod PlacePartsLaws
 pub mod ChunkLinesLaws
 pub mod PlacesLaws
 pub mod PlaceStepLaws
+pub mod WorkLaws
+pub mod StripLaws
+pub mod RewritingLaws
+pub mod WholeLaws
+pub mod StoreLaws

@@ -450,6 +450,14 @@ pub if_true : (A B : Type 0) (b : Bool) → b ≡ true → MatchBool b A B → A
 if_true A B true is all = all
 if_true A B false is all = absurd (cc)
 
+pub if_false : (A B : Type 0) (b : Bool) → b ≡ false → MatchBool b A B → B
+if_false A B false is all = all
+if_false A B true is all = absurd (cc)
+
+pub if_none : {X : Type 0} (A : Type 0) (B : X → Type 0) (o : Option X) → o ≡ None → MatchOption o A B → A
+if_none A B None is all = all
+if_none A B (Some x) is all = absurd (cc)
+
 -- within a larger bound
 pub places_within_more : (size more : ℕ) (now : AnywhereNow) → ArePlacesWithin size now → size ≤ more → ArePlacesWithin more now
 places_within_more size more now within few = record {

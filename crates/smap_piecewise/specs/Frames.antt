@@ -1,5 +1,5 @@
 -- A text whose frames are rewritten while it comes (this project's own): what it comes to, over maps of which not all are known.
-use Rattle.std.specs.Prelude.{◌≡◌, ◌≤◌, ℕ, ◌||◌, Bool, true, false, List, [], ◌++◌, Option, Some, None, length, option_map}
+use Rattle.std.specs.Prelude.{◌≡◌, ◌<◌, ◌≤◌, ℕ, ◌-◌, cond, ◌||◌, Bool, true, false, List, [], ◌++◌, Option, Some, None, length, option_map}
 use Rattle.smap_lines.specs.Limits.{most_line_bytes}
 use Rattle.smap_lines.specs.Lines.{has_line_end}
 use Rattle.smap_trace.specs.FrameOf.{frame_of}
@@ -10,7 +10,7 @@ use Rattle.smap_piecewise.specs.FirstLine.{behind_line, line_at, through_line}
 use Rattle.smap_piecewise.specs.Outcome.{Outcome, both, text_alone}
 use Rattle.smap_piecewise.specs.Known.{Agrees, KnownByUrl}
 use Rattle.smap_piecewise.specs.declared.stop.Stop.{Stop}
-use Rattle.smap_piecewise.specs.declared.stop.Stop.TheVariants.{Done, Wanted}
+use Rattle.smap_piecewise.specs.declared.stop.Stop.TheVariants.{Done, Full, Wanted}
 
 -- ---- how far a rewriting is
 
@@ -99,6 +99,16 @@ pub record IsBeforeUnknown (known : KnownByUrl) (now : FramesNow) : Type 0 where
   pub anew : now.is_passing ≡ false
   pub decided : (has_line_end now.left || now.is_ended) ≡ true
 
-abbrev pub StopsAt : KnownByUrl → FramesNow → Stop → Type 0
-StopsAt known now Done = IsAllDone now
-StopsAt known now Wanted = IsBeforeUnknown known now
+-- over all maps that agree with what is known, and whatever bytes come, it comes to more bytes than may be written
+abbrev pub IsTooLong : (limit : ℕ) → KnownByUrl → FramesNow → Type 0
+IsTooLong limit known now = (maps : MapsByUrl) (later : List ℕ) → Agrees known maps → (now.is_ended ≡ true → later ≡ [])
+    → limit < length (outcome_of maps now later).text
+
+abbrev pub StopsAt : (limit : ℕ) → KnownByUrl → FramesNow → Stop → Type 0
+StopsAt limit known now Done = IsAllDone now
+StopsAt limit known now Wanted = IsBeforeUnknown known now
+StopsAt limit known now Full = IsTooLong limit known now
+
+-- how many whole lines were written: those that were counted, but for what is hidden, and for one of which more is to come
+abbrev pub whole_lines_of : FramesNow → ℕ
+whole_lines_of now = (now.counts.lines - now.counts.hidden) - cond now.is_passing 1 0

@@ -4,5 +4,11 @@ pub mod FirstLine
 pub mod Outcome
 pub mod Frames
 pub mod Places
+pub mod Stripping
+pub mod Work
 pub mod Rewriting
+pub mod Location
+pub mod StoreMaps
+pub mod TableUrls
+pub mod Laws
 pub mod Private

@@ -1,6 +1,6 @@
 -- A text whose places are rewritten while it comes (this project's own): what it comes to, over URLs that are known to have a map and
 -- maps of which not all are known.
-use Rattle.std.specs.Prelude.{◌≡◌, ◌≤◌, ℕ, Bool, true, false, List, [], ◌∷◌, ◌++◌, Option, Some, None, drop, filter, length, take}
+use Rattle.std.specs.Prelude.{◌≡◌, ◌<◌, ◌≤◌, ℕ, ◌-◌, cond, Bool, true, false, List, [], ◌∷◌, ◌++◌, Option, Some, None, drop, filter, length, take}
 use Rattle.std.specs.List.{flat_map}
 use Rattle.smap_lines.specs.Limits.{most_line_bytes}
 use Rattle.smap_lines.specs.Lines.{has_line_end, lines_with_ends}
@@ -17,7 +17,7 @@ use Rattle.smap_piecewise.specs.FirstLine.{behind_line}
 use Rattle.smap_piecewise.specs.Known.{Agrees, KnownByUrl}
 use Rattle.smap_piecewise.specs.Outcome.{Outcome, both}
 use Rattle.smap_piecewise.specs.declared.stop.Stop.{Stop}
-use Rattle.smap_piecewise.specs.declared.stop.Stop.TheVariants.{Done, Wanted}
+use Rattle.smap_piecewise.specs.declared.stop.Stop.TheVariants.{Done, Full, Wanted}
 
 -- ---- how far a rewriting is
 
@@ -144,6 +144,16 @@ pub record IsBeforePlace (known : KnownByUrl) (now : AnywhereNow) : Type 0 where
   pub unknown : known url ≡ None
   pub here : BeginsAt now.from now.waiting
 
-abbrev pub PlacesStopAt : KnownByUrl → AnywhereNow → Stop → Type 0
-PlacesStopAt known now Done = ArePlacesDone now
-PlacesStopAt known now Wanted = IsBeforePlace known now
+-- over all maps that agree with what is known, and whatever bytes come, it comes to more bytes than may be written
+abbrev pub ArePlacesTooLong : (limit : ℕ) → KnownByUrl → AnywhereNow → Type 0
+ArePlacesTooLong limit known now = (urls : UrlsKnown) (maps : MapsByUrl) (later : List ℕ) → Agrees known maps → (now.is_ended ≡ true → later ≡ [])
+    → limit < length (places_outcome urls maps now later).text
+
+abbrev pub PlacesStopAt : (limit : ℕ) → KnownByUrl → AnywhereNow → Stop → Type 0
+PlacesStopAt limit known now Done = ArePlacesDone now
+PlacesStopAt limit known now Wanted = IsBeforePlace known now
+PlacesStopAt limit known now Full = ArePlacesTooLong limit known now
+
+-- how many whole lines were written: those that were counted, but for one of which more is to come
+abbrev pub whole_lines_in : AnywhereNow → ℕ
+whole_lines_in now = now.counts.lines - cond now.is_open 1 0

@@ -4,3 +4,6 @@ pub mod PutLine
 pub mod PutPlace
 pub mod Frames
 pub mod Places
+pub mod Stripping
+pub mod Work
+pub mod Rewriting

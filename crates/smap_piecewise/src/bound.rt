@@ -13,6 +13,16 @@ pub struct Bound {
 }
 
 impl Bound {
+    /// Of a text of which nothing was given.
+    pub fn new(most_bytes: u64) -> Bound
+        ensures { result ≡ record { most_bytes = most_bytes; taken = 0 } }
+    {
+        Bound {
+            most_bytes,
+            taken: 0,
+        }
+    }
+
     /// Takes the next bytes of the text behind those that are not yet done. After a refusal all is as it was.
     pub fn take(&mut self, given: &mut Given, bytes: &[u8]) -> Result<(), GiveFault>
         requires within { self.old.taken ≤ self.old.most_bytes }

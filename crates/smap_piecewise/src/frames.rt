@@ -2,7 +2,7 @@
 ghost use Rattle.std.specs.Prelude.{◌≡◌, ◌<◌, ◌≤◌, ◌+◌, ◌-◌, ◌^◌, ◌||◌, IfOk, cond, MatchOption, false, length, option_map, true};
 ghost use Rattle.smap_lines.specs.Limits.{most_line_bytes};
 ghost use Rattle.smap_trace.specs.Rewriting.{counts_seen};
-ghost use Rattle.smap_piecewise.specs.Frames.{StopsAt, next_url};
+ghost use Rattle.smap_piecewise.specs.Frames.{StopsAt, next_url, whole_lines_of};
 ghost use Rattle.smap_piecewise.specs.Known.{KnownByUrl};
 ghost use Rattle.smap_piecewise.specs.Private.Frames.{IsWithin, Steps, counts_with, frames_seen};
 ghost use Rattle.smap_piecewise.specs.Private.Given.{IsFirstLine, line_size};
@@ -29,16 +29,24 @@ pub struct Frames {
 }
 
 impl Frames {
-    /// Goes on as far as can be decided, or up to a frame of whose URL it is not known what map it has.
-    pub fn run<K: KnownMaps>(&mut self, alloc: Global, maps: &mut K) -> Result<Stop, AllocError>
-        requires { IsWithin (2 ^ 64 - 1) (frames_seen self.old) }
+    /// Goes on as far as can be decided, or up to a frame of whose URL it is not known what map it has, or up to what would
+    /// make the output longer than `limit`.
+    pub fn run<K: KnownMaps>(
+        &mut self,
+        alloc: Global,
+        maps: &mut K,
+        limit: u64,
+    ) -> Result<Stop, AllocError>
+        requires room { IsWithin (2 ^ 64 - 1) (frames_seen self.old) }
+        requires few { length self.old.output.items ≤ limit }
         ensures same { K.known maps.new ≡ K.known maps.old }
         ensures still { K.still maps.new ≡ K.still maps.old }
         ensures goes { Steps (K.known maps.old) self.old self.new }
-        ensures stops { IfOk result (StopsAt (K.known maps.old) (frames_seen self.new)) }
+        ensures few { length self.new.output.items ≤ limit }
+        ensures stops { IfOk result (StopsAt limit (K.known maps.old) (frames_seen self.new)) }
     {
         loop {
-            if let Some(stop) = self.step(alloc, maps)? {
+            if let Some(stop) = self.step(alloc, maps, limit)? {
                 return Ok(stop);
             }
         }
@@ -52,43 +60,59 @@ impl Frames {
         Some(frame.url)
     }
 
+    /// How many whole lines were written.
+    pub fn whole_lines(&self) -> u64
+        ensures { result ≡ whole_lines_of (frames_seen self.now) }
+    {
+        let shown = self.counts.lines.saturating_sub(self.counts.hidden);
+        shown.saturating_sub(u64::from(self.is_passing))
+    }
+
     // Does the next line, or what is there of one that is too long; and says where it stops, if there.
     fn step<K: KnownMaps>(
         &mut self,
         alloc: Global,
         maps: &mut K,
+        limit: u64,
     ) -> Result<Option<Stop>, AllocError>
-        requires { IsWithin (2 ^ 64 - 1) (frames_seen self.old) }
+        requires room { IsWithin (2 ^ 64 - 1) (frames_seen self.old) }
+        requires few { length self.old.output.items ≤ limit }
         ensures same { K.known maps.new ≡ K.known maps.old }
         ensures still { K.still maps.new ≡ K.still maps.old }
         ensures goes { Steps (K.known maps.old) self.old self.new }
+        ensures few { length self.new.output.items ≤ limit }
         ensures stops { IfOk result (λ stop. MatchOption stop
             (length self.new.given < length self.old.given)
-            (StopsAt (K.known maps.old) (frames_seen self.new))) }
+            (StopsAt limit (K.known maps.old) (frames_seen self.new))) }
     {
         let line = self.given.first_line();
         if self.is_passing || line.bytes > MOST_LINE_BYTES {
-            return self.pass(line);
+            return self.pass(line, limit);
         }
         if !line.is_ended && (line.bytes == 0 || !self.is_ended) {
             return Ok(Some(Stop::Done));
         }
-        self.do_line(alloc, maps, line)
+        self.do_line(alloc, maps, line, limit)
     }
 
     // Passes the first line of the bytes that are left, which is too long.
-    fn pass(&mut self, line: FirstLine) -> Result<Option<Stop>, AllocError>
+    fn pass(&mut self, line: FirstLine, limit: u64) -> Result<Option<Stop>, AllocError>
         requires line { IsFirstLine self.old.given line }
         requires long { self.old.is_passing ≡ false → most_line_bytes < line.bytes }
         requires room { IsWithin (2 ^ 64 - 1) (frames_seen self.old) }
+        requires few { length self.old.output.items ≤ limit }
         ensures goes { (known : KnownByUrl) → Steps known self.old self.new }
+        ensures few { length self.new.output.items ≤ limit }
         ensures stops { IfOk result (λ stop. MatchOption stop
             (length self.new.given < length self.old.given)
-            (λ stop. (known : KnownByUrl) → StopsAt known (frames_seen self.new) stop)) }
+            (λ stop. (known : KnownByUrl) → StopsAt limit known (frames_seen self.new) stop)) }
     {
         let size = line.size();
         if size == 0 {
             return Ok(Some(Stop::Done));
+        }
+        if size as u64 > limit - self.output.len() as u64 {
+            return Ok(Some(Stop::Full));
         }
         self.output.extend_from_slice(&self.given.bytes()[..size])?;
         self.counts.lines = lines_after(self.counts.lines, self.is_passing);
@@ -103,6 +127,7 @@ impl Frames {
         alloc: Global,
         maps: &mut K,
         first: FirstLine,
+        limit: u64,
     ) -> Result<Option<Stop>, AllocError>
         requires line { IsFirstLine self.old.given first }
         requires short { first.bytes ≤ most_line_bytes }
@@ -110,12 +135,14 @@ impl Frames {
         requires some { 0 < line_size first }
         requires decided { (first.is_ended || self.old.is_ended) ≡ true }
         requires room { IsWithin (2 ^ 64 - 1) (frames_seen self.old) }
+        requires few { length self.old.output.items ≤ limit }
         ensures same { K.known maps.new ≡ K.known maps.old }
         ensures still { K.still maps.new ≡ K.still maps.old }
         ensures goes { Steps (K.known maps.old) self.old self.new }
+        ensures few { length self.new.output.items ≤ limit }
         ensures stops { IfOk result (λ stop. MatchOption stop
             (length self.new.given < length self.old.given)
-            (StopsAt (K.known maps.old) (frames_seen self.new))) }
+            (StopsAt limit (K.known maps.old) (frames_seen self.new))) }
     {
         let hiding = Hiding {
             ignored: self.ignored,
@@ -123,10 +150,15 @@ impl Frames {
         };
         let line = &self.given.bytes()[..first.bytes];
         let is_ended = first.is_ended;
+        let written = self.output.len();
         let put = put_line(alloc, maps, &hiding, line, is_ended, &mut self.output)?;
         let Some(kind) = put else {
             return Ok(Some(Stop::Wanted));
         };
+        if self.output.len() as u64 > limit {
+            self.output.truncate(written);
+            return Ok(Some(Stop::Full));
+        }
         self.counts = counts_with(self.counts, kind);
         self.given.cut(first.size());
         Ok(None)

@@ -9,27 +9,33 @@ ghost use Rattle.smap_trace.specs.Hiding.{HidingSeen};
 ghost use Rattle.smap_trace.specs.MapsOf.{MapsByUrl};
 ghost use Rattle.smap_trace.specs.Rewriting.{counts_seen};
 ghost use Rattle.smap_trace.specs.declared.outcome.Summary.{Summary};
-ghost use Rattle.smap_piecewise.specs.Frames.{FramesNow, IsAllDone, done_of, frames_start, of_text, outcome_of};
-ghost use Rattle.smap_piecewise.specs.Places.{AnywhereNow, ArePlacesDone, counts_in, nothing_given, of_places, places_done, places_outcome};
+ghost use Rattle.smap_piecewise.specs.Frames.{frames_start, of_text};
+ghost use Rattle.smap_piecewise.specs.Known.{KnownByUrl};
+ghost use Rattle.smap_piecewise.specs.Places.{counts_in, nothing_given, of_places};
+ghost use Rattle.smap_piecewise.specs.Rewriting.{HasStopped, RewritingNow, begun_with, outcome_of, text_read};
+ghost use Rattle.smap_piecewise.specs.Work.{OfFrames, OfPlaces, work_done};
+ghost use Rattle.smap_piecewise.specs.declared.rewriting.TextOptions.{TextOptions};
+ghost use Rattle.smap_piecewise.specs.declared.stop.Stop.TheVariants.{Done};
 
-/// A rewriting of frames comes to what its whole text becomes and counts over maps, whatever was given or known of them
-/// when it went on: it does so at first, and all of it is written and counted once nothing is left of a text that has ended.
+/// A rewriting comes to what its whole text becomes and counts over URLs and maps, whatever was given or known of the maps
+/// when it went on: it does so at first, and all of it is written and counted once it stops, done, and the text has ended.
+/// The text is what is read of it, without control sequences where that is asked for.
 pub fn rewriting_comes_to_the_whole()
-    ensures first { (maps : MapsByUrl) (hide : HidingSeen) (text : List ℕ) →
-        outcome_of maps (frames_start hide) text ≡ of_text maps hide text }
-    ensures last { (maps : MapsByUrl) (now : FramesNow) → IsAllDone now → now.is_ended ≡ true →
-        outcome_of maps now [] ≡ done_of now }
+    ensures frames { (urls : UrlsKnown) (maps : MapsByUrl) (hide : HidingSeen)
+        (options : TextOptions) (text : List ℕ) →
+        outcome_of urls maps (begun_with (OfFrames (frames_start hide)) options) text
+        ≡ of_text maps hide (text_read options.strip text) }
+    ensures places { (urls : UrlsKnown) (maps : MapsByUrl) (options : TextOptions) (text : List ℕ) →
+        outcome_of urls maps (begun_with (OfPlaces nothing_given) options) text
+        ≡ of_places urls maps (text_read options.strip text) }
+    ensures last { (urls : UrlsKnown) (maps : MapsByUrl) (known : KnownByUrl)
+        (now : RewritingNow) → HasStopped known now Done → now.is_ended ≡ true →
+        outcome_of urls maps now [] ≡ work_done now.work }
 {}
 
-/// A rewriting of places does so too, where the same URLs are known to have a map whenever it goes on: it comes to what its
-/// whole text becomes and counts over these URLs and maps, as `rewrite_anywhere` writes and counts it.
+/// What the places of a text become and count is what `rewrite_anywhere` writes and counts over the same URLs and maps.
 pub fn rewriting_places_comes_to_the_whole()
-    ensures first { (urls : UrlsKnown) (maps : MapsByUrl) (text : List ℕ) →
-        places_outcome urls maps nothing_given text ≡ of_places urls maps text }
-    ensures last { (urls : UrlsKnown) (maps : MapsByUrl) (now : AnywhereNow) →
-        ArePlacesDone now → now.is_ended ≡ true →
-        places_outcome urls maps now [] ≡ places_done now }
-    ensures whole { (urls : UrlsKnown) (maps : MapsByUrl) (most_bytes : ℕ)
+    ensures { (urls : UrlsKnown) (maps : MapsByUrl) (most_bytes : ℕ)
         (before after : DevicesSeen) (summary : Summary) →
         (all : RewritesAnywhereBy maps (parts_in urls) most_bytes before after summary) →
         Takes before.output.taken after.output.taken (of_places urls maps all.bytes).text

@@ -4,11 +4,12 @@
 //! stand.
 //!
 //! ```text
-//! let mut rewriting = FrameRewriting::new(alloc, FrameOptions { ignored, texts, most_bytes });
+//! let options = TextOptions { strip: false, most_bytes, most_output };
+//! let mut rewriting = Rewriting::of_frames(alloc, HiddenFrames { ignored, texts }, options);
 //! rewriting.give(bytes)?;
 //! rewriting.end();
-//! while let Stop::Wanted = rewriting.run(alloc, &mut maps)? {
-//!     maps.learn(rewriting.next_url())?;
+//! while let Stop::Wanted = rewriting.run(alloc, &urls, &mut maps)? {
+//!     maps.learn(rewriting.wanted_url())?;
 //! }
 //! write(rewriting.output())?;
 //! ```
@@ -16,20 +17,26 @@
 
 mod appended;
 mod bound;
-mod frame_rewriting;
 mod frames;
 mod given;
 mod kept_maps;
 mod known;
 pub mod laws;
-mod place_rewriting;
+mod location;
 mod places;
 mod put_line;
 mod put_place;
+mod rewriting;
 mod stop;
+mod store_maps;
+mod stripping;
+mod table_urls;
+mod work;
 
-pub use frame_rewriting::{FrameOptions, FrameRewriting};
 pub use kept_maps::KeptMaps;
 pub use known::KnownMaps;
-pub use place_rewriting::PlaceRewriting;
+pub use location::is_location;
+pub use rewriting::{HiddenFrames, Rewriting, TextOptions};
 pub use stop::{GiveFault, Stop};
+pub use store_maps::StoreMaps;
+pub use table_urls::TableUrls;

@@ -1,9 +1,9 @@
 //! The places of a text that is rewritten piece by piece.
-ghost use Rattle.std.specs.Prelude.{◌≡◌, ◌<◌, ◌≤◌, ◌+◌, ◌-◌, ◌^◌, [], IfOk, MatchBool, OnOk, drop, false, length};
+ghost use Rattle.std.specs.Prelude.{◌≡◌, ◌<◌, ◌≤◌, ◌+◌, ◌-◌, ◌^◌, [], IfOk, MatchBool, MatchOption, drop, false, length, option_map};
 ghost use Rattle.smap_pairs.specs.Known.{UrlsKnown};
 ghost use Rattle.smap_pairs.specs.Spans.{AreSpansInOrder};
 ghost use Rattle.smap_piecewise.specs.Known.{KnownByUrl};
-ghost use Rattle.smap_piecewise.specs.Places.{ArePlacesDone, IsBeforePlace, PlacesStopAt};
+ghost use Rattle.smap_piecewise.specs.Places.{ArePlacesDone, ArePlacesTooLong, PlacesStopAt, whole_lines_in};
 ghost use Rattle.smap_piecewise.specs.Private.Places.{ArePlacesWithin, IsNext, IsSound, PlaceSteps, places_seen, up_to};
 
 use crate::given::Given;
@@ -38,29 +38,53 @@ pub struct Places {
 }
 
 impl Places {
-    /// Goes on as far as can be decided, or up to a place of whose URL it is not known what map it has.
+    /// Goes on as far as can be decided, or up to a place of whose URL it is not known what map it has, or up to what would
+    /// make the output longer than `limit`.
     pub fn go_on<U: KnownUrls, K: KnownMaps>(
         &mut self,
         alloc: Global,
         urls: &U,
         maps: &mut K,
+        limit: u64,
     ) -> Result<Stop, AllocError>
         requires sound { IsSound self.old }
         requires room { ArePlacesWithin (2 ^ 64 - 1) (places_seen self.old) }
+        requires few { length self.old.output.items ≤ limit }
         ensures same { K.known maps.new ≡ K.known maps.old }
         ensures still { K.still maps.new ≡ K.still maps.old }
         ensures goes { PlaceSteps (U.known urls.now) (K.known maps.old) self.old self.new }
-        ensures stops { IfOk result (PlacesStopAt (K.known maps.old) (places_seen self.new)) }
+        ensures few { length self.new.output.items ≤ limit }
+        ensures stops { IfOk result
+            (PlacesStopAt limit (K.known maps.old) (places_seen self.new)) }
     {
         self.is_wanted = false;
         loop {
             if !self.goes_on(urls) {
                 return Ok(Stop::Done);
             }
-            if !self.finish(alloc, maps)? {
-                return Ok(Stop::Wanted);
+            if let Some(stop) = self.finish(alloc, maps, limit)? {
+                return Ok(stop);
             }
         }
+    }
+
+    /// The URL of which it was not known what map it has when it went on last, where it stopped for that. Where it stands in
+    /// the text with two backslashes for one, it has one.
+    pub fn wanted_url(&self) -> Option<&[u8]>
+        ensures { option_map (λ url. url.now) result ≡ (places_seen self.now).wanted }
+    {
+        if self.is_wanted {
+            Some(&self.wanted)
+        } else {
+            None
+        }
+    }
+
+    /// How many whole lines were written.
+    pub fn whole_lines(&self) -> u64
+        ensures { result ≡ whole_lines_in (places_seen self.now) }
+    {
+        self.counts.lines.saturating_sub(u64::from(self.is_open))
     }
 
     // Whether a chunk is begun, or the next one could be.
@@ -68,10 +92,13 @@ impl Places {
     fn goes_on<U: KnownUrls>(&mut self, urls: &U) -> bool
         requires sound { IsSound self.old }
         requires unwanted { self.old.is_wanted ≡ false }
-        ensures goes { (known : KnownByUrl) → PlaceSteps (U.known urls.now) known self.old self.new }
+        ensures goes { (known : KnownByUrl) →
+            PlaceSteps (U.known urls.now) known self.old self.new }
         ensures same_left { self.new.given ≡ self.old.given }
         ensures same_wanted { self.new.is_wanted ≡ self.old.is_wanted }
-        ensures begins { MatchBool result (0 < self.new.chunk) (ArePlacesDone (places_seen self.new)) }
+        ensures same_output { self.new.output.items ≡ self.old.output.items }
+        ensures begins { MatchBool result (0 < self.new.chunk)
+            (ArePlacesDone (places_seen self.new)) }
     {
         if self.chunk > 0 {
             return true;
@@ -85,10 +112,13 @@ impl Places {
         requires sound { IsSound self.old }
         requires none { self.old.chunk ≡ 0 }
         requires unwanted { self.old.is_wanted ≡ false }
-        ensures goes { (known : KnownByUrl) → PlaceSteps (U.known urls.now) known self.old self.new }
+        ensures goes { (known : KnownByUrl) →
+            PlaceSteps (U.known urls.now) known self.old self.new }
         ensures same_left { self.new.given ≡ self.old.given }
         ensures same_wanted { self.new.is_wanted ≡ self.old.is_wanted }
-        ensures begins { MatchBool result (0 < self.new.chunk) (ArePlacesDone (places_seen self.new)) }
+        ensures same_output { self.new.output.items ≡ self.old.output.items }
+        ensures begins { MatchBool result (0 < self.new.chunk)
+            (ArePlacesDone (places_seen self.new)) }
     {
         if self.is_broken {
             let text = self.given.bytes();
@@ -110,76 +140,100 @@ impl Places {
         true
     }
 
-    // Writes what is left of the chunk that is begun, and lets go of it; or up to a place of whose URL it is not known what
-    // map it has.
-    fn finish<K: KnownMaps>(&mut self, alloc: Global, maps: &mut K) -> Result<bool, AllocError>
+    // Writes what is left of the chunk that is begun, and lets go of it; or says where it stops before.
+    fn finish<K: KnownMaps>(
+        &mut self,
+        alloc: Global,
+        maps: &mut K,
+        limit: u64,
+    ) -> Result<Option<Stop>, AllocError>
         requires sound { IsSound self.old }
         requires begun { 0 < self.old.chunk }
         requires unwanted { self.old.is_wanted ≡ false }
         requires room { ArePlacesWithin (2 ^ 64 - 1) (places_seen self.old) }
+        requires few { length self.old.output.items ≤ limit }
         ensures same { K.known maps.new ≡ K.known maps.old }
         ensures still { K.still maps.new ≡ K.still maps.old }
         ensures goes { (urls : UrlsKnown) → PlaceSteps urls (K.known maps.old) self.old self.new }
-        ensures ends { IfOk result (λ is_done. MatchBool is_done
+        ensures few { length self.new.output.items ≤ limit }
+        ensures ends { IfOk result (λ stop. MatchOption stop
             ((self.new.chunk ≡ 0) × (self.new.is_wanted ≡ false)
             × (length self.new.given < length self.old.given))
-            (IsBeforePlace (K.known maps.old) (places_seen self.new))) }
+            (PlacesStopAt limit (K.known maps.old) (places_seen self.new))) }
     {
         while let Some(span) = self.spans.places().get(self.done) {
             let span = *span;
             let done = self.done + 1;
-            self.put_bytes(span.start)?;
-            if !self.put_place(alloc, maps, &span, done)? {
-                return Ok(false);
+            if !self.put_bytes(span.start, limit)? {
+                return Ok(Some(Stop::Full));
+            }
+            if let Some(stop) = self.put_place(alloc, maps, &span, done, limit)? {
+                return Ok(Some(stop));
             }
         }
-        self.put_bytes(self.chunk)?;
+        if !self.put_bytes(self.chunk, limit)? {
+            return Ok(Some(Stop::Full));
+        }
         self.end_chunk();
-        Ok(true)
+        Ok(None)
     }
 
-    // Writes the bytes of the chunk that is begun up to this one, before which no place stands that is not done.
-    fn put_bytes(&mut self, end: usize) -> Result<(), AllocError>
+    // Writes the bytes of the chunk that is begun up to this one, before which no place stands that is not done; unless they
+    // are too many.
+    fn put_bytes(&mut self, end: usize, limit: u64) -> Result<bool, AllocError>
         requires sound { IsSound self.old }
         requires after { self.old.from ≤ end }
         requires within { end ≤ self.old.chunk }
         requires before { AreSpansInOrder end self.old.chunk (places_seen self.old).waiting }
-        ensures goes { (urls : UrlsKnown) (known : KnownByUrl) → PlaceSteps urls known self.old self.new }
-        ensures put { OnOk result (places_seen self.new ≡ up_to (places_seen self.old) end) }
+        requires few { length self.old.output.items ≤ limit }
+        ensures goes { (urls : UrlsKnown) (known : KnownByUrl) →
+            PlaceSteps urls known self.old self.new }
+        ensures few { length self.new.output.items ≤ limit }
+        ensures put { IfOk result (λ is_put. MatchBool is_put
+            (places_seen self.new ≡ up_to (places_seen self.old) end)
+            ((known : KnownByUrl) → ArePlacesTooLong limit known (places_seen self.new))) }
         ensures same_done { self.new.done ≡ self.old.done }
         ensures same_wanted { self.new.is_wanted ≡ self.old.is_wanted }
     {
         let text = &self.given.bytes()[..self.chunk];
-        self.output.extend_from_slice(&text[self.from..end])?;
+        let bytes = &text[self.from..end];
+        if bytes.len() as u64 > limit - self.output.len() as u64 {
+            return Ok(false);
+        }
+        self.output.extend_from_slice(bytes)?;
         self.from = end;
-        Ok(())
+        Ok(true)
     }
 
-    // Writes what becomes of the next place, with which so many are done, and before which all is; unless it is not known
-    // what map its URL has.
+    // Writes what becomes of the next place, with which so many are done, and before which all is; or says where it stops
+    // before.
     fn put_place<K: KnownMaps>(
         &mut self,
         alloc: Global,
         maps: &mut K,
         span: &Span,
         done: usize,
-    ) -> Result<bool, AllocError>
+        limit: u64,
+    ) -> Result<Option<Stop>, AllocError>
         requires sound { IsSound self.old }
         requires next { IsNext span.now (places_seen self.old) }
         requires done { done ≡ self.old.done + 1 }
         requires here { self.old.from ≡ span.now.start }
         requires unwanted { self.old.is_wanted ≡ false }
         requires room { ArePlacesWithin (2 ^ 64 - 1) (places_seen self.old) }
+        requires few { length self.old.output.items ≤ limit }
         ensures same { K.known maps.new ≡ K.known maps.old }
         ensures still { K.still maps.new ≡ K.still maps.old }
         ensures goes { (urls : UrlsKnown) → PlaceSteps urls (K.known maps.old) self.old self.new }
         ensures same_left { self.new.given ≡ self.old.given }
         ensures same_chunk { self.new.chunk ≡ self.old.chunk }
-        ensures ends { IfOk result (λ is_put. MatchBool is_put ((self.new.is_wanted ≡ false)
+        ensures few { length self.new.output.items ≤ limit }
+        ensures ends { IfOk result (λ stop. MatchOption stop ((self.new.is_wanted ≡ false)
             × (length (places_seen self.new).waiting < length (places_seen self.old).waiting))
-            (IsBeforePlace (K.known maps.old) (places_seen self.new))) }
+            (PlacesStopAt limit (K.known maps.old) (places_seen self.new))) }
     {
         let text = &self.given.bytes()[..self.chunk];
+        let written = self.output.len();
         let put = put_place(
             alloc,
             maps,
@@ -191,13 +245,17 @@ impl Places {
         )?;
         let Some(is_mapped) = put else {
             self.is_wanted = true;
-            return Ok(false);
+            return Ok(Some(Stop::Wanted));
         };
+        if self.output.len() as u64 > limit {
+            self.output.truncate(written);
+            return Ok(Some(Stop::Full));
+        }
         self.counts.frames += 1;
         self.counts.mapped += u64::from(is_mapped);
         self.from = span.end;
         self.done = done;
-        Ok(true)
+        Ok(None)
     }
 
     // Lets go of the chunk that is begun, of which all is done.
@@ -207,7 +265,9 @@ impl Places {
         requires room { ArePlacesWithin (2 ^ 64 - 1) (places_seen self.old) }
         requires all { self.old.from ≡ self.old.chunk }
         requires none_waits { (places_seen self.old).waiting ≡ [] }
-        ensures goes { (urls : UrlsKnown) (known : KnownByUrl) → PlaceSteps urls known self.old self.new }
+        ensures goes { (urls : UrlsKnown) (known : KnownByUrl) →
+            PlaceSteps urls known self.old self.new }
+        ensures same_output { self.new.output.items ≡ self.old.output.items }
         ensures ended { self.new.chunk ≡ 0 }
         ensures left { self.new.given ≡ drop self.old.chunk self.old.given }
         ensures same_wanted { self.new.is_wanted ≡ self.old.is_wanted }

@@ -7,6 +7,8 @@ pub enum Stop {
     Done,
     /// What map a URL has is not known.
     Wanted,
+    /// More would be written than may be.
+    Full,
 }
 
 /// Why bytes are not taken.

@@ -53,9 +53,14 @@ fn the_places_of_a_line_are_found_and_counted(rt: HostRuntime) -> Result<(), Fai
     let mut places = LinePlaces::with_room(rt.alloc(), 100)?;
     finds_two(&rt, &urls, &mut places)?;
     let mut counter = LineCounter::new(rt.alloc(), &urls)?;
+    counts_two(&rt, &mut counter);
+    Ok(())
+}
+
+// The same of what is counted.
+fn counts_two<K: KnownUrls>(rt: &impl Abort, counter: &mut LineCounter<'_, K>) {
     assert_eq!(rt; counter.count_in(None, TWO), 2);
     assert_eq!(rt; counter.count_in(Some(b"/u"), TWO), 1);
-    Ok(())
 }
 
 #[test]
@@ -81,23 +86,22 @@ fn the_places_of_a_text_are_rewritten(rt: HostRuntime) -> Result<(), Fail> {
         &options,
         &mut notes,
     );
-    assert!(rt;
-        matches!(
-            summary,
-            Ok(Summary {
-                lines: 2,
-                frames: 2,
-                mapped: 2,
-                hidden: 0
-            })
-        )
-    );
-    assert_eq!(rt;
-        output.bytes(),
-        b"at a.ts:1:2, a.ts:1:1\n/v.js:1:1".as_slice()
-    );
-    assert_eq!(rt; (notes.named.notes.len(), notes.others.notes.len()), (2, 1));
+    let summary = summary.ok().ok_or("it is not rewritten")?;
+    is_of_two(&rt, &summary, output.bytes());
+    are_noted(&rt, &notes);
     Ok(())
+}
+
+// The same of what is written and counted of it.
+fn is_of_two(rt: &impl Abort, summary: &Summary, text: &[u8]) {
+    assert!(rt; summary.lines == 2 && summary.frames == 2);
+    assert!(rt; summary.mapped == 2 && summary.hidden == 0);
+    assert_eq!(rt; text, b"at a.ts:1:2, a.ts:1:1\n/v.js:1:1".as_slice());
+}
+
+// And of the URLs that are noted.
+fn are_noted(rt: &impl Abort, notes: &PlaceNotes) {
+    assert_eq!(rt; (notes.named.notes.len(), notes.others.notes.len()), (2, 1));
 }
 
 // A call by itself, as above: each line has one place.

@@ -228,12 +228,17 @@ pub struct smap_store_counts {
     pub asked: u64,
     pub hits: u64,
     pub dropped: u64,
+    pub own_bytes: u64,
 }
 
 #[repr(C)]
 pub struct smap_rewriting_options {
     pub hide_ignored: bool,
+    pub anywhere: bool,
+    pub strip_ansi: bool,
+    pub asks: bool,
     pub most: u64,
+    pub most_output: u64,
 }
 
 #[repr(C)]
@@ -521,6 +526,16 @@ extern "C" {
         why: *mut u32,
     ) -> u32;
     pub fn smap_store_free(store: *mut smap_store);
+    pub fn smap_is_location(url: *const u8, length: usize) -> u32;
+    pub fn smap_folder_path(
+        prefix: *const u8,
+        prefix_length: usize,
+        folder: *const u8,
+        folder_length: usize,
+        url: *const u8,
+        url_length: usize,
+        path: *mut smap_bytes,
+    ) -> u32;
     pub fn smap_rewriting_new(
         options: *const smap_rewriting_options,
         rewriting: *mut smap_rewriting,
@@ -533,9 +548,12 @@ extern "C" {
     pub fn smap_rewriting_end(rewriting: *mut smap_rewriting) -> u32;
     pub fn smap_rewriting_run(
         rewriting: *mut smap_rewriting,
+        table: *mut smap_table,
         store: *mut smap_store,
         now: u64,
+        refusal: *mut smap_rewrite_refusal,
     ) -> u32;
+    pub fn smap_rewriting_allow(rewriting: *mut smap_rewriting, most_output: u64) -> u32;
     pub fn smap_rewriting_url(rewriting: *const smap_rewriting, url: *mut smap_text) -> u32;
     pub fn smap_rewriting_text(rewriting: *const smap_rewriting, text: *mut smap_text) -> u32;
     pub fn smap_rewriting_clear(rewriting: *mut smap_rewriting) -> u32;

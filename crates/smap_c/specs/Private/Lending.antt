@@ -10,7 +10,7 @@ use Rattle.smap_anywhere.specs.contracts.url_finder.UrlFinder as url_finder
 use Rattle.smap_originals.specs.contracts.originals.Originals as originals_index
 use Rattle.smap_originals.specs.declared.place.GeneratedPlace.{GeneratedPlace}
 use Rattle.smap_piecewise.specs.Rewriting.{RewritingNow}
-use Rattle.smap_piecewise.specs.contracts.frame_rewriting.FrameRewriting as frame_rewriting
+use Rattle.smap_piecewise.specs.contracts.rewriting.Rewriting as text_rewriting
 use Rattle.smap_piecewise.specs.contracts.kept_maps.KeptMaps as kept_maps
 use Rattle.smap_piecewise.specs.declared.kept_maps.KeptMaps.{KeptMaps}
 use Rattle.smap_c.specs.Inners.{Places}
@@ -79,4 +79,4 @@ abbrev pub with_rewriting : RewritingHandle → RewritingNow → RewritingHandle
 with_rewriting handle held = record handle { held = Some held }
 
 abbrev pub LendsRewriting : MutBor RewritingHandle → MutBor RewritingNow → Fml
-LendsRewriting handle lent = Lends rewriting_handle.the_row frame_rewriting.the_row handle lent (with_rewriting handle.now)
+LendsRewriting handle lent = Lends rewriting_handle.the_row text_rewriting.the_row handle lent (with_rewriting handle.now)

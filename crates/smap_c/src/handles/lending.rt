@@ -12,7 +12,7 @@ use crate::inners::Inners;
 use crate::loose::Loose;
 use smap_anywhere::UrlFinder;
 use smap_originals::Originals;
-use smap_piecewise::{FrameRewriting, KeptMaps};
+use smap_piecewise::{KeptMaps, Rewriting};
 use smap_shared::SharedMap;
 use smap_tables::UrlTable;
 use std::alloc::Global;
@@ -180,22 +180,22 @@ impl StoreHandle {
 
 impl RewritingHandle {
     /// What the handle holds, which is not empty.
-    pub(crate) fn lend(&mut self) -> &mut FrameRewriting
+    pub(crate) fn lend(&mut self) -> &mut Rewriting
         requires { IsSome self.old.held }
         ensures* writes_back { sem 𝓛 (LendsRewriting self.entry result) }
         ensures value { Some result.now ≡ self.old.held }
     {
-        unsafe { &mut *(self.at as *mut FrameRewriting) }
+        unsafe { &mut *(self.at as *mut Rewriting) }
     }
 
     // Takes out what the handle holds, and leaves it empty.
-    pub(super) fn take(&mut self, alloc: Global) -> Loose<FrameRewriting, Global>
+    pub(super) fn take(&mut self, alloc: Global) -> Loose<Rewriting, Global>
         requires { IsSome self.old.held }
         ensures taken { Some result.value ≡ self.old.held }
         ensures emptied { self.new.held ≡ None }
     {
         Loose {
-            at: self.at as *mut FrameRewriting,
+            at: self.at as *mut Rewriting,
             alloc,
         }
     }

@@ -10,7 +10,7 @@ use crate::inners::Inners;
 use crate::loose::Loose;
 use smap_anywhere::UrlFinder;
 use smap_originals::Originals;
-use smap_piecewise::{FrameRewriting, KeptMaps};
+use smap_piecewise::{KeptMaps, Rewriting};
 use smap_record::MapFile;
 use smap_shared::SharedMap;
 use smap_tables::UrlTable;
@@ -177,8 +177,8 @@ impl StoreHandle {
 impl RewritingHandle {
     pub(crate) fn new(
         alloc: Global,
-        rewriting: FrameRewriting,
-    ) -> Result<RewritingHandle, AllocFailed<FrameRewriting>>
+        rewriting: Rewriting,
+    ) -> Result<RewritingHandle, AllocFailed<Rewriting>>
         ensures made { IfOk result (λ handle. handle.held ≡ Some rewriting) }
         ensures back { IfErr result (λ failed. failed.value ≡ rewriting) }
     {
@@ -186,7 +186,7 @@ impl RewritingHandle {
     }
 
     /// Takes out what the handle holds, and frees its room.
-    pub(crate) fn empty(&mut self, alloc: Global) -> FrameRewriting
+    pub(crate) fn empty(&mut self, alloc: Global) -> Rewriting
         requires { IsSome self.old.held }
         ensures taken { Some result ≡ self.old.held }
         ensures emptied { self.new.held ≡ None }

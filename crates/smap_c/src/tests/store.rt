@@ -1,13 +1,14 @@
 //! A store of maps, and a text rewritten over it piece by piece.
 ghost use Rattle.std.specs.Prelude.{◌≡◌, IfOk, IsSome};
 
-use super::{assert_done, assert_refused, assert_text, no_map, read_map};
+use super::{assert_done, assert_refused, assert_text, no_bytes, no_map, no_table, read_map};
+use crate::asking::{smap_folder_path, smap_is_location};
 use crate::handles::{RewritingHandle, StoreHandle};
 use crate::look_up::Found;
 use crate::piecewise::{
-    RewritingOptions, smap_rewriting_clear, smap_rewriting_count, smap_rewriting_end,
-    smap_rewriting_free, smap_rewriting_give, smap_rewriting_new, smap_rewriting_run,
-    smap_rewriting_text, smap_rewriting_url,
+    RewritingOptions, smap_rewriting_allow, smap_rewriting_clear, smap_rewriting_count,
+    smap_rewriting_end, smap_rewriting_free, smap_rewriting_give, smap_rewriting_new,
+    smap_rewriting_run, smap_rewriting_text, smap_rewriting_url,
 };
 use crate::read::smap_map_free;
 use crate::status::WANTED;
@@ -16,10 +17,12 @@ use crate::store::{
     smap_store_new, smap_store_put, smap_store_put_none,
 };
 use crate::store_look_up::{smap_store_ask, smap_store_key, smap_store_look_up, smap_store_map};
+use crate::tables::{smap_table_free, smap_table_new};
 use crate::texts::{Text, no_source, smap_name};
-use crate::trace::TraceCounts;
+use crate::trace::{RewriteRefusal, TraceCounts};
+use crate::written::smap_bytes_text;
 use smap_kept::Kept;
-use smap_piecewise::{FrameOptions, FrameRewriting, KeptMaps};
+use smap_piecewise::{HiddenFrames, KeptMaps, Rewriting, TextOptions};
 use std::alloc::Global;
 use std::process::Abort;
 use std::test::Fail;
@@ -78,11 +81,12 @@ fn a_store_answers_what_was_put(rt: HostRuntime) -> Result<(), Fail> {
         asked: 9,
         hits: 9,
         dropped: 9,
+        own_bytes: 9,
     };
     smap_store_count(&mut store, &mut counts);
     assert!(&rt; counts.bytes == 139 && counts.count == 1 && counts.dropped == 0);
     assert!(&rt; counts.none_bytes == 132 && counts.none_count == 1);
-    assert!(&rt; counts.asked == 5 && counts.hits == 3);
+    assert!(&rt; counts.asked == 5 && counts.hits == 3 && counts.own_bytes == 0);
     smap_store_forget_none(&mut store);
     smap_store_forget(&mut store, b"a.js");
     assert_wanted(&rt, smap_store_ask(&mut store, b"a.js", 0, &mut why));
@@ -129,55 +133,106 @@ fn a_store_lends_the_source_that_answers(rt: HostRuntime) -> Result<(), Fail> {
     Ok(())
 }
 
-// A handle of a new rewriting of at most so many bytes, to which these were given.
+// How a text of at most so many bytes is rewritten: its frames.
+fn frames_within(most: u64) -> RewritingOptions {
+    RewritingOptions {
+        hide_ignored: false,
+        anywhere: false,
+        strip_ansi: false,
+        asks: true,
+        most,
+        most_output: 99,
+    }
+}
+
+// A handle of a new rewriting, to which these bytes were given.
 fn new_rewriting(
     rt: &impl Abort,
     alloc: Global,
-    most: u64,
+    options: RewritingOptions,
     bytes: &[u8],
 ) -> Result<RewritingHandle, Fail>
     ensures { IfOk result (λ rewriting. IsSome rewriting.held) }
 {
-    let options = FrameOptions {
+    let how = TextOptions {
+        strip: false,
+        asks: false,
+        most_bytes: 0,
+        most_output: 0,
+    };
+    let hidden = HiddenFrames {
         ignored: false,
         texts: Vec::new(alloc),
-        most_bytes: 0,
     };
-    let Ok(mut rewriting) = RewritingHandle::new(alloc, FrameRewriting::new(alloc, options)) else {
+    let text = Rewriting::of_frames(alloc, hidden, how);
+    let Ok(mut rewriting) = RewritingHandle::new(alloc, text) else {
         return Err(Fail::from("out of memory"));
     };
     smap_rewriting_free(alloc, &mut rewriting);
-    let options = RewritingOptions {
-        hide_ignored: false,
-        most,
-    };
     assert_done(rt, smap_rewriting_new(alloc, &options, &mut rewriting));
     assert_done(rt, smap_rewriting_give(&mut rewriting, bytes));
     Ok(rewriting)
 }
 
-#[test]
-fn a_rewriting_stops_at_what_is_not_known(rt: HostRuntime) -> Result<(), Fail> {
-    let alloc = rt.alloc();
-    let mut store = new_store(&rt, alloc)?;
-    let mut rewriting = new_rewriting(&rt, alloc, 21, b"@a.js?x:1:1\n@b.js")?;
-    let run = smap_rewriting_run(alloc, &mut rewriting, &mut store, 0);
-    assert_done(&rt, run);
+// What a run over an empty table returns, whose refusal has this number of lines, or 9.
+fn run(
+    rt: &impl Abort,
+    alloc: Global,
+    rewriting: &mut RewritingHandle,
+    store: &mut StoreHandle,
+    lines: u64,
+) -> Result<u32, Fail>
+    requires rewriting { IsSome rewriting.old.held }
+    requires store { IsSome store.old.held }
+    ensures held { (IsSome rewriting.new.held) × (IsSome store.new.held) }
+{
+    let mut table = no_table(alloc)?;
+    assert_done(rt, smap_table_new(alloc, &mut table));
+    let mut refusal = RewriteRefusal {
+        number: 9,
+        lines: 9,
+    };
+    let status = smap_rewriting_run(alloc, rewriting, &mut table, store, 0, &mut refusal);
+    assert!(rt; refusal.lines == lines);
+    smap_table_free(alloc, &mut table);
+    Ok(status)
+}
+
+// That so many lines, frames or places, and replaced ones were counted, and none hidden.
+fn assert_counts(
+    rt: &impl Abort,
+    rewriting: &mut RewritingHandle,
+    lines: u64,
+    frames: u64,
+    mapped: u64,
+)
+    requires { IsSome rewriting.old.held }
+    ensures { rewriting.new.held ≡ rewriting.old.held }
+{
     let mut counts = TraceCounts {
         lines: 9,
         frames: 9,
         mapped: 9,
         hidden: 9,
     };
-    smap_rewriting_count(&mut rewriting, &mut counts);
-    assert!(&rt; counts.lines == 1 && counts.frames == 1);
-    assert!(&rt; counts.mapped == 1 && counts.hidden == 0);
+    smap_rewriting_count(rewriting, &mut counts);
+    assert!(rt; counts.lines == lines && counts.frames == frames);
+    assert!(rt; counts.mapped == mapped && counts.hidden == 0);
+}
+
+#[test]
+fn a_rewriting_stops_at_what_is_not_known(rt: HostRuntime) -> Result<(), Fail> {
+    let alloc = rt.alloc();
+    let mut store = new_store(&rt, alloc)?;
+    let options = frames_within(21);
+    let mut rewriting = new_rewriting(&rt, alloc, options, b"@a.js?x:1:1\n@b.js")?;
+    assert_done(&rt, run(&rt, alloc, &mut rewriting, &mut store, 9)?);
+    assert_counts(&rt, &mut rewriting, 1, 1, 1);
     assert_refused(&rt, smap_rewriting_give(&mut rewriting, b":1:1:"));
     assert_done(&rt, smap_rewriting_give(&mut rewriting, b":1:1"));
     smap_rewriting_clear(&mut rewriting);
     smap_rewriting_end(&mut rewriting);
-    let run = smap_rewriting_run(alloc, &mut rewriting, &mut store, 0);
-    assert_wanted(&rt, run);
+    assert_wanted(&rt, run(&rt, alloc, &mut rewriting, &mut store, 9)?);
     let mut url = Text { text: b"" };
     assert_done(&rt, smap_rewriting_url(&mut rewriting, &mut url));
     assert_text(&rt, &url, "b.js");
@@ -185,14 +240,63 @@ fn a_rewriting_stops_at_what_is_not_known(rt: HostRuntime) -> Result<(), Fail> {
 }
 
 #[test]
+fn no_more_comes_out_than_may(rt: HostRuntime) -> Result<(), Fail> {
+    let alloc = rt.alloc();
+    let mut store = new_store(&rt, alloc)?;
+    let options = frames_within(99);
+    let mut rewriting = new_rewriting(&rt, alloc, options, b"Error\n@a.js:1:1\n")?;
+    smap_rewriting_allow(&mut rewriting, 15);
+    assert_refused(&rt, run(&rt, alloc, &mut rewriting, &mut store, 1)?);
+    smap_rewriting_clear(&mut rewriting);
+    smap_rewriting_allow(&mut rewriting, 10);
+    assert_done(&rt, run(&rt, alloc, &mut rewriting, &mut store, 9)?);
+    assert_counts(&rt, &mut rewriting, 2, 1, 1);
+    Ok(())
+}
+
+#[test]
+fn places_are_rewritten_without_sequences(rt: HostRuntime) -> Result<(), Fail> {
+    let alloc = rt.alloc();
+    let mut store = new_store(&rt, alloc)?;
+    let options = RewritingOptions {
+        anywhere: true,
+        strip_ansi: true,
+        ..frames_within(99)
+    };
+    let mut rewriting = new_rewriting(&rt, alloc, options, b"see a.j\x1b[3")?;
+    assert_done(&rt, smap_rewriting_give(&mut rewriting, b"1ms:1:1.\n"));
+    assert_done(&rt, run(&rt, alloc, &mut rewriting, &mut store, 9)?);
+    assert_counts(&rt, &mut rewriting, 1, 1, 1);
+    let mut text = Text { text: b"" };
+    assert_done(&rt, smap_rewriting_text(&mut rewriting, &mut text));
+    assert_text(&rt, &text, "see a.ts:1:1.\n");
+    Ok(())
+}
+
+#[test]
 fn what_is_written_is_lent(rt: HostRuntime) -> Result<(), Fail> {
     let alloc = rt.alloc();
     let mut store = new_store(&rt, alloc)?;
-    let mut rewriting = new_rewriting(&rt, alloc, 99, b"Error\n  at f (a.js:1:1)\n@b")?;
-    let run = smap_rewriting_run(alloc, &mut rewriting, &mut store, 0);
-    assert_done(&rt, run);
+    let options = frames_within(99);
+    let mut rewriting = new_rewriting(&rt, alloc, options, b"Error\n  at f (a.js:1:1)\n@b")?;
+    assert_done(&rt, run(&rt, alloc, &mut rewriting, &mut store, 9)?);
     let mut text = Text { text: b"" };
     assert_done(&rt, smap_rewriting_text(&mut rewriting, &mut text));
     assert_text(&rt, &text, "Error\n  at f (a.ts:1:1)\n");
+    Ok(())
+}
+
+#[test]
+fn maps_are_asked_for_under_locations(rt: HostRuntime) -> Result<(), Fail> {
+    let alloc = rt.alloc();
+    assert_done(&rt, smap_is_location(b"js/a.js"));
+    assert_refused(&rt, smap_is_location(b"../a.js"));
+    let mut path = no_bytes(alloc)?;
+    let prefix = b"https://h/js/";
+    let status = smap_folder_path(alloc, prefix, b"maps/", b"https://h/js/x/a.js?v", &mut path);
+    assert_done(&rt, status);
+    let mut text = Text { text: b"" };
+    smap_bytes_text(&mut path, &mut text);
+    assert_text(&rt, &text, "maps/x/a.js.map");
     Ok(())
 }

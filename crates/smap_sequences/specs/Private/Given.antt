@@ -1,5 +1,5 @@
 -- What is given of the bytes that came, and what is left of them.
-use Rattle.std.specs.Prelude.{◌≡◌, ◌≤◌, ◌<◌, ◌⊎◌, ℕ, ◌-◌, Bool, MatchBool, List, [], ◌++◌, length, take, drop}
+use Rattle.std.specs.Prelude.{◌≡◌, ◌≤◌, ◌<◌, ◌⊎◌, ℕ, ◌+◌, ◌-◌, Bool, MatchBool, List, [], ◌++◌, length, take, drop}
 use Rattle.std.specs.Io.KnownBytes.{IsAtEnd}
 use Rattle.smap_io.specs.Device.{Gives, SourceSeen}
 use Rattle.smap_sequences.specs.Sequences.{kept}
@@ -24,6 +24,7 @@ IsNearer old old_most new new_most = (new_most < old_most) ⊎ ((new_most ≡ ol
 pub record Tells (bytes : List ℕ) (most : ℕ) (room : List ℕ) (told : Told) : Type 0 where
   pub fits : told.count ≤ length room
   pub within : told.left ≤ length bytes
+  pub few : told.count + told.left ≤ length bytes
   pub given : IsGiven bytes most (take told.count room) (drop (length bytes - told.left) bytes) told.most
   pub undecided : told.count ≡ 0 → 0 < length room → IsFront (drop (length bytes - told.left) bytes) told.most Open
   pub nearer : told.count ≡ 0 → IsNearer bytes most (drop (length bytes - told.left) bytes) told.most

@@ -207,8 +207,8 @@ fn sizes_and_offsets_are_those_of_the_c_compiler() {
         smap_rewrite_options: hide_ignored anywhere strip_ansi cut;
         smap_trace_count: lines frames mapped hidden;
         smap_rewrite_refusal: number lines;
-        smap_store_counts: bytes count none_bytes none_count asked hits dropped;
-        smap_rewriting_options: hide_ignored most;
+        smap_store_counts: bytes count none_bytes none_count asked hits dropped own_bytes;
+        smap_rewriting_options: hide_ignored anywhere strip_ansi asks most most_output;
         smap_frame_url: start length next;
         smap_place_url: start length next halved;
     };

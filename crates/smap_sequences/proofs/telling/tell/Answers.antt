@@ -13,6 +13,7 @@ loop-count-preserved-in-Byte c =
     record {
       fits = omega (arith, length-set at.room at.count c.in-Byte.byte);
       within = omega (arith, size, at.invariant.within);
+      few = omega (arith, size, at.invariant.few);
       rest = is ∙ (end_of c.args.bytes.now at.rest.now 1 at.invariant.rest at.invariant.within (omega (arith, size)) ∙ ap (λ l. drop (length c.args.bytes.now - length l) c.args.bytes.now) (sym is));
       given = subst (λ l. IsGiven c.args.bytes.now c.args.most (take (at.count + 1) (set at.room at.count c.in-Byte.byte)) l at.most) (sym is) given;
       nearer = λ none. absurd (omega (arith, none));

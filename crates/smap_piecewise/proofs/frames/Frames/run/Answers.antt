@@ -7,7 +7,8 @@ loop-stop-init g c = record {
   steps = steps_seen (g.K.KnownMaps.known c.args.maps.now) c.args.self.now c.args.self.now refl;
   known = refl;
   still = refl;
-  room = c.requires;
+  few = c.requires.few;
+  room = c.requires.room;
 }
 
 pub returns-in_err-stop-clause-goes : goal.returns-in_err-stop-clause-goes
@@ -26,6 +27,7 @@ loop-stop-preserved g c = record {
       (rw c.loop-stop.invariant.known at c.step.ensures.goes);
   known = c.step.ensures.same ∙ c.loop-stop.invariant.known;
   still = c.step.ensures.still ∙ c.loop-stop.invariant.still;
+  few = c.step.ensures.few;
   room = c.step.ensures.goes.within (2 ^ 64 - 1) c.loop-stop.invariant.room;
 }
 

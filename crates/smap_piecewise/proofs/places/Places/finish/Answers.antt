@@ -1,6 +1,6 @@
 use Rattle.std.proofs.Common.{◌-◌, ◌^◌, ap, refl, ◌∙◌}
 use Rattle.smap_anywhere.specs.SeemingUrls.{urls_seeming}
-use Rattle.smap_piecewise.proofs.PlaceStepLaws.{if_true, step_same, steps_on}
+use Rattle.smap_piecewise.proofs.PlaceStepLaws.{if_false, if_none, if_true, step_same, steps_on}
 use Rattle.smap_piecewise.proofs.places.Places.finish.Goals as goal
 
 pub loop-span-init : goal.loop-span-init
@@ -9,6 +9,7 @@ loop-span-init g c = record {
   sound = c.requires.sound;
   known = refl;
   still = refl;
+  few = c.requires.few;
   room = c.requires.room;
   chunk = refl;
   given = refl;
@@ -24,27 +25,48 @@ returns-in_err-put_bytes-clause-goes g c =
 pub put_place-requires-clause-sound : goal.put_place-requires-clause-sound
 put_place-requires-clause-sound g c = (c.in_ok-put_bytes.ensures.goes urls_seeming (g.K.KnownMaps.known c.args.maps.now)).sound
 
-pub returns-in_err-put_place-clause-goes : goal.returns-in_err-put_place-clause-goes
-returns-in_err-put_place-clause-goes g c =
+pub returns-in_err-stop-clause-goes : goal.returns-in_err-stop-clause-goes
+returns-in_err-stop-clause-goes g c =
     let known = g.K.KnownMaps.known c.args.maps.now in
     λ urls. steps_on urls known c.args.self.now c.put_bytes.new.self c.put_place.new.self
     (steps_on urls known c.args.self.now c.loop-span.self c.put_bytes.new.self (c.loop-span.invariant.steps urls)
     (c.in_ok-put_bytes.ensures.goes urls known))
-    (rw c.loop-span.invariant.known at (c.in_err-put_place.ensures.goes urls))
+    (rw c.loop-span.invariant.known at (c.in_err-stop.ensures.goes urls))
 
 pub returns-then-not-branch-clause-goes : goal.returns-then-not-branch-clause-goes
 returns-then-not-branch-clause-goes g c =
+    let known = g.K.KnownMaps.known c.args.maps.now in
+    λ urls. steps_on urls known c.args.self.now c.loop-span.self c.put_bytes.new.self (c.loop-span.invariant.steps urls)
+    (c.in_ok-put_bytes.ensures.goes urls known)
+
+pub returns-then-not-branch-clause-ends : goal.returns-then-not-branch-clause-ends
+returns-then-not-branch-clause-ends g c =
+    if_false _ _ c.in_ok-put_bytes.field-0 c.if-not-branch.true c.in_ok-put_bytes.ensures.put (g.K.KnownMaps.known c.args.maps.now)
+
+pub returns-in-Some-2-clause-goes : goal.returns-in-Some-2-clause-goes
+returns-in-Some-2-clause-goes g c =
     let known = g.K.KnownMaps.known c.args.maps.now in
     λ urls. steps_on urls known c.args.self.now c.put_bytes.new.self c.put_place.new.self
     (steps_on urls known c.args.self.now c.loop-span.self c.put_bytes.new.self (c.loop-span.invariant.steps urls)
     (c.in_ok-put_bytes.ensures.goes urls known))
     (rw c.loop-span.invariant.known at (c.put_place.ensures.goes urls))
 
+pub returns-then-not-branch-2-clause-goes : goal.returns-then-not-branch-2-clause-goes
+returns-then-not-branch-2-clause-goes g c =
+    let known = g.K.KnownMaps.known c.args.maps.now in
+    λ urls. steps_on urls known c.args.self.now c.loop-span.self c.put_bytes-2.new.self (c.loop-span.invariant.steps urls)
+    (c.in_ok-put_bytes-2.ensures.goes urls known)
+
+pub returns-then-not-branch-2-clause-ends : goal.returns-then-not-branch-2-clause-ends
+returns-then-not-branch-2-clause-ends g c =
+    if_false _ _ c.in_ok-put_bytes-2.field-0 c.if-not-branch-2.true c.in_ok-put_bytes-2.ensures.put (g.K.KnownMaps.known c.args.maps.now)
+
 pub loop-span-preserved : goal.loop-span-preserved
 loop-span-preserved g c =
     let known = g.K.KnownMaps.known c.args.maps.now in
     let bytes = c.in_ok-put_bytes.ensures.goes urls_seeming known in
     let place = c.put_place.ensures.goes urls_seeming in
+    let put = if_true _ _ c.in_ok-put_bytes.field-0 c.if-not-branch.false c.in_ok-put_bytes.ensures.put in
     record {
       steps = λ urls. steps_on urls known c.args.self.now c.put_bytes.new.self c.put_place.new.self
           (steps_on urls known c.args.self.now c.loop-span.self c.put_bytes.new.self (c.loop-span.invariant.steps urls)
@@ -54,9 +76,10 @@ loop-span-preserved g c =
       known = c.put_place.ensures.same ∙ c.loop-span.invariant.known;
       still = c.put_place.ensures.still ∙ c.loop-span.invariant.still;
       room = place.within (2 ^ 64 - 1) (bytes.within (2 ^ 64 - 1) c.loop-span.invariant.room);
-      chunk = c.put_place.ensures.same_chunk ∙ ap (λ n. n.chunk) c.in_ok-put_bytes.ensures.put ∙ c.loop-span.invariant.chunk;
-      given = c.put_place.ensures.same_left ∙ ap (λ n. n.left) c.in_ok-put_bytes.ensures.put ∙ c.loop-span.invariant.given;
-      unwanted = (if_true _ _ c.in_ok-put_place.field-0 c.if-not-branch.false c.in_ok-put_place.ensures.ends).0;
+      chunk = c.put_place.ensures.same_chunk ∙ ap (λ n. n.chunk) put ∙ c.loop-span.invariant.chunk;
+      given = c.put_place.ensures.same_left ∙ ap (λ n. n.left) put ∙ c.loop-span.invariant.given;
+      few = c.put_place.ensures.few;
+      unwanted = (if_none _ _ c.in_ok-stop.field-0 c.in_default-2.is c.in_ok-stop.ensures.ends).0;
     }
 
 pub returns-in_err-put_bytes-2-clause-goes : goal.returns-in_err-put_bytes-2-clause-goes
@@ -79,11 +102,17 @@ returns-clause-goes g c =
 pub returns-in_err-put_bytes-clause-still : goal.returns-in_err-put_bytes-clause-still
 returns-in_err-put_bytes-clause-still g c = c.loop-span.invariant.still
 
-pub returns-in_err-put_place-clause-still : goal.returns-in_err-put_place-clause-still
-returns-in_err-put_place-clause-still g c = c.put_place.ensures.still ∙ c.loop-span.invariant.still
+pub returns-in_err-stop-clause-still : goal.returns-in_err-stop-clause-still
+returns-in_err-stop-clause-still g c = c.put_place.ensures.still ∙ c.loop-span.invariant.still
 
 pub returns-then-not-branch-clause-still : goal.returns-then-not-branch-clause-still
-returns-then-not-branch-clause-still g c = c.put_place.ensures.still ∙ c.loop-span.invariant.still
+returns-then-not-branch-clause-still g c = c.loop-span.invariant.still
+
+pub returns-in-Some-2-clause-still : goal.returns-in-Some-2-clause-still
+returns-in-Some-2-clause-still g c = c.put_place.ensures.still ∙ c.loop-span.invariant.still
+
+pub returns-then-not-branch-2-clause-still : goal.returns-then-not-branch-2-clause-still
+returns-then-not-branch-2-clause-still g c = c.loop-span.invariant.still
 
 pub returns-in_err-put_bytes-2-clause-still : goal.returns-in_err-put_bytes-2-clause-still
 returns-in_err-put_bytes-2-clause-still g c = c.loop-span.invariant.still

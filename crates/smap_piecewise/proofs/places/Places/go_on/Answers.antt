@@ -1,5 +1,5 @@
 use Rattle.std.proofs.Common.{◌-◌, ◌^◌, refl, ◌∙◌}
-use Rattle.smap_piecewise.proofs.PlaceStepLaws.{if_true, sound_wanted, step_wanted, steps_on}
+use Rattle.smap_piecewise.proofs.PlaceStepLaws.{if_none, sound_wanted, step_wanted, steps_on}
 use Rattle.smap_piecewise.proofs.places.Places.go_on.Goals as goal
 
 pub loop-alloc-init : goal.loop-alloc-init
@@ -8,6 +8,7 @@ loop-alloc-init g c = record {
   sound = sound_wanted c.args.self.now _ c.requires.sound refl refl refl;
   known = refl;
   still = refl;
+  few = c.requires.few;
   room = record { lines = c.requires.room.lines; frames = c.requires.room.frames; mapped = c.requires.room.mapped };
   unwanted = refl;
 }
@@ -23,16 +24,16 @@ finish-requires-clause-sound g c = (c.goes_on.ensures.goes (g.K.KnownMaps.known 
 pub finish-requires-clause-room : goal.finish-requires-clause-room
 finish-requires-clause-room g c = (c.goes_on.ensures.goes (g.K.KnownMaps.known c.args.maps.now)).within (2 ^ 64 - 1) c.loop-alloc.invariant.room
 
-pub returns-in_err-finish-clause-goes : goal.returns-in_err-finish-clause-goes
-returns-in_err-finish-clause-goes g c =
+pub returns-in_err-stop-clause-goes : goal.returns-in_err-stop-clause-goes
+returns-in_err-stop-clause-goes g c =
     let urls = g.U.KnownUrls.known c.args.urls.now in
     let known = g.K.KnownMaps.known c.args.maps.now in
     steps_on urls known c.args.self.now c.goes_on.new.self c.finish.new.self
     (steps_on urls known c.args.self.now c.loop-alloc.self c.goes_on.new.self c.loop-alloc.invariant.steps (c.goes_on.ensures.goes known))
-    (rw c.loop-alloc.invariant.known at (c.in_err-finish.ensures.goes urls))
+    (rw c.loop-alloc.invariant.known at (c.in_err-stop.ensures.goes urls))
 
-pub returns-then-not-branch-clause-goes : goal.returns-then-not-branch-clause-goes
-returns-then-not-branch-clause-goes g c =
+pub returns-in-Some-clause-goes : goal.returns-in-Some-clause-goes
+returns-in-Some-clause-goes g c =
     let urls = g.U.KnownUrls.known c.args.urls.now in
     let known = g.K.KnownMaps.known c.args.maps.now in
     steps_on urls known c.args.self.now c.goes_on.new.self c.finish.new.self
@@ -53,14 +54,15 @@ loop-alloc-preserved g c =
       known = c.finish.ensures.same ∙ c.loop-alloc.invariant.known;
       still = c.finish.ensures.still ∙ c.loop-alloc.invariant.still;
       room = ends.within (2 ^ 64 - 1) (begins.within (2 ^ 64 - 1) c.loop-alloc.invariant.room);
-      unwanted = (if_true _ _ c.in_ok-finish.field-0 c.if-not-branch.false c.in_ok-finish.ensures.ends).1;
+      few = c.finish.ensures.few;
+      unwanted = (if_none _ _ c.in_ok-stop.field-0 c.in_default.is c.in_ok-stop.ensures.ends).1;
     }
 
 pub returns-then-not-goes_on-clause-still : goal.returns-then-not-goes_on-clause-still
 returns-then-not-goes_on-clause-still g c = c.loop-alloc.invariant.still
 
-pub returns-in_err-finish-clause-still : goal.returns-in_err-finish-clause-still
-returns-in_err-finish-clause-still g c = c.finish.ensures.still ∙ c.loop-alloc.invariant.still
+pub returns-in_err-stop-clause-still : goal.returns-in_err-stop-clause-still
+returns-in_err-stop-clause-still g c = c.finish.ensures.still ∙ c.loop-alloc.invariant.still
 
-pub returns-then-not-branch-clause-still : goal.returns-then-not-branch-clause-still
-returns-then-not-branch-clause-still g c = c.finish.ensures.still ∙ c.loop-alloc.invariant.still
+pub returns-in-Some-clause-still : goal.returns-in-Some-clause-still
+returns-in-Some-clause-still g c = c.finish.ensures.still ∙ c.loop-alloc.invariant.still

@@ -1,4 +1,4 @@
-use Rattle.std.proofs.Common.{◌≡◌, ◌-◌, ◌^◌, false, length}
+use Rattle.std.proofs.Common.{◌≡◌, ◌≤◌, ◌-◌, ◌^◌, false, length}
 use Rattle.smap_piecewise.specs.Private.Places.{ArePlacesWithin, IsSound, PlaceSteps, places_seen}
 use Rattle.smap_piecewise.proofs.places.Places.go_on.Given as goal
 
@@ -8,6 +8,7 @@ invariant-loop-alloc g l = record {
   sound : IsSound l.self;
   known : g.K.KnownMaps.known l.maps ≡ g.K.KnownMaps.known l.initial.maps;
   still : g.K.KnownMaps.still l.maps ≡ g.K.KnownMaps.still l.initial.maps;
+  few : length l.self.output.items ≤ l.limit;
   room : ArePlacesWithin (2 ^ 64 - 1) (places_seen l.self);
   unwanted : l.self.is_wanted ≡ false;
 }
