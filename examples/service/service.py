@@ -37,6 +37,8 @@ MOST_LINE = 500
 MOST_NUMBER = 2**31
 MOST_CLIENTS = 64
 LENGTH = re.compile("[0-9]{1,15}")
+# What is not there, or has failed, is looked for again after so many seconds, and a file for what is new in it.
+LATE = 30
 # A client that takes longer for a whole request, or for an answer, is left.
 SECONDS = 10
 
@@ -217,7 +219,8 @@ class Server(ThreadingHTTPServer):
 
 def main(prefix, folder, port="8000", megabytes="200"):
     with Server(("127.0.0.1", int(port)), Handler) as server:
-        server.maps = Maps.folder(prefix, folder, max_bytes=int(megabytes) << 20, max_names=MOST_NAMES, refused=server.tell)
+        server.maps = Maps.folder(prefix, folder, max_bytes=int(megabytes) << 20, max_names=MOST_NAMES, refused=server.tell,
+                                  none_for=LATE, fresh_for=LATE)
         print(f"http://127.0.0.1:{server.server_port}", flush=True)
         server.serve_forever()
 

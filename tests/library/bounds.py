@@ -78,13 +78,13 @@ def memory():
     hostile = json.dumps({"version": 3, "sourceRoot": "r" * (4 * count), "sources": ["s"] * count, "mappings": ""}, separators=(",", ":"))
     name = "n" * 65500
     map_text = json.dumps({"version": 3, "sources": [name], "names": [], "mappings": "AAAA"})
-    frame, place = "f@a.js:1:1\n", "a.js?v:1:1\n"
+    frame, place = "f@a.js:1:1\n", "/a.js?v:1:1\n"
     before = resource.getrusage(resource.RUSAGE_SELF).ru_maxrss
     same(raised(Refused, lambda: SourceMap(hostile, max_names=1 << 20)).number, 18, "names")
     # Each line is 65,507 or 65,505 bytes long then: sixteen of both are within 1 MiB.
     for rewriter in (Rewriter({"a.js": map_text}), Rewriter({}, load=lambda url: map_text), Maps(lambda url: map_text, max_bytes=1 << 20)):
         for text, how in ((frame * 80000, {}), (frame * 80000, {"anywhere": True}), (place * 80000, {"anywhere": True})):
-            if text.startswith("a.js?") and isinstance(rewriter, Rewriter) and rewriter._load is None:
+            if text.startswith("/a.js?") and isinstance(rewriter, Rewriter) and rewriter._load is None:
                 continue
             rewriter.rewrite("\n\n")
             counts = rewriter.counts

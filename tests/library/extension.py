@@ -156,15 +156,17 @@ def threads():
             "looking many up": lambda: source_map.look_up_many(positions), "listing": source_map.mappings,
             "counting bytes": lambda: source_map.bytes_by_source(b"\n" * 20000000),
             "fitting": lambda: source_map.fit(b"\n" * 20000000),
+            # What another thread could change is copied.
+            "reading what is written to": lambda: SourceMap(writable),
+            "reading a view of it": lambda: SourceMap(memoryview(writable).toreadonly()),
+            "rewriting what is written to": lambda: rewriter.rewrite(writable_trace),
+            "rewriting a view of it": lambda: rewriter.rewrite(memoryview(writable_trace).toreadonly()),
         }.items():
             steps, still = steps_beside(call)
             same(steps > 50 and still < 0.9, True, f"{steps} steps beside {what}, and none for {still} of the time")
-        # What another thread could change is read by one alone.
-        for what, call in {
-            "reading": lambda: SourceMap(writable), "reading a view": lambda: SourceMap(memoryview(writable).toreadonly()),
-            "rewriting": lambda: rewriter.rewrite(writable_trace),
-            "rewriting a view": lambda: rewriter.rewrite(memoryview(writable_trace).toreadonly()),
-        }.items():
+        # What is no map of more than a million bytes is read by one thread alone.
+        text = bytearray(b"\n" * 20000000)
+        for what, call in {"counting": lambda: source_map.bytes_by_source(text), "fitting": lambda: source_map.fit(text)}.items():
             still = max(steps_beside(call)[1] for _ in range(3))
             same(still > 0.5, True, f"no steps beside {what} for {still} of the time alone")
     # A call waits for the one before.

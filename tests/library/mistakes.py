@@ -161,7 +161,7 @@ def maps(folder):
     unnamed.write_bytes(b"[]")
     refuses(Refused, lambda: SourceMap(unnamed), "\ufffd.map: M3 NotObject", number=3)
     for held in (bytearray(SMALL), mmap.mmap(-1, 9), "x", None):
-        refuses(TypeError, lambda: _smap.frame_urls(held), "no bytes and no memoryview")
+        refuses(TypeError, lambda: _smap.frame_urls(held, False), "no bytes and no memoryview")
 
 
 def reasons(folder):
@@ -345,8 +345,10 @@ def tables():
         refuses(TypeError, lambda: Rewriter({bad: SMALL}), "URL", type(bad).__name__)
     for bad in (7, [("a.js", SMALL)], "a.js", None):
         refuses(TypeError, lambda: Rewriter(bad), "dict", type(bad).__name__)
-    for bad in (7, None, []):
+    for bad in (7, False, []):
         refuses(TypeError, lambda: Rewriter({"a.js": bad}), "bytes, a str or a Path", type(bad).__name__)
+    with Rewriter({"a.js": None, url: SMALL}) as rewriter:
+        same(repr(rewriter), "<Rewriter maps=1>")
     trace, wanted = "    at ä (https://e.test/a.min.js:1:11)\n", "    at ä (https://e.test/a.js:2:5)\n".encode()
     with Rewriter({url: SMALL}) as rewriter:
         same(rewriter.counts, {})
@@ -360,8 +362,8 @@ def tables():
         refuses(Refused, lambda: Rewriter({"a\nb": given}), "A1 BadUrl")
         same(given.look_up(0, 12), LAST)
         Rewriter({"a.js": given}).close()
-        refuses(ValueError, lambda: given.look_up(0, 12), "closed")
-        refuses(ValueError, lambda: Rewriter({"a.js": given}), "closed")
+        same(given.look_up(0, 12), LAST)
+    refuses(ValueError, lambda: Rewriter({"a.js": given}), "closed")
 
 
 def paths():
@@ -423,7 +425,10 @@ def loading():
     refuses(ValueError, lambda: rewriter.rewrite("f@e.js:1:1"), "closed")
     with SourceMap(SMALL) as given, Rewriter({}, load=lambda name: given) as rewriter:
         same(rewriter.rewrite("f@g.js:1:11"), b"f@a.js:2:5")
-        same((rewriter.rewrite("f@h.js:1:11"), str(rewriter.refusals[0][1])), (b"f@h.js:1:11", "the map is closed"))
+        same((rewriter.rewrite("f@h.js:1:11"), rewriter.refusals), (b"f@a.js:2:5", []))
+        given.close()
+        same((rewriter.rewrite("f@i.js:1:11"), str(rewriter.refusals[0][1])), (b"f@i.js:1:11", "the map is closed"))
+        same(rewriter.rewrite("f@h.js:1:11"), b"f@a.js:2:5")
     for bad in (7, "a.js", {}):
         refuses(TypeError, lambda: Rewriter({}, load=bad), "load is a function", type(bad).__name__)
         refuses(TypeError, lambda: Rewriter({}, refused=bad), "refused is a function", type(bad).__name__)
@@ -498,9 +503,9 @@ def cut_urls():
             for given in (text, memoryview(bytearray(text.encode()))):
                 same(both.rewrite(given, anywhere=anywhere), b"f@https://e.test/o.js:2:5\nf@https://e.test/a.js:2:5\n")
     same(asked, [])
-    # Without a loader a URL is named as it stands.
+    # Without a loader, too.
     with Rewriter({url: SMALL}) as plain:
-        same(plain.rewrite(text), text.encode())
+        same(plain.rewrite(text), b"f@https://e.test/a.js:2:5\n" * 2)
     with Rewriter({}, load=lambda name: SMALL.replace(b'"names"', b'"ignoreList":[0],"names"')) as hiding:
         same(hiding.rewrite(text, hide_ignored=True), b"")
         same(hiding.counts, {"lines": 2, "frames": 2, "mapped": 0, "hidden": 2})
@@ -512,6 +517,8 @@ def cut_by_chance():
     own = b'{"version":3,"sources":["own.js"],"names":[],"ignoreList":[0],"mappings":"AAAA,UAAU;AACA"}'
     maps = {"https://e.test/x.js": SMALL, "https://e.test/own.js": own, "/srv/y.js": SMALL, "z.js": SMALL.replace(b"a.js", b'b\\"c')}
     urls = [url + more for url in maps for more in ("", "?v=1", "?v=2#z", "#", "?a=,b")]
+    # In the midst of a text a comma ends a URL, and what begins like none has to end like a script.
+    seen = {True: [url for url in urls if "," not in url and (url == "z.js" or not url.startswith("z.js"))], False: urls}
     around = [("    at f (", ")"), ("f@", ""), ("at ", ""), ("", ""), ("x", ""), ("[", "] "), ("\x1b[31m", "\x1b[0m"), ('"', '",'),
               ("", "7 "), ("_", " "), (",", ";")]
     with Rewriter({url: maps[url.split("?")[0].split("#")[0]] for url in urls}) as exact:
@@ -520,16 +527,21 @@ def cut_by_chance():
             text = ""
             for _ in range(chance.randrange(chance.choice([3, 20, 200]))):
                 before, behind = chance.choice(around)
-                url = chance.choice(urls + ["https://e.test/no.js?v=1", "q"])
+                if "anywhere" in options and before + behind in ("x", "7 ", "_ "):
+                    # A name is told from such a sign before it or behind, and what looks like a URL has it.
+                    before, behind = "", "\n"
+                url = chance.choice(seen["anywhere" in options] + ["https://e.test/no.js?v=1", "q"])
                 # A line that is a frame, whose URL is named as it stands, has no other place: so it stands alone.
                 is_frame = before.endswith("@") or "at " in before
                 if is_frame and text and not text.endswith("\n"):
                     text += "\n"
-                end = "" if "anywhere" in options and not is_frame and chance.random() < 0.4 else "\n"
+                end = "" if "anywhere" in options and not is_frame and behind in ("] ", '",') and chance.random() < 0.4 else "\n"
                 text += f"{before}{url}:{chance.randint(1, 3)}:{chance.choice([1, 5, 11, 12])}{behind}{end}"
             with Rewriter({}, load=maps.get) as rewriter:
                 same(rewriter.rewrite(text, **options), exact.rewrite(text, **options))
-                same(rewriter.counts, exact.counts)
+                # With a loader what looks like a URL is a place, though none has its map.
+                gone = max(0, rewriter.counts.get("places", 0) - exact.counts.get("places", 0))
+                same(rewriter.counts, {**exact.counts, **({"places": exact.counts["places"] + gone} if "anywhere" in options else {})})
 
 
 def anywhere():
@@ -542,7 +554,7 @@ def anywhere():
     asked = []
     with Rewriter({}, load=lambda name: asked.append(name) or (SMALL if name == "g.js" else None)) as rewriter:
         same(rewriter.rewrite(text, anywhere=True), b"{a.js:2:5} [h.js:1:11] {g.js:9:9}\n    at a.js:2:5\n")
-        same(rewriter.counts, {"lines": 2, "places": 3, "mapped": 2})
+        same(rewriter.counts, {"lines": 2, "places": 4, "mapped": 2})
         line = ('12:30:45 x:1:2 y=/srv/b.js:1:2 {"stack":"f@app:///c.js?d=1:1:1\\n"} \x1b[1;36mhttps://e.test/e.js:1:1\x1b[0m a:7:8, '
                 '(d/f.js:1:2)[native code:1:1]:3:12345678901')
         same(rewriter.rewrite(line, anywhere=True), line.encode())

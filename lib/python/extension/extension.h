@@ -18,8 +18,11 @@
 extern PyTypeObject *answer_class, *counts_class, *generated_class, *mapping_class, *place_class, *reason_class, *refusal_class, *source_class, *text_refusal_class;
 
 /* The types of the extension, and what they are made of. */
-extern PyTypeObject *map_type, *table_type, *inners_type, *mappings_type;
-extern PyType_Spec map_spec, table_spec, inners_spec, mappings_spec;
+extern PyTypeObject *map_type, *store_type, *rewriting_type, *inners_type, *mappings_type;
+extern PyType_Spec map_spec, store_spec, rewriting_spec, inners_spec, mappings_spec;
+
+/* `time.monotonic_ns`. */
+extern PyObject *monotonic_ns;
 
 /* given.c: what is given is checked, and what is handed back is made. */
 
@@ -51,6 +54,9 @@ PyObject *none(void);
 PyObject *number_if(bool is, uint32_t number);
 PyObject *text_if(bool is, smap_text text);
 
+/* A text, or None for bytes that are no UTF-8. */
+PyObject *text_or_none(smap_text text);
+
 /* A tuple of a class, with items that it takes over. Where one of them is NULL, which is an error, so is the tuple. */
 PyObject *tuple_of(PyTypeObject *class, Py_ssize_t count, PyObject **items);
 
@@ -60,14 +66,19 @@ PyObject *taken(smap_bytes *bytes);
 /* What a call gives that hands bytes out: the bytes, or the number of a refusal. */
 PyObject *taken_or_refused(uint32_t status, smap_bytes *bytes, uint32_t refusal);
 
-/* held.c: a map, a table or inner maps, used by one call at a time. It is full where it is open. A call that lets other threads go on is at
+/* held.c: a map, a table with a store, a rewriting or inner maps, used by one call at a time. It is full where it is open. A call that lets other threads go on is at
  * work with it while it is busy, and has its lock. A short call needs none, since it is alone until it returns. */
 struct held {
     PyObject_HEAD
     PyThread_type_lock lock;
-    bool busy, full;
+    bool busy, full, is_named;
     size_t size; /* about how many bytes it has */
-    union { smap_map map; smap_table table; smap_inners inners; };
+    union {
+        smap_map map;
+        smap_inners inners;
+        smap_rewriting rewriting;
+        struct { smap_table table; smap_store store; }; /* the table has maps where `is_named` */
+    };
     smap_originals originals; /* of a map, as soon as it was asked for generated places */
 };
 
@@ -109,7 +120,9 @@ PyObject *map_lines(PyObject *self, PyObject *words);
 
 /* The functions of the module. */
 PyObject *encode(PyObject *module, PyObject *data);
-PyObject *frame_urls(PyObject *module, PyObject *data);
+PyObject *frame_urls(PyObject *module, PyObject *words);
+PyObject *folder_path(PyObject *module, PyObject *words);
+PyObject *url_refusal(PyObject *module, PyObject *words);
 PyObject *compose(PyObject *module, PyObject *words);
 PyObject *refusal_of(const smap_refusal *refusal);
 PyObject *refusal_text(PyObject *module, PyObject *words);

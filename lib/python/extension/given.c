@@ -35,6 +35,13 @@ PyObject *text_if(bool is, smap_text text) {
     return is ? PyUnicode_DecodeUTF8((const char *)text.bytes, (Py_ssize_t)text.length, NULL) : none();
 }
 
+PyObject *text_or_none(smap_text text) {
+    PyObject *value = text_if(true, text);
+    if (value || !PyErr_ExceptionMatches(PyExc_UnicodeDecodeError)) return value;
+    PyErr_Clear();
+    return none();
+}
+
 PyObject *taken(smap_bytes *bytes) {
     smap_text text = SMAP_TEXT;
     smap_bytes_text(bytes, &text);

@@ -1,4 +1,4 @@
-/* A map, a table or inner maps, used by one call at a time. */
+/* A map, a table with a store, a rewriting or inner maps, used by one call at a time. */
 #include "extension.h"
 
 /* The GNU C library keeps what is freed between what is not. After so many bytes it gives back the pages of it. Another has not this
@@ -69,8 +69,8 @@ bool ready(struct held *const *held, size_t count) {
         } else if (held[i]->full) {
             i++;
         } else {
-            bool is_map = PyObject_TypeCheck((PyObject *)held[i], map_type), is_table = PyObject_TypeCheck((PyObject *)held[i], table_type);
-            PyErr_SetString(PyExc_ValueError, is_map ? "the map is closed" : is_table ? "the rewriter is closed" : "the inner maps are closed");
+            bool is_map = PyObject_TypeCheck((PyObject *)held[i], map_type), is_store = PyObject_TypeCheck((PyObject *)held[i], store_type);
+            PyErr_SetString(PyExc_ValueError, is_map ? "the map is closed" : is_store ? "the rewriter is closed" : "the inner maps are closed");
             return false;
         }
     }

@@ -30,6 +30,9 @@ static PyObject *map_close(PyObject *self, PyObject *unused) {
     return none();
 }
 
+/* A map of more bytes, which others could change, is copied, so that other threads go on while it is read. */
+#define LARGE (1 << 20)
+
 static PyObject *map_read(PyObject *self, PyObject *words) {
     struct held *held = (struct held *)self;
     PyObject *data, *base_data;
@@ -39,11 +42,14 @@ static PyObject *map_read(PyObject *self, PyObject *words) {
     if (!PyArg_ParseTuple(words, "OOIK", &data, &base_data, &interval, &most_names)) return NULL;
     if (!bytes_of(data, &given) || !bytes_of(base_data, &base) || !idle(held)) return NULL;
     if (held->full) return PyErr_Format(PyExc_ValueError, "the map is read already");
+    uint8_t *copy = !given.steady && given.length > LARGE ? malloc(given.length) : NULL;
+    if (copy) given.bytes = memcpy(copy, given.bytes, given.length);
     smap_refusal refusal = {0};
     begin(held);
-    PyThreadState *state = let_go(given.steady && base.steady);
+    PyThreadState *state = let_go((given.steady || copy) && base.steady);
     uint32_t status =
         smap_map_read_within(given.bytes, given.length, base.bytes, base.length, interval, most_names, &held->map, &refusal);
+    free(copy);
     come_back(state);
     held->full = status == SMAP_DONE;
     held->size = given.length;
@@ -220,7 +226,10 @@ static PyObject *map_nbytes(PyObject *self, void *unused) {
     struct held *held = (struct held *)self;
     if (!ready(&held, 1)) return NULL;
     uint64_t size = 0;
+    smap_count count = {0};
     smap_map_size(&held->map, &size);
+    smap_counts(&held->map, &count);
+    if (held->originals.at) size += 16 * count.segments + 24 * count.sources;
     return PyLong_FromUnsignedLongLong(size);
 }
 
@@ -286,7 +295,21 @@ static PyObject *map_fit(PyObject *self, PyObject *data) {
 /* A method whose arguments may be given by their names. */
 #define WITH_NAMES(call) (PyCFunction)(void (*)(void))(call), METH_FASTCALL | METH_KEYWORDS
 
-/* Names the sources by the URL, where that is an absolute path. */
+/* Another one of the same map. */
+static PyObject *map_shared(PyObject *self, PyObject *unused) {
+    (void)unused;
+    struct held *held = (struct held *)self, *other = (struct held *)held_new(Py_TYPE(self), NULL, NULL);
+    if (!other || !ready(&held, 1)) {
+        Py_XDECREF((PyObject *)other);
+        return NULL;
+    }
+    other->full = smap_map_share(&held->map, &other->map) == SMAP_DONE;
+    if (other->full) return (PyObject *)other;
+    Py_DECREF((PyObject *)other);
+    return PyErr_NoMemory();
+}
+
+/* Names the sources by the URL, where that is an absolute path. Nothing else holds the map. */
 static PyObject *map_use_paths(PyObject *self, PyObject *data) {
     struct held *held = (struct held *)self;
     struct given url;
@@ -322,6 +345,7 @@ static PyMethodDef map_methods[] = {
     {"_written", map_written, METH_NOARGS, NULL},
     {"_bytes_by_source", map_bytes_by_source, METH_O, NULL},
     {"_fit", map_fit, METH_O, NULL},
+    {"_shared", map_shared, METH_NOARGS, NULL},
     {"_use_paths", map_use_paths, METH_O, NULL},
     {NULL, NULL, 0, NULL},
 };
@@ -329,7 +353,7 @@ static PyMethodDef map_methods[] = {
 static PyGetSetDef map_properties[] = {
     {"counts", map_counts, NULL, "How much the map holds.", NULL},
     {"closed", held_closed, NULL, "Whether the map is closed.", NULL},
-    {"nbytes", map_nbytes, NULL, "About how many bytes of memory the map takes.", NULL},
+    {"nbytes", map_nbytes, NULL, "About how many bytes of memory the map takes, with its index of originals once that is made.", NULL},
     {"file", map_file, NULL, "The name of the generated file, where the map has one, or None.", NULL},
     {NULL, NULL, NULL, NULL, NULL},
 };

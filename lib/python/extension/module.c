@@ -4,10 +4,13 @@
 
 PyTypeObject *answer_class, *counts_class, *generated_class, *mapping_class, *place_class, *reason_class, *refusal_class, *source_class,
     *text_refusal_class;
-PyTypeObject *map_type, *table_type, *inners_type, *mappings_type;
+PyTypeObject *map_type, *store_type, *rewriting_type, *inners_type, *mappings_type;
+PyObject *monotonic_ns;
 
 static PyMethodDef functions[] = {
-    {"frame_urls", frame_urls, METH_O, NULL},
+    {"frame_urls", frame_urls, METH_VARARGS, NULL},
+    {"folder_path", folder_path, METH_VARARGS, NULL},
+    {"url_refusal", url_refusal, METH_VARARGS, NULL},
     {"compose", compose, METH_VARARGS, NULL},
     {"encode", encode, METH_O, NULL},
     {"refusal_text", refusal_text, METH_VARARGS, NULL},
@@ -25,7 +28,7 @@ static struct PyModuleDef definition = {
     PyModuleDef_HEAD_INIT, "_smap", "The library libsmap.", -1, functions, NULL, NULL, NULL, NULL,
 };
 
-/* The classes of _answers.py, the types of this module, and the version of the library. */
+/* The classes of _answers.py, the clock, the types of this module, and the version of the library. */
 static bool filled(PyObject *module) {
     static const struct { const char *name; PyTypeObject **class; } classes[] = {
         {"Answer", &answer_class}, {"Counts", &counts_class}, {"Generated", &generated_class}, {"Mapping", &mapping_class},
@@ -33,14 +36,17 @@ static bool filled(PyObject *module) {
         {"TextRefusal", &text_refusal_class},
     };
     static const struct { PyType_Spec *spec; PyTypeObject **type; } types[] = {
-        {&map_spec, &map_type}, {&table_spec, &table_type}, {&inners_spec, &inners_type}, {&mappings_spec, &mappings_type},
+        {&map_spec, &map_type}, {&store_spec, &store_type}, {&rewriting_spec, &rewriting_type}, {&inners_spec, &inners_type},
+        {&mappings_spec, &mappings_type},
     };
-    PyObject *answers = PyImport_ImportModule("smap._answers");
+    PyObject *answers = PyImport_ImportModule("smap._answers"), *time = PyImport_ImportModule("time");
+    monotonic_ns = time ? PyObject_GetAttrString(time, "monotonic_ns") : NULL;
+    Py_XDECREF(time);
     for (size_t i = 0; answers && i < sizeof classes / sizeof *classes; i++) {
         *classes[i].class = (PyTypeObject *)PyObject_GetAttrString(answers, classes[i].name);
         if (!*classes[i].class) return false;
     }
-    if (!answers) return false;
+    if (!answers || !monotonic_ns) return false;
     Py_DECREF(answers);
     for (size_t i = 0; i < sizeof types / sizeof *types; i++) {
         PyObject *type = PyType_FromSpec(types[i].spec);

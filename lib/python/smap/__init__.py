@@ -10,12 +10,12 @@ smap` prints its version and where it lies.
 """
 
 from ._answers import Answer, Context, Counts, Fit, Generated, Mapping, Place, Source
-from ._cache import Maps, frame_urls
 from ._composing import compose_all
 from ._maps import SourceMap, compose, encode
 from ._smap import version as __version__
 from ._reported import Refused
-from ._traces import Rewriter
+from ._stores import AsyncMaps, Maps
+from ._traces import Rewriter, frame_urls
 
-__all__ = ["Answer", "Context", "Counts", "Fit", "Generated", "Mapping", "Maps", "Place", "Refused", "Rewriter", "Source", "SourceMap",
+__all__ = ["Answer", "AsyncMaps", "Context", "Counts", "Fit", "Generated", "Mapping", "Maps", "Place", "Refused", "Rewriter", "Source", "SourceMap",
            "__version__", "compose", "compose_all", "encode", "frame_urls"]

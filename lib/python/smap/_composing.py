@@ -24,7 +24,7 @@ def compose_all(outer: SourceMap, inners: Optional[Mapping[Union[str, int], Give
     on; it gives the map, or None where there is none. It is asked once for each name. A source is not followed where it is
     one of those that lead to it. What is read here stands at the name of its source where that is a URL. With `prune`
     sources and names that no mapping has are left out, and of equal ones all but the first; with `no_content` the contents
-    of the sources. A `SourceMap` that is given is copied, and stays open. Raises `Refused`, whose `url` is the source's name
+    of the sources. A `SourceMap` that is given stays open. Raises `Refused`, whose `url` is the source's name
     where its map is refused, or `MemoryError`."""
     if not isinstance(outer, SourceMap):
         raise TypeError(f"a SourceMap is composed, not {type(outer).__name__}")
@@ -77,9 +77,9 @@ def _ask(outer: SourceMap, places: _smap.Inners, load: Load) -> None:
 
 
 def _put(places: _smap.Inners, number: int, name: Optional[str], given: Given) -> None:
-    # Puts a map in the place of a source of this name. The place owns it, so a SourceMap is copied.
+    # Puts a map in the place of a source of this name. The place owns it, so a SourceMap is shared.
     if isinstance(given, SourceMap):
-        read = given._copied()
+        read = given._shared()
     else:
         read = SourceMap(given) if name is None else SourceMap._under(name, given)
     with read:

@@ -3,7 +3,7 @@
 import operator
 import os
 import sys
-from typing import TYPE_CHECKING, Any, List, Optional, Tuple, Union
+from typing import TYPE_CHECKING, Any, List, Optional, Tuple, Union, cast
 
 if TYPE_CHECKING:
     from array import array
@@ -67,6 +67,17 @@ def count(value: Any, what: str, most: int = MOST_LINES) -> int:
     return number
 
 
+def seconds(value: Any, what: str) -> Optional[float]:
+    """How many seconds something holds, or None for ever."""
+    if value is None:
+        return None
+    if isinstance(value, bool) or not isinstance(value, (int, float)):
+        raise TypeError(f"{what} is a number of seconds, not {_kind(value)}")
+    if not 0 <= value <= MOST:
+        raise ValueError(f"{what} is {value}: it is 0 to {MOST}")
+    return float(value)
+
+
 def file_bytes(data: Any, what: str) -> Held:
     """The bytes of a file: those that are given, which are not copied, a text in UTF-8, or those of the file at a path."""
     if isinstance(data, os.PathLike):
@@ -84,15 +95,6 @@ def path_hint(data: Any) -> str:
     """What is said of a text that is no JSON, where it looks like a path."""
     is_path = isinstance(data, str) and 0 < len(data) <= 4096 and "\n" not in data and "{" not in data
     return "  a str is the text of a map: `SourceMap.from_file` reads the file at a path\n" if is_path else ""
-
-
-def is_utf8(data: bytes) -> bool:
-    """Whether these bytes are a text."""
-    try:
-        data.decode()
-    except UnicodeDecodeError:
-        return False
-    return True
 
 
 def trace_bytes(data: Any) -> Held:
@@ -119,6 +121,13 @@ def text(value: Any, what: str) -> str:
     if not isinstance(value, str):
         raise TypeError(f"{what} is a str, not {_kind(value)}")
     return value
+
+
+def whole_url(value: Any, what: str) -> str:
+    """A URL or a prefix, which is no pattern."""
+    if text(value, what).startswith("*"):
+        raise ValueError(f"{what} that is a pattern")
+    return cast(str, value)
 
 
 def _bytes(data: Any, what: str) -> Held:

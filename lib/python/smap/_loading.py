@@ -1,140 +1,254 @@
-"""The maps that a loader gives, and texts that name their URLs with a query or a fragment."""
+"""The loop over a store: it is asked, and where it does not know what map a URL has, that is loaded and put, and it goes on."""
 
-import re
-from typing import Callable, Dict, Iterable, List, NamedTuple, Tuple, Union
+import time
+from contextvars import ContextVar
+from threading import Lock, RLock
+from typing import Any, Awaitable, Callable, Coroutine, Dict, Iterable, List, Optional, Tuple, TypeVar, Union, cast
 
-from . import _smap
+from . import _given, _smap
 from ._answers import TextRefusal
-from ._given import Held
-from ._reported import refused_text
-from ._urls import MOST_BYTES, beside_places, cut, is_location
+from ._maps import SourceMap
+from ._reported import refused_text, refused_url
+
+# What a loader gives, and what takes a map under a URL.
+Given = Union[_given.FileData, SourceMap]
+Load = Callable[[str], Optional[Given]]
+AsyncLoad = Callable[[str], Awaitable[Optional[Given]]]
+Told = Optional[Callable[[str, Exception], object]]
+Seconds = Optional[float]
+_Found = TypeVar("_Found")
+
+# So many of the maps that were refused are remembered, and so many URLs whose maps failed.
+_MOST_REFUSALS, _MOST_FAILURES = 100, 10000
+# What fails again and again is asked for once in so many seconds.
+_LONGEST = 600.0
+# A text is rewritten in pieces of so many bytes, between which others have the store.
+_PIECE = 1 << 18
 
 
-class Part(NamedTuple):
-    """A part of a text, without which a URL has a map, and the place without it."""
+class Flight:
+    """A load that is under way, for which threads wait. It waits for others that its loader asks for."""
 
-    begin: int
-    end: int
-    place: bytes
+    def __init__(self, owner: "Loading") -> None:
+        self.owner, self.holds, self.may_be_there = owner, True, True
+        self.waits: Tuple[Flight, ...] = ()
+        self._lock = Lock()
+        self._lock.acquire()
 
+    def land(self) -> None:
+        self._lock.release()
 
-# A text that was rewritten, with how many lines, frames or places, mapped and hidden ones it had.
-Rewritten = Tuple[bytes, Tuple[int, int, int, int]]
-# Rewrites a text to at most so many bytes.
-Rewrite = Callable[[Held, int], Union[Rewritten, TextRefusal]]
+    async def landed(self) -> None:
+        with self._lock:
+            pass
 
-# So many bytes before a URL and behind it say whether it is that of a place: a colour, and the line and the column.
-_BEFORE, _BEHIND = 48, 24
-_POSITION = re.compile(rb":[0-9]+:[0-9]+")
+    def leads_to(self, others: "Tuple[Flight, ...]") -> bool:
+        return self in others or any(flight.leads_to(others) for flight in self.waits)
 
+    def tie(self, around: "Tuple[Flight, ...]") -> None:
+        """What is within others, the innermost last, waits for this one. Raises where this one waits for them."""
+        with _tying:
+            if self.leads_to(around):
+                raise RuntimeError("what a loader asks for waits for itself")
+            around[-1].waits += (self,)
 
-def ask(known: Dict[bytes, bool], held: Held, anywhere: bool, is_of_pattern: Callable[[bytes], bool],
-        is_loaded: Callable[[bytes], bool]) -> List[Part]:
-    """Asks for the map of each URL that the text names, without query and fragment, and that is not known and has not that of
-    a pattern. Gives the parts without which URLs have a map."""
-    parts: List[Part] = []
-    for url, starts in _named(held, anywhere):
-        if known.get(url):
-            continue
-        short = cut(url)
-        if short not in known:
-            if not is_location(short) or is_of_pattern(url):
-                continue
-            # It may look up in the same maps itself.
-            known[short] = False
-            known[short] = is_loaded(short)
-        if not anywhere or short == url or not known[short]:
-            # The library itself leaves the query of a frame's URL out.
-            continue
-        for start in starts:
-            end = start + len(url)
-            position = _POSITION.match(bytes(held[end:end + _BEHIND]))
-            if position:
-                parts.append(Part(start + len(short), end, short + position.group()))
-    return sorted(parts)
+    def untie(self, around: "Tuple[Flight, ...]") -> None:
+        with _tying:
+            waits = list(around[-1].waits)
+            waits.remove(self)
+            around[-1].waits = tuple(waits)
 
 
-def _named(held: Held, anywhere: bool) -> Iterable[Tuple[bytes, List[int]]]:
-    if not anywhere:
-        return _smap.frame_urls(held).items()
-    return ((bytes(held[begin:end]), [begin]) for begin, end in beside_places(held))
+# The loads within which this thread or task is. What waits for what is changed behind the lock.
+_within: "ContextVar[Tuple[Flight, ...]]" = ContextVar("_within", default=())
+_tying = RLock()
 
 
-def cut_and_rewritten(rewrite: Rewrite, held: Held, parts: List[Part], most: int) -> Rewritten:
-    """The rewritten text of at most so many bytes, where each of the parts is left out that keeps a place from being replaced."""
-    if not parts:
-        return made(rewrite, held, most)
-    text = bytes(held)
-    # Without all parts no more comes out than without some. What is made to find these is longer by what stays of the text at most.
-    shortest = made(rewrite, _without(text, parts), most)
-    more = most + 2 * len(text)
-    whole = _answered(made(rewrite, text, more))
-    left = _with_original(rewrite, parts, more)
-    short = shortest if len(left) == len(parts) else made(rewrite, _without(text, left), most)
-    if _answered(short) - whole != len(left):
-        # A place may be none where it stands.
-        short = made(rewrite, _without(text, _needless(rewrite, text, left, more)), most)
-    rewritten, (lines, places, mapped, hidden) = short
-    if len(left) < len(parts):
-        # What has a map and no original is a place, too.
-        places = shortest[1][1]
-    return rewritten, (lines, places, mapped, hidden)
+def driven(steps: "Coroutine[Any, Any, _Found]") -> _Found:
+    """What steps come to that wait for no event loop."""
+    try:
+        steps.send(None)
+    except StopIteration as done:
+        return cast(_Found, done.value)
+    raise RuntimeError("what threads call awaits")
 
 
-# Those of the parts whose places are replaced or hidden, in lines of their own with an empty one behind each.
-def _with_original(rewrite: Rewrite, parts: List[Part], most: int) -> List[Part]:
-    if not parts:
-        return []
-    lines = [part.place for part in parts]
-    reported = made(rewrite, b"".join(line + b"\n\n" for line in lines), most)
-    count = _answered(reported)
-    if count in (0, len(parts)):
-        return parts if count else []
-    found = iter(reported[0].split(b"\n"))
-    changed: List[Part] = []
-    others: List[Part] = []
-    for part, line in zip(parts, lines):
-        got = next(found)
-        (others if got == line else changed).append(part)
-        if got:
-            next(found)
-    if len(changed) == count:
-        return changed
-    # What is replaced by the same text is known by its number alone.
-    middle = 0 if changed else len(others) // 2
-    some = (_with_original(rewrite, half, most) for half in (others[:middle], others[middle:]))
-    return sorted(sum(some, changed))
+class Loading(_smap.Store):
+    """Maps that are named, and a store of those that are loaded."""
+
+    _flight, _awaits = Flight, False
+    # Whether what is known of a URL holds still, where that may change.
+    _is_fresh: Optional[Callable[[str], bool]] = None
+
+    def __init__(self, load: Optional[Callable[[str], Any]], most: int, refused: Told, paths: bool, max_names: int,
+                 retry_after: Seconds, none_for: Seconds) -> None:
+        for what, call in (("load", load), ("refused", refused)):
+            if call is not None and not callable(call):
+                raise TypeError(f"{what} is a function, not {type(call).__name__}")
+        self._most_names = _given.count(max_names, "max_names", _given.MOST_BYTES)
+        self._retry_after, self._none_for = _given.seconds(retry_after, "retry_after"), _given.seconds(none_for, "none_for")
+        self._load, self._refused, self._paths = load, refused, bool(paths)
+        self._flights: Dict[str, Flight] = {}
+        self._failures: Dict[str, int] = {}
+        self._changing = RLock()
+        self.refusals: List[Tuple[str, Exception]] = []
+        self.counts: Dict[str, int] = {}
+        self._bound(most)
+
+    def _read(self, url: str, given: Given) -> SourceMap:
+        source_map = SourceMap._under(url, given, self._paths, self._most_names)
+        why = _smap.url_refusal(url, source_map)
+        if why is not None:
+            raise refused_url(why, url)
+        return source_map
+
+    async def _made(self, url: str, given: Given) -> SourceMap:
+        return self._read(url, given)
+
+    async def _rest(self) -> None:
+        """Between the pieces of a text."""
+
+    # What a call answers that gives a URL instead where the map of that is wanted.
+    async def _found(self, url: str, call: "Callable[[], Union[_Found, str, None]]") -> Optional[_Found]:
+        if self._is_fresh is not None:
+            await self._renew([url])
+        found = call()
+        while isinstance(found, str):
+            if not await self._loaded(found):
+                return None
+            found = call()
+        return found
+
+    async def _rewritten(self, trace: _given.Trace, hide_ignored: bool, anywhere: bool, strip_ansi: bool, max_output: int) -> bytes:
+        most, text = _given.count(max_output, "max_output", _given.MOST_BYTES), memoryview(_given.trace_bytes(trace))
+        if hide_ignored and anywhere:
+            raise ValueError("hide_ignored with anywhere")
+        if any(flight.owner is self for flight in _within.get()):
+            raise RuntimeError("rewrite is called from within load or refused of the same maps")
+        if self._is_fresh is not None:
+            await self._renew(_smap.frame_urls(_stripped(text) if strip_ansi else text, bool(anywhere)))
+        text = text if text.ndim == 1 else text.cast("B")
+        rewriting = _smap.Rewriting(bool(hide_ignored), bool(anywhere), bool(strip_ansi), self._load is not None, most)
+        now, done = time.monotonic_ns(), cast(List[bytes], [])
+        for begin in range(0, len(text) + 1, _PIECE):
+            rewriting.give(text[begin:begin + _PIECE])
+            if begin + _PIECE > len(text):
+                rewriting.give(None)
+            wanted = rewriting.run(self, now)
+            while isinstance(wanted, str):
+                await self._loaded(wanted)
+                wanted = rewriting.run(self, now)
+            if isinstance(wanted, TextRefusal):
+                raise refused_text(*wanted) if wanted.number else ValueError("* with anywhere")
+            done.append(rewriting.take())
+            await self._rest()
+        lines, places, mapped, hidden = rewriting.counts()
+        self.counts = {"lines": lines, "places": places, "mapped": mapped} if anywhere else {
+            "lines": lines, "frames": places, "mapped": mapped, "hidden": hidden}
+        return b"".join(done)
+
+    # Has the map loaded that is to be put under a URL, or waits for whom has. Gives whether there may be one then.
+    async def _loaded(self, key: str) -> bool:
+        if self._load is None:
+            return False
+        mine, around = self._flight(self), _within.get()
+        flight = self._flights.setdefault(key, mine)
+        if around:
+            flight.tie(around)
+        try:
+            if flight is mine:
+                await self._fly(key, mine, False)
+            else:
+                await flight.landed()
+        finally:
+            if around:
+                flight.untie(around)
+        return flight.may_be_there
+
+    # Has those maps loaded again that are not what they were.
+    async def _renew(self, urls: Iterable[str]) -> None:
+        for key in map(self._key, urls):
+            mine = self._flight(self)
+            if self._is_fresh is not None and not self._is_fresh(_cut(key)) and self._flights.setdefault(key, mine) is mine:
+                await self._fly(key, mine, True)
+
+    # Asks the loader, outside of any lock: for what is known already only where it is to be loaded anew. What comes is put, if nothing
+    # else was put or discarded under the URL meanwhile.
+    async def _fly(self, key: str, mine: Flight, anew: bool) -> None:
+        url, is_over = _cut(key), False
+        found: Optional[SourceMap] = None
+        error: Optional[Exception] = None
+        token = _within.set((*_within.get(), mine))
+        try:
+            try:
+                if self._load is not None and (anew or not self._knows(key)):
+                    given = self._load(url)
+                    if self._awaits and given is not None:
+                        given = await given
+                    if given is not None:
+                        found = await self._made(url, given)
+                    is_over = True
+            except Exception as raised:
+                error, is_over = raised, True
+            finally:
+                try:
+                    with self._changing:
+                        del self._flights[key]
+                        mine.may_be_there = not is_over or not mine.holds or self._learned(key, found, error)
+                finally:
+                    mine.land()
+            if error is not None:
+                self._tell(url, error)
+        finally:
+            _within.reset(token)
+
+    # What is loaded under a URL now does not hold any more.
+    def _outdate(self, key: str) -> None:
+        flight = self._flights.get(key)
+        if flight is not None:
+            flight.holds = False
+
+    # Puts a map, or that there is none: for a time, which after each failure in a row is twice as long. Gives whether there is one:
+    # where a new one failed, the old one stays.
+    def _learned(self, key: str, found: Optional[SourceMap], error: Optional[Exception]) -> bool:
+        failures = self._failures.pop(key, 0)
+        if found is not None:
+            self._put(key, found, False)
+        elif error is None:
+            self._put_none(key, False, until_over(self._none_for))
+        elif not self._knows(key):
+            if len(self._failures) >= _MOST_FAILURES:
+                self._failures.clear()
+            self._failures[key], after = failures + 1, self._retry_after
+            self._put_none(key, True, until_over(after and max(after, min(after * 2.0 ** min(failures, 64), _LONGEST))))
+            return False
+        return found is not None or error is not None
+
+    def _tell(self, url: str, error: Exception) -> None:
+        if self._refused is not None:
+            self._refused(url, error)
+        elif len(self.refusals) < _MOST_REFUSALS:
+            # Tracebacks would hold the text.
+            held: Optional[BaseException] = error
+            while held is not None:
+                held.__traceback__, held = None, held.__context__
+            self.refusals.append((url, error))
 
 
-# Those of the parts without which a place more is replaced where it stands.
-def _needless(rewrite: Rewrite, text: bytes, parts: List[Part], most: int) -> List[Part]:
-    if not parts:
-        return []
-    begin, end = max(0, parts[0].begin - MOST_BYTES - _BEFORE), parts[-1].end + _BEHIND
-    moved = [part._replace(begin=part.begin - begin, end=part.end - begin) for part in parts]
-    cut_out = text[begin:end]
-    gained = _answered(made(rewrite, _without(cut_out, moved), most)) - _answered(made(rewrite, cut_out, most))
-    if gained == len(parts):
-        return parts
-    if gained <= 0 or len(parts) == 1:
-        return []
-    middle = len(parts) // 2
-    return _needless(rewrite, text, parts[:middle], most) + _needless(rewrite, text, parts[middle:], most)
+# A text without its control sequences.
+def _stripped(text: _given.Held) -> bytes:
+    bare, rewriting = _smap.Store(), _smap.Rewriting(False, False, True, False, _given.MOST_BYTES)
+    bare._bound(0)
+    rewriting.give(text)
+    rewriting.give(None)
+    rewriting.run(bare, 0)
+    return rewriting.take()
 
 
-def _without(text: bytes, parts: List[Part]) -> bytes:
-    ends = [0, *(part.end for part in parts)]
-    begins = [*(part.begin for part in parts), len(text)]
-    return b"".join(text[end:begin] for end, begin in zip(ends, begins))
+def _cut(url: str) -> str:
+    return url.partition("?")[0].partition("#")[0]
 
 
-def made(rewrite: Rewrite, held: Held, most: int) -> Rewritten:
-    reported = rewrite(held, most)
-    if isinstance(reported, TextRefusal):
-        raise refused_text(*reported)
-    return reported
-
-
-def _answered(reported: Rewritten) -> int:
-    _, (_, _, mapped, hidden) = reported
-    return mapped + hidden
+def until_over(seconds: Seconds) -> int:
+    """When so many seconds are over, in nanoseconds; or 0, which is never."""
+    return 0 if seconds is None else time.monotonic_ns() + max(1, int(seconds * 1e9))

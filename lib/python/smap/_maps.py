@@ -53,7 +53,11 @@ class SourceMap(_smap.Map):
         # The map that is given, or that of these bytes, which stands at the URL, or at none where that is no URL. With `paths` one
         # whose URL is an absolute path stands at none, and has its sources named by that.
         by_path = paths and _PATH.match(url) is not None
-        source_map = given if isinstance(given, SourceMap) else cls._standing(None if by_path else url, url, given, most_names)
+        if not isinstance(given, SourceMap):
+            source_map = cls._standing(None if by_path else url, url, given, most_names)
+        else:
+            # Who gave the map has its names as they are. They were within a bound already.
+            source_map = SourceMap(given.write(), max_names=_given.MOST_BYTES) if by_path else given
         if by_path:
             source_map._use_paths(url.encode(errors="surrogatepass"))
         return source_map
@@ -68,10 +72,6 @@ class SourceMap(_smap.Map):
                 raise
             self._take(held, None, 64, most_names, url, url)
         return self
-
-    def _copied(self) -> "SourceMap":
-        # The same map once more. Its names were within a bound already.
-        return SourceMap(self.write(), max_names=_given.MOST_BYTES)
 
     def _take(self, held: _given.Held, base: Optional[str], interval: int, most_names: int, name: Optional[str],
               url: Optional[str], hint: str = "") -> None:
@@ -182,20 +182,7 @@ def compose(outer: SourceMap, source: int, inner: SourceMap) -> bytes:
         if not isinstance(given, SourceMap):
             raise TypeError(f"a SourceMap is composed, not {type(given).__name__}")
     number = _given.index(source, "source")
-    if outer is inner:
-        return _composed_with_itself(outer, number)
-    text = _smap.compose(outer, number, inner)
+    text = _smap.compose(outer, number, inner._shared() if outer is inner else inner)
     if isinstance(text, int):
         raise refused_composition(text)
     return text
-
-
-def _composed_with_itself(source_map: SourceMap, source: int) -> bytes:
-    # No call takes one handle twice, so the map is written and read again.
-    try:
-        written = source_map.write()
-    except Refused:
-        # What it would come to has the same generated positions, and so is too large as well.
-        raise refused_composition(2 if source < source_map.counts.sources else 1) from None
-    with SourceMap(written, max_names=_given.MOST_BYTES) as copy:
-        return compose(source_map, source, copy)
