@@ -12,6 +12,8 @@ const MOST_FRAMES = 1000;
 const MOST_LINE = 500;
 const MOST_NUMBER = 2 ** 31;
 const MOST_CLIENTS = 64;
+// What is not there, or has failed, is looked for again after so many seconds, and a file for what is new in it.
+const LATE = 30;
 // A client that takes longer for a whole request, or for an answer, is left.
 const MILLISECONDS = 10000;
 
@@ -143,7 +145,7 @@ function main(prefix, folder, port = '8000', megabytes = '200') {
     service.refused += 1;
     console.error(`refused: ${url}: ${`${error.message}`.split('\n')[0]}`);
   };
-  service.maps = Maps.folder(prefix, folder, { maxBytes: Number(megabytes) * 2 ** 20, maxNames: MOST_NAMES, refused: tell });
+  service.maps = Maps.folder(prefix, folder, { maxBytes: Number(megabytes) * 2 ** 20, maxNames: MOST_NAMES, refused: tell, noneFor: LATE, freshFor: LATE });
   const [requestTimeout, headersTimeout, keepAliveTimeout] = Array(3).fill(MILLISECONDS);
   const times = { requestTimeout, headersTimeout, keepAliveTimeout, connectionsCheckingInterval: 500 };
   const server = http.createServer(times, (request, response) => answerRequest(service, request, response));

@@ -63,6 +63,13 @@ function count(value, what, most) {
   return value;
 }
 
+// Milliseconds of seconds, or null for what is for ever.
+function time(seconds, what, usual) {
+  if (seconds === undefined) return usual;
+  if (typeof seconds !== 'number' || !(seconds >= 0)) throw new TypeError(`\`${what}\` must be a number of seconds`);
+  return Number.isFinite(seconds) ? Math.min(Math.ceil(seconds * 1000), Number.MAX_SAFE_INTEGER) : null;
+}
+
 // Lines from 1 and columns from 0 in turn.
 function positions(value) {
   if (!isUint32Array(value)) throw new TypeError('`positions` must be a Uint32Array');
@@ -149,4 +156,4 @@ function options(value, ...known) {
   return value;
 }
 
-module.exports = { boolean, bytes, callable, column, count, line, lineFromZero, mapBytes, mapUrl, options, positions, reading, source, steady, text, utf8 };
+module.exports = { boolean, bytes, callable, column, count, line, lineFromZero, mapBytes, mapUrl, options, positions, reading, source, steady, text, time, utf8 };

@@ -268,7 +268,15 @@ export interface Refusal {
   error: unknown;
 }
 
-export interface TableOptions extends NamesOption {
+/** In seconds, or Infinity for ever. */
+interface TimeOptions {
+  /** What failed is asked for again after so long, 30 if not given; twice as long after each failure in a row, up to 600. */
+  retryAfter?: number;
+  /** What has no map is asked for again after so long, and never if it is not given. */
+  noneFor?: number;
+}
+
+export interface TableOptions extends NamesOption, TimeOptions {
   /** Gives the map of a URL or path that has none here, without query and fragment. It is asked once for each, when a frame or a
    * place first names it. */
   load?: (url: string) => Given | null | undefined;
@@ -293,9 +301,10 @@ export class Table {
   [Symbol.dispose](): void;
 }
 
-export interface MapsOptions extends NamesOption {
+export interface MapsOptions extends NamesOption, TimeOptions {
   /** As a table's. One of the two is wanted. */
   load?: (url: string) => Given | null | undefined;
+  /** Is called for a URL by one that waits, and the others wait with it. A map of more than 1 MB is read by another thread. */
   loadAsync?: (url: string) => Promise<Given | null | undefined>;
   /** For how many bytes of memory maps count at most, or one by itself. */
   maxBytes: number;
@@ -306,11 +315,17 @@ export interface MapsOptions extends NamesOption {
   paths?: boolean;
 }
 
-/** Maps by URL within a bound of memory: what was longest not asked for goes first. */
+export interface FolderOptions extends Pick<MapsOptions, 'maxBytes' | 'refused' | 'paths' | 'maxNames' | 'retryAfter' | 'noneFor'> {
+  /** A file is looked at again after so many seconds, and read where it has changed; where that is refused, its map stays. If it is not
+   * given, it is never looked at again. */
+  freshFor?: number;
+}
+
+/** Maps by URL within a bound of memory: what was longest not asked for goes first. A TraceMap that is given stays open. */
 export class Maps {
   constructor(options: MapsOptions);
   /** Those of URLs with this prefix, which ends in `/`, in a folder: that of PREFIXjs/app.js is js/app.js.map. */
-  static folder(prefix: string, root: string, options: Pick<MapsOptions, 'maxBytes' | 'refused' | 'paths' | 'maxNames'>): Maps;
+  static folder(prefix: string, root: string, options: FolderOptions): Maps;
   maxBytes: number;
   /** For how many bytes what is kept counts, and how many maps are kept. */
   readonly nbytes: number;
@@ -324,7 +339,7 @@ export class Maps {
   context(url: string, index: number, line: number, before?: number, after?: number): Context | null;
   /** Puts a map under this very URL. */
   add(url: string, map: Given): void;
-  /** Drops what is kept of a URL. */
+  /** Drops what is known of a URL, so that it is asked for anew. */
   discard(url: string): void;
   /** Asks for the maps of these URLs that are not known. */
   load(urls: Iterable<string>): Promise<void>;
@@ -338,7 +353,7 @@ export interface RewriteOptions {
   anywhere?: boolean;
   stripAnsi?: boolean;
   /** So many bytes may come out, 1,073,741,824 if not given. Where it would be more the text is refused, X5, and nothing comes
-   * out. In a stream this is for each part that is rewritten at once: the whole lines of what is written to it. */
+   * out. In a stream this is for each part that is written to it. */
   maxOutput?: number;
 }
 
@@ -349,7 +364,7 @@ export function rewriteAsync(maps: Maps, trace: string | Uint8Array, options?: R
 export function frameUrls(trace: string | Uint8Array, options?: { anywhere?: boolean }): string[];
 
 /** Rewrites what is written to it, line by line. At most an unfinished line is held back. The table stays open. A map that is not
- * read for an error is an event `refused`, or where none listens told as the table tells it. */
+ * read for an error is an event `refused`, or where none listens told as the table tells it. It waits for what `loadAsync` gives. */
 export class RewriteStream extends Transform {
   constructor(table: Table | Maps, options?: RewriteOptions);
   on(event: 'refused', listener: (url: string, error: unknown) => void): this;

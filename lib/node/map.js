@@ -30,10 +30,10 @@ function read(bytes, base, { interval, maxNames }, url) {
   return map;
 }
 
-// The map of these bytes at a base; where that is no URL, by the other function.
-function readOr(other, bytes, base, how, url) {
+// The map at a base, as it is read; where that is no URL, by the other function.
+function readOr(other, readAtBase, base) {
   try {
-    return read(bytes, base, how, url);
+    return readAtBase(base);
   } catch (refused) {
     if (refused instanceof Refused && refused.number === BAD_BASE) return other(refused);
     throw refused;
@@ -43,19 +43,30 @@ function readOr(other, bytes, base, how, url) {
 // The map of these bytes at its URL, or at none where that is no URL, or where there is none.
 function standingAt(bytes, url, how = USUALLY) {
   if (url === null || url === undefined) return read(bytes, '', how);
-  return readOr(() => read(bytes, '', how, url), bytes, url, how, url);
+  return readOr(() => read(bytes, '', how, url), (base) => read(bytes, base, how, url), url);
 }
 
 // The map that is given under a URL, as a handle: a TraceMap's own, or that of these bytes, which stands there. With `paths` one whose URL
-// is an absolute path stands at none, and has its sources named by that.
+// is an absolute path stands at none, and has its sources named by that; where others hold the map, one that is read again.
 function standingUnder({ url, paths, how }, map) {
-  const isRead = map instanceof TraceMap;
   const isByPath = paths && PATH.test(url);
-  const handle = isRead ? open(map) : standingAt(given.mapBytes(map), isByPath ? null : url, how);
-  if (!isByPath) return handle;
-  addon.usePaths(handle, Buffer.from(url));
-  if (isRead) forget(map);
+  if (!(map instanceof TraceMap)) return named(standingAt(given.mapBytes(map), isByPath ? null : url, how), isByPath && url);
+  const handle = named(open(map), isByPath && url);
+  if (isByPath) forget(map);
   return handle;
+}
+
+// The map with its sources named by this URL, if that is one.
+function named(handle, url) {
+  if (!url || addon.usePaths(handle, Buffer.from(url))) return handle;
+  return named(read(addon.write(handle), '', USUALLY), url);
+}
+
+function outlineIn(bytes, map) {
+  const outline = outlineOf(bytes);
+  // The text of no lines is that of one line without segments.
+  if (Array.isArray(map.mappings) && map.mappings.length === 0) outline.least = 0;
+  return outline;
 }
 
 // The map of these bytes at a URL or a path, or at none.
@@ -63,7 +74,7 @@ function readAt(bytes, base, how) {
   return readOr((refused) => {
     if (!isPath(base)) throw refused;
     return readAtPath(bytes, base, how);
-  }, bytes, base, how, base || undefined);
+  }, () => read(bytes, base, how, base || undefined), base);
 }
 
 // No call of the library takes a path, so the names of the sources are put into the map.
@@ -80,6 +91,22 @@ class Under {
   constructor(url, paths, how) {
     [this.url, this.paths, this.how] = [url, paths, how];
   }
+}
+
+// What a TraceMap is made of: a handle, what else the text has, and how many bytes; and the TraceMap whose handle it is, if it is one's.
+class Made {
+  constructor(handle, outline, bytes, map) {
+    [this.handle, this.outline, this.bytes, this.map] = [handle, outline, bytes, map];
+  }
+
+  get size() {
+    return sizeOf(this.handle, this.outline);
+  }
+}
+
+// About how many bytes of memory a map takes with its index of originals, if that was made, and what else its text has.
+function sizeOf(handle, { sources = '', sourceRoot = '', ignoreList = '' }) {
+  return addon.size(handle) + sources.length + sourceRoot.length + ignoreList.length;
 }
 
 // The names of the sources of a map.
@@ -207,13 +234,19 @@ class TraceMap {
       open(map);
       return map;
     }
+    if (map instanceof Made) {
+      this.#begin(map);
+      return;
+    }
     const bytes = given.mapBytes(map);
     const isUnder = mapUrl instanceof Under;
     const handle = isUnder ? standingUnder(mapUrl, bytes) : readAt(bytes, given.mapUrl(mapUrl), given.reading(options));
-    const outline = outlineOf(bytes);
-    // The text of no lines is that of one line without segments.
-    if (Array.isArray(map.mappings) && map.mappings.length === 0) outline.least = 0;
-    this.#inner = { handle, outline, bytes: bytes.length, made: new Map(), sourceTexts: [], nameTexts: [] };
+    const outline = outlineIn(bytes, map);
+    this.#begin({ handle, outline, bytes: bytes.length });
+  }
+
+  #begin({ handle, outline, bytes }) {
+    this.#inner = { handle, outline, bytes, made: new Map(), sourceTexts: [], nameTexts: [] };
     Object.defineProperties(this, own);
   }
 
@@ -228,7 +261,7 @@ class TraceMap {
 
   // About how many bytes of memory the map takes.
   get nbytes() {
-    return addon.size(open(this));
+    return sizeOf(open(this), this.#inner.outline);
   }
 
   // Where a generated position comes from, the line from 1 and the column from 0: {source, line, column, name, ignored, index}, or null
@@ -321,8 +354,20 @@ class TraceMap {
   }
 }
 
+// A line of the source of this number, from 0, with up to so many lines before and after it, at most 65,535 each: {before, line, after}, or
+// null where its content has no such line. Of a line those characters are given that stand in its first 65,536 bytes.
+function sourceContext(map, index, line, before = 2, after = 2) {
+  const [front, back] = [given.count(before, 'before', 65535), given.count(after, 'after', 65535)];
+  const lines = addon.sourceLines(open(map), given.source(index), given.line(line), front, back);
+  if (lines === null) return null;
+  const at = lines.shift();
+  return { before: lines.slice(0, at), line: lines[at], after: lines.slice(at + 1) };
+}
+
 module.exports = {
   DISPOSE,
+  Made,
+  PATH,
   TraceMap,
   USUALLY,
   Under,
@@ -330,10 +375,14 @@ module.exports = {
   empty,
   encodedMappings,
   linesOf,
+  named,
   namesOf,
   once,
   open,
+  outlineIn,
   read,
+  readOr,
+  sourceContext,
   standingAt,
   standingUnder,
   withMappings,

@@ -14,8 +14,8 @@ const numbersTo = (count) => Array.from({ length: count }, (_, index) => index);
 const textOf = (bytes, [from, to]) => bytes.toString('utf8', from, to);
 
 // Where the values stand of the object that begins at this byte, by their keys. What is null is as not there.
-function members(bytes, at) {
-  const [parts, found] = [addon.members(bytes, at), new Map()];
+function members(bytes, at, parts = addon.members(bytes, at)) {
+  const found = new Map();
   for (let i = 0; i < parts.length; i += 4) {
     const key = bytes.toString('latin1', parts[i] + 1, parts[i + 1] - 1);
     const value = [parts[i + 2], parts[i + 3]];
@@ -67,9 +67,10 @@ function linesOfSections(bytes, at) {
 }
 
 // What the text of a map has: how many lines at least, and how many behind its last segment. Of a regular map also its sources,
-// its root and its list of ignored sources, as JSON where they are there, and how many contents there are.
-function outlineOf(bytes) {
-  const map = members(bytes, begin(bytes));
+// its root and its list of ignored sources, as JSON where they are there, and how many contents there are. Where the members stand, and
+// how many contents, may be known.
+function outlineOf(bytes, parts, count) {
+  const map = members(bytes, begin(bytes), parts);
   const sections = map.get('sections');
   if (sections) return { isIndex: true, ...linesOfSections(bytes, sections[0]) };
   const text = (key) => map.get(key) && textOf(bytes, map.get(key));
@@ -81,8 +82,16 @@ function outlineOf(bytes) {
     sources: text('sources'),
     sourceRoot: text('sourceRoot'),
     ignoreList: text('ignoreList') || text('x_google_ignoreList'),
-    contents: contents && addon.members(bytes, contents[0]).length / 4,
+    contents: contents && (count || addon.members(bytes, contents[0]).length / 4),
   };
 }
 
-module.exports = { numbersTo, outlineOf, renamed };
+// The same of what the library's addon has found.
+function outlineFrom(text) {
+  const { behind, contents, ...values } = JSON.parse(text);
+  const outline = { isIndex: false, least: 1, behind, contents };
+  for (const [key, value] of Object.entries(values)) outline[key] = JSON.stringify(value);
+  return outline;
+}
+
+module.exports = { numbersTo, outlineFrom, outlineOf, renamed };

@@ -28,21 +28,25 @@ const shown = (url) =>
 // it is below that and else the most, the segment's column, and sentences.
 function why(bytes, numbers) {
   const reported = new Float64Array(4);
-  const sentences = addon.refusalExplain(bytes, numbers, reported);
+  return reason(reported, addon.refusalExplain(bytes, numbers, reported));
+}
+
+// The same of the numbers and the sentences of the library.
+function reason(reported, sentences) {
   if (sentences === null) return {};
   const [value, least, most, column] = Array.from(reported, (n) => (Number.isNaN(n) ? undefined : n));
   return { value, limit: value < least ? least : most, column, explanation: sentences.toString() || undefined };
 }
 
-// Why the map of these bytes is refused at this base, by the numbers of the library.
-function refusedMap(bytes, numbers, base, url) {
+// Why the map of these bytes is refused at this base, by the numbers of the library, and what is known of that.
+function refusedMap(bytes, numbers, base, url, known = () => why(bytes, numbers)) {
   const [number] = numbers;
   if (number === BAD_BASE || number === LONG_BASE) {
     return new Refused(`the base is ${number === LONG_BASE ? 'too long' : 'no URL'}: ${shown(base)}`, [...numbers], url);
   }
   const text = addon.refusalText(numbers);
   const line = `refused: ${url === undefined ? '' : `${url}: `}${text ? text.toString() : number}`;
-  return new Refused(line, [...numbers], url, why(bytes, numbers));
+  return new Refused(line, [...numbers], url, known());
 }
 
 // Why no bytes are counted of a generated file.
@@ -87,6 +91,7 @@ function refusedEncoding([number, mapping], numbers) {
 module.exports = {
   BAD_BASE,
   Refused,
+  reason,
   refusedComposition,
   refusedEncoding,
   refusedGenerated,

@@ -2,12 +2,9 @@
 // Stack traces and other texts, rewritten over a table of maps.
 const addon = require('./addon.js');
 const given = require('./given.js');
-const { ask, askFor, cutAndRewritten } = require('./loading.js');
-const { DISPOSE, TraceMap, Under, empty, standingUnder } = require('./map.js');
-const { refusedText, refusedUrl } = require('./refused.js');
-
-// What a look-up gives.
-const placeOf = (source, line, column, name, ignored, index) => ({ source, line, column, name, ignored, index });
+const { DISPOSE, TraceMap, empty, standingUnder } = require('./map.js');
+const { refusedUrl } = require('./refused.js');
+const { Store } = require('./store.js');
 
 // So many of the maps that were refused are remembered.
 const MOST_REFUSALS = 100;
@@ -25,63 +22,49 @@ class Told {
     if (this.refused) this.refused(url, error);
     else if (this.refusals.length < MOST_REFUSALS) this.refusals.push({ url, error });
   }
+
+  // Where a place in the file of a URL comes from, the line from 1 and the column from 0: {source, line, column, name, ignored, index}, or
+  // null where it has no map, or that no original.
+  lookUp(url, line, column) {
+    return this.inner.lookUp(given.text(url, 'url'), line, column);
+  }
 }
 
 // Maps, each under the URL that frames name: an object or pairs of a URL and a map's text, Uint8Array or TraceMap. A
 // TraceMap that is given is closed: the table has it then. `load` is asked for the map of each URL or path that is not among
 // them, without query and fragment, once, when a frame or a place first names it, and gives null or undefined where there is
 // none. What it throws, and why its map is refused, is told to `refused`, or else kept in `refusals`, of which there are 100
-// at most; the frames stay. A URL that begins with `*` is a pattern: its map is that of each URL that ends with the text behind it, where
-// a piece of the URL begins, with or without query and fragment, if no map is under the URL; of several the longest text decides. With
-// `paths` relative sources go on from the folder of a URL that is an absolute path, as node prints them. `maxNames` is for each
-// map that is read here. It is freed as a TraceMap is.
+// at most; the frames stay, and it is asked again after a time. A URL that begins with `*` is a pattern: its map is that of each URL that
+// ends with the text behind it, where a piece of the URL begins, with or without query and fragment, if no map is under the URL; of several
+// the longest text decides. With `paths` relative sources go on from the folder of a URL that is an absolute path, as node prints them.
+// `maxNames` is for each map that is read here. It is freed as a TraceMap is.
 class Table extends Told {
   constructor(maps, options) {
-    const { load, refused, paths = false, maxNames } = given.options(options, 'load', 'refused', 'paths', 'maxNames');
-    super(refused);
-    this.reading = given.reading({ maxNames });
-    this.paths = given.boolean(paths, 'paths');
+    const words = given.options(options, 'load', 'refused', 'paths', 'maxNames', 'retryAfter', 'noneFor');
+    super(words.refused);
+    given.reading({ maxNames: words.maxNames });
     if (typeof maps !== 'object' || maps === null) throw new TypeError('`maps` must be an object or pairs of a URL and a map');
-    this.load = given.callable(load, 'load');
-    // Whether URLs that were named have a map here, by a character for each of their bytes.
-    this.known = new Map();
-    this.hasPatterns = false;
     this.counts = null;
-    this.handle = addon.newTable();
-    for (const [key, map] of maps[Symbol.iterator] ? maps : Object.entries(maps)) {
-      const url = given.text(key, 'URL');
-      const bytes = given.utf8(url, '`URL`');
-      this.put(url, map);
-      this.known.set(bytes.toString('latin1'), true);
-    }
+    this.inner = new Store(this, { ...words, isNamed: true, came: (url, { map }) => map && map.close() }, Number.MAX_SAFE_INTEGER);
+    for (const [url, map] of maps[Symbol.iterator] ? maps : Object.entries(maps)) this.#put(given.text(url, 'URL'), map);
   }
 
   // Puts a map into the table.
-  put(url, map) {
-    const handle = standingUnder(new Under(url, this.paths, this.reading), map);
-    const reported = addon.add(open(this), Buffer.from(url), handle);
+  #put(url, map) {
+    const bytes = given.utf8(url, '`URL`');
+    const reported = addon.add(this.inner.open, bytes, standingUnder(this.inner.under(url), map));
     if (typeof reported === 'number') throw refusedUrl(reported, url);
     if (map instanceof TraceMap) empty(map);
-    this.hasPatterns = this.hasPatterns || url.startsWith('*');
   }
 
-  // Whether a URL, which has a character for each byte, and under which there is no map, has that of a pattern.
-  isOfPattern(url) {
-    return this.hasPatterns && addon.tableHas(open(this), Buffer.from(url, 'latin1'));
-  }
-
-  // Where a place in the file of a URL comes from, the line from 1 and the column from 0, by the map under it, or else under it without
-  // query and fragment, or else of a pattern: {source, line, column, name, ignored, index}, or null. The loader is asked as for a frame.
   lookUp(url, line, column) {
-    const bytes = given.utf8(given.text(url, 'url'), '`url`');
-    const named = bytes.toString('latin1');
-    if (this.load && !this.known.get(named)) askFor(this, named);
-    return addon.tableLookUp(open(this), bytes, given.line(line), given.column(column), placeOf);
+    given.utf8(given.text(url, 'url'), '`url`');
+    return super.lookUp(url, line, column);
   }
 
   close() {
-    if (this.handle) addon.closeTable(this.handle);
-    this.handle = undefined;
+    if (this.inner.handle) addon.closeTable(this.inner.handle);
+    this.inner.handle = undefined;
   }
 
   [DISPOSE]() {
@@ -89,19 +72,10 @@ class Table extends Told {
   }
 }
 
-function open(table) {
-  if (!(table instanceof Table)) throw new TypeError('a Table is wanted');
-  if (!table.handle) throw new Error('the table is closed');
-  return table.handle;
-}
-
-// Whether these are Maps, which have tables of their own.
-const areMaps = (table) => table instanceof Told && typeof table.rewritten === 'function';
-
-// A table that is open, or Maps.
-function checked(table) {
-  if (!areMaps(table)) open(table);
-  return table;
+// What is known of URLs by a table that is open, or by Maps.
+function storeOf(table) {
+  if (!(table instanceof Told)) throw new TypeError('a Table is wanted');
+  return table.inner.open && table.inner;
 }
 
 // What `rewrite` and a stream are asked: whether lines of ignored sources are hidden, whether places anywhere are rewritten,
@@ -115,37 +89,23 @@ function rewriting(options) {
   return { hide, places, strip: given.boolean(stripAnsi, 'stripAnsi'), most };
 }
 
-// The bytes without control sequences.
-function stripped(bytes) {
-  const text = addon.stripped(bytes);
-  if (text === null) throw refusedText();
-  return text;
-}
-
-// The text of these bytes, and how many lines, frames or places it had, and how many were mapped and hidden. What is named is looked for
-// in what is read.
-function rewritten(table, bytes, how, tell = (url, error) => table.tell(url, error)) {
-  const read = how.strip ? stripped(bytes) : bytes;
-  if (areMaps(table)) return table.rewritten(read, how);
-  open(table);
-  if (how.places && table.known.has('*')) throw new Error('`*` with `anywhere`');
-  const asks = Boolean(table.load || table.isCut);
-  const parts = asks ? ask(table, read, how.places, tell) : [];
-  return cutAndRewritten(open(table), read, parts, { ...how, cut: asks || table.hasPatterns });
-}
-
 function counted([lines, frames, mapped, hidden], { places }) {
   return places ? { lines, places: frames, mapped } : { lines, frames, mapped, hidden };
+}
+
+// A text that comes whole.
+function wholePart(bytes, { most }) {
+  return { bytes, most, isLast: true, lines: 0 };
 }
 
 // The trace with each frame that has an original in its place, as a Buffer; with `anywhere` each place URL:line:column,
 // wherever it stands. `table.counts` then says how many lines, frames or places it had, and how many were mapped and hidden.
 function rewrite(table, trace, options) {
-  checked(table);
+  const store = storeOf(table);
   const how = rewriting(options);
-  const { text, numbers } = rewritten(table, given.bytes(trace, 'trace'), how);
+  const { text, numbers } = store.rewritten(store.begun(how), wholePart(given.bytes(trace, 'trace'), how));
   table.counts = counted(numbers, how);
   return text;
 }
 
-module.exports = { Table, Told, checked, counted, rewrite, rewriting, rewritten, stripped };
+module.exports = { Table, Told, counted, rewrite, rewriting, storeOf, wholePart };

@@ -137,8 +137,7 @@ function detached() {
   refuses('TypeError', () => addon.fit(handle, own(1), numbers()), /Float64Array/);
   refuses('TypeError', () => addon.refusalText(numbers()), /Float64Array/);
   refuses('TypeError', () => addon.refusalExplain(own(1), numbers(), new Float64Array(4)), /Float64Array/);
-  refuses('TypeError', () => addon.nextFrameUrl(own(1), numbers()), /Float64Array/);
-  refuses('TypeError', () => addon.nextFrameUrl(bytes(), Float64Array.of(0, 0, 1)), /no byte/);
+  same([...addon.locations(bytes(), false), ...addon.locations(bytes(), true)], []);
   refuses('TypeError', () => addon.encode(new Uint32Array(8), numbers()), /Float64Array/);
   refuses('TypeError', () => addon.encode(new Uint32Array(new SharedArrayBuffer(32)), new Float64Array(2)), /shared/);
   same(String(addon.encode(gone(new Uint32Array(8)), new Float64Array(2))), '');
@@ -146,7 +145,12 @@ function detached() {
   same(map.bytesBySource(bytes()), { sources: [0], unmapped: 0 });
   same([...addon.members(bytes(), 0)], []);
   const table = new smap.Table({ 'b.js': read() });
-  refuses('TypeError', () => addon.rewrite(table.handle, own(1), false, false, false, 0, numbers()), /Float64Array/);
+  const rewriting = addon.newRewriting(false, false, false, false, 0);
+  same(addon.give(rewriting, bytes(), 0, true), true);
+  refuses('TypeError', () => addon.run(rewriting, table.inner.handle, numbers()), /Float64Array/);
+  refuses('TypeError', () => addon.tableCounts(table.inner.handle, numbers()), /Float64Array/);
+  same([addon.run(rewriting, table.inner.handle, new Float64Array(4)), String(addon.takeText(rewriting))], [null, '']);
+  refuses('Error', () => addon.takeText(rewriting), 'the rewriting is closed');
   same([String(smap.rewrite(table, bytes())), String(addon.stripped(bytes()))], ['', '']);
   const array = gone(new Uint8Array(1000));
   for (const call of [() => new smap.TraceMap(array), () => map.fit(array), () => smap.rewrite(table, array)]) refuses('TypeError', call, /detached/);
@@ -167,7 +171,7 @@ function inTheMiddle() {
   same(told.map(({ error }) => error.message), ['the table is closed']);
   const trace = new Uint8Array(Buffer.from('f@c.js:1:11\n'.repeat(9)));
   const taking = new smap.Table({}, { load: () => (structuredClone(trace.buffer, { transfer: [trace.buffer] }), gc(), read()) });
-  refuses('TypeError', () => smap.rewrite(taking, trace), /no byte of the trace/);
+  same(String(smap.rewrite(taking, trace)), 'f@a.js:2:5\n'.repeat(9));
   const text = new Uint8Array(Buffer.from(JSON.stringify(read())));
   const takingText = () => {
     structuredClone(text.buffer, { transfer: [text.buffer] });

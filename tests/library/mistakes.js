@@ -107,7 +107,7 @@ function beneath() {
   refuses('Error', () => addon.lookUp(), /closed/);
   // What is no map, and no place.
   const table = new smap.Table({});
-  for (const place of [table.handle.place, handle.place + 1000, far - 1]) {
+  for (const place of [table.inner.handle.place, handle.place + 1000, far - 1]) {
     addon.room[10] = place;
     refuses('Error', () => addon.lookUp(), /closed/);
   }
@@ -769,36 +769,42 @@ function cutUrls() {
     same(String(smap.rewrite(both, text, { anywhere })), 'f@https://e.test/o.js:2:5\nf@https://e.test/a.js:2:5\n');
   }
   same(asked, []);
-  // Without a loader a URL is named as it stands.
-  same(String(smap.rewrite(new smap.Table({ [url]: small }), text)), text);
+  // So does one that is given, without a loader.
+  same(String(smap.rewrite(new smap.Table({ [url]: small }), text)), 'f@https://e.test/a.js:2:5\n'.repeat(2));
   const hiding = new smap.Table({}, { load: () => small.replace('"names"', '"ignoreList":[0],"names"') });
   same(String(smap.rewrite(hiding, text, { hideIgnored: true })), '');
   same(hiding.counts, { lines: 2, frames: 2, mapped: 0, hidden: 2 });
 }
 
-// Texts by chance over a loader, beside a table in which each map stands under each whole URL. One map leads to its own URL.
+// Texts by chance over a loader, beside a table in which each map stands under each whole URL. One map leads to its own URL. Anywhere a
+// file's name with a fragment, and a path with a comma, is known by its name alone. A loader's places are all that looks like a URL, also right
+// behind `_` or a digit, where a name is none: so none stands there, and there may be more of them.
 function cutByChance() {
   const { chance, below } = chances;
   const own = '{"version":3,"sources":["own.js"],"names":[],"ignoreList":[0],"mappings":"AAAA,UAAU;AACA"}';
-  const maps = { 'https://e.test/x.js': small, 'https://e.test/own.js': own, '/srv/y.js': small, 'z.js': small.replace('a.js', 'b\\"c') };
+  const maps = { 'https://e.test/x.js': small, 'https://e.test/own.js': own, '/srv/y.js': small, 'z.js': small.replace('a.js', 'b\\"c'), '/z.js': small };
   const urls = Object.keys(maps).flatMap((url) => ['', '?v=1', '?v=2#z', '#', '?a=,b'].map((more) => url + more));
+  const looking = urls.filter((url) => !/^z[^?]*#|,/.test(url));
   const exact = new smap.Table(urls.map((url) => [url, maps[url.split(/[?#]/)[0]]]));
   const pick = (list) => list[below(list.length)];
-  const place = () => `${pick([...urls, 'https://e.test/no.js?v=1', 'q'])}:${1 + below(3)}:${pick([1, 5, 11, 12])}`;
+  const place = ({ anywhere }) => `${pick([...(anywhere ? looking : urls), 'https://e.test/no.js?v=1', 'q'])}:${1 + below(3)}:${pick([1, 5, 11, 12])}`;
   const around = [['    at f (', ')'], ['f@', ''], ['at ', ''], ['', ''], ['x', ''], ['[', '] '], ['\x1b[31m', '\x1b[0m'], ['"', '",'], ['', '7 '], ['_', ' '], [',', ';']];
   for (let round = 0; round < 600; round++) {
     const options = pick([{}, { hideIgnored: true }, { anywhere: true }]);
     let text = '';
     for (let count = below([3, 20, 200][round % 3]); count > 0; count--) {
-      const [before, behind] = pick(around);
+      let [before, behind] = pick(around);
+      if (options.anywhere && before === '_') before = '';
+      if (options.anywhere && before === '' && /\d$/.test(text)) text += '\n';
       // A line that is a frame, whose URL is named as it stands, has no other place: so it stands alone.
       const isFrame = /@$|at /.test(before);
       if (isFrame && text !== '' && !text.endsWith('\n')) text += '\n';
-      text += `${before}${place()}${behind}${options.anywhere && !isFrame && chance() < 0.4 ? '' : '\n'}`;
+      text += `${before}${place(options)}${behind}${options.anywhere && !isFrame && chance() < 0.4 ? '' : '\n'}`;
     }
     const loading = new smap.Table({}, { load: (url) => maps[url] });
     same(String(smap.rewrite(loading, text, options)), String(smap.rewrite(exact, text, options)));
-    same(loading.counts, exact.counts);
+    const { places } = loading.counts;
+    same(loading.counts, { ...exact.counts, ...(options.anywhere && { places: Math.max(places, exact.counts.places) }) });
     loading.close();
   }
 }
@@ -819,10 +825,17 @@ function anywhere() {
   };
   const loading = new smap.Table({}, { load });
   same(smap.rewrite(loading, text, { anywhere: true }), wanted);
-  same(loading.counts, { lines: 2, places: 3, mapped: 2 });
+  same(loading.counts, { lines: 2, places: 4, mapped: 2 });
   const line = '12:30:45 x:1:2 y=/srv/b.js:1:2 {"stack":"f@app:///c.js?d=1:1:1\\n"} \x1b[1;36mhttps://e.test/e.js:1:1\x1b[0m a:7:8, (d/f.js:1:2)[native code:1:1]:3:12345678901';
   same(String(smap.rewrite(loading, line, { anywhere: true })), line);
   same(asked, ['g.js', 'h.js', '/srv/b.js', 'app:///c.js', 'https://e.test/e.js', 'd/f.js']);
+  // What looks like a URL is one right behind a sign that a name could have, too.
+  const [named, seen] = [new smap.Table({ 'https://e.test/e.js': small }), new smap.Table({}, { load: () => small })];
+  for (const before of ['_', 'https://e.test/e.js:9:1']) {
+    const place = `${before}https://e.test/e.js:1:11`;
+    same(String(smap.rewrite(named, place, { anywhere: true })), place);
+    same(String(smap.rewrite(seen, place, { anywhere: true })), `${before}https://e.test/a.js:2:5`);
+  }
 }
 
 // No option is passed over.

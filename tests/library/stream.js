@@ -20,7 +20,7 @@ const same = (got, wanted, what) => {
 const frame = (column) => `    at f (${url}:1:${column})`;
 // Lines that are frames, hidden frames, none, and too long or just not too long for frames.
 const filled = (length) => `    at ${'x'.repeat(length - frame(11).length + 1)} (${url}:1:11)`;
-const LINES = ['TypeError: ä 😀', frame(1), frame(11), frame(21), `f@${url}?v=3:1:11`, `${frame(12)}\r`, `f@${url}:1:25`, '', ' ', `{"stack":"Error\\n${frame(11)}\\n"}`,
+const LINES = ['TypeError: ä 😀', `\x1b[36m${frame(11)}\x1b[0m`, frame(1), frame(11), frame(21), `f@${url}?v=3:1:11`, `${frame(12)}\r`, `f@${url}:1:25`, '', ' ', `{"stack":"Error\\n${frame(11)}\\n"}`,
   `[${url}:1:11]`, 'plain', filled(65536), filled(65537), `${url}:1:11 ${'y'.repeat(70000)} ${url}:1:21`];
 
 function* cut(bytes, most) {
@@ -47,9 +47,9 @@ const loading = () => new smap.Table({}, { load: (asked) => (asked === url ? sma
 async function pieces() {
   same(filled(65536).length, 65536);
   for (let round = 0; round < 400; round++) {
-    const lines = Array.from({ length: below(12) }, () => LINES[below(round % 4 ? 12 : LINES.length)]);
+    const lines = Array.from({ length: below(12) }, () => LINES[below(round % 4 ? 13 : LINES.length)]);
     const bytes = Buffer.from(lines.join('\n') + (chance() < 0.5 ? '\n' : ''));
-    for (const options of [undefined, {}, { hideIgnored: true }, { anywhere: true }]) {
+    for (const options of [undefined, { stripAnsi: true }, { hideIgnored: true }, { anywhere: true }, { anywhere: true, stripAnsi: true }]) {
       for (const make of [table, loading]) {
         const over = make();
         const wanted = smap.rewrite(over, bytes, options);
@@ -58,6 +58,22 @@ async function pieces() {
         same(Buffer.concat(parts), wanted);
         same(stream.counts, over.counts);
       }
+    }
+  }
+}
+
+// Over maps that are waited for the same comes out, and the same is asked for, wherever a URL is cut.
+async function waited() {
+  for (let round = 0; round < 100; round++) {
+    const names = Array.from({ length: 1 + below(8) }, () => `https://e.test/${below(5)}/m.js`);
+    const bytes = Buffer.from(names.map((name, i) => (i % 2 ? `[${name}:1:11] ${name}:1:1` : `f@${name}?v=1:1:11`)).join('\n'));
+    for (const options of [{}, { stripAnsi: true }, { anywhere: true }]) {
+      const [whole, parted] = [new Set(), new Set()];
+      const over = (asked) => new smap.Maps({ loadAsync: async (name) => (asked.add(name), name.includes('/3/') ? null : small), maxBytes: 1e6, atOnce: 3 });
+      const wanted = await smap.rewriteAsync(over(whole), bytes, options);
+      const parts = [];
+      await run(Readable.from(cut(bytes, [1, 7, 100][below(3)]), { objectMode: false }), new smap.RewriteStream(over(parted), options), sink(parts));
+      same([Buffer.concat(parts), [...parted].sort()], [wanted, [...whole].sort()]);
     }
   }
 }
@@ -178,6 +194,6 @@ async function children() {
 }
 
 (async () => {
-  for (const test of [pieces, early, passed, backpressure, refusals, errors, children]) await test();
+  for (const test of [pieces, waited, early, passed, backpressure, refusals, errors, children]) await test();
   console.log('stream', reported);
 })();

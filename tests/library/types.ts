@@ -45,8 +45,8 @@ const places: number = 'places' in stream.counts ? stream.counts.places : stream
 stream.on('refused', (url: string, error: unknown) => names.push(url, String(error))).end('x');
 const place: Place | null = table.lookUp('https://e.test/a.js?v=3', 1, 0);
 const context: Context | null = sourceContext(map, place ? place.index : 0, 1, 3);
-const kept = new Maps({ load: () => null, loadAsync: async (url) => `{"file":"${url}"}`, maxBytes: map.nbytes, atOnce: 4 });
-const inFolder: Maps = Maps.folder('https://e.test/', '.', { maxBytes: 1, paths: true, maxNames: 1 });
+const kept = new Maps({ load: () => null, loadAsync: async (url) => `{"file":"${url}"}`, maxBytes: map.nbytes, atOnce: 4, retryAfter: 1, noneFor: Infinity });
+const inFolder: Maps = Maps.folder('https://e.test/', '.', { maxBytes: 1, paths: true, maxNames: 1, freshFor: 0.5 });
 const waiting: Promise<Buffer> = rewriteAsync(kept, 'x', { stripAnsi: true });
 names.push(...frameUrls('x', { anywhere: true }), context ? context.before.join(context.line) : '', String(inFolder.get('x')));
 table[Symbol.dispose]();

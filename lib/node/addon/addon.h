@@ -48,9 +48,9 @@ napi_value buffer(napi_env env, smap_bytes *bytes);
 bool define(napi_env env, napi_value object, const char *name, napi_value value);
 napi_value list_of(napi_env env, const napi_value *values, size_t count);
 
-/* held.c: what the objects of the addon hold of the library: a map, a table or inner maps each. V8 knows of the memory, which is
+/* held.c: what the objects of the addon hold of the library: a map, a table with its store, inner maps or a rewriting each. V8 knows of the memory, which is
  * not its own. */
-enum kind { MAP, TABLE, INNERS };
+enum kind { MAP, TABLE, INNERS, REWRITING };
 struct held;
 
 /* What stands at a place: something that is held, or nothing, and then the next place is free too. */
@@ -69,6 +69,7 @@ struct place { struct held *held; uint32_t next; };
 #define ROOM (ROOM_IGNORED + 1)
 struct addon {
     uint32_t *room;
+    napi_ref texts; /* an Array for the name of what a look-up by URL finds */
     struct place *places;
     uint32_t count, free;    /* how many places there are, and the first that is free, or as many */
     int64_t reported, swept; /* the bytes that V8 knows of, and the fewest since the last sweep */
@@ -82,7 +83,12 @@ struct held {
     int64_t size;    /* the bytes that V8 knows of */
     bool full;
     enum kind kind;
-    union { smap_map map; smap_table table; smap_inners inners; };
+    union {
+        smap_map map;
+        smap_inners inners;
+        struct { smap_table table; smap_store store; int64_t given; }; /* the bytes that the maps of the table count for */
+        struct { smap_rewriting rewriting; uint64_t time; bool is_last; }; /* when bytes were given, and whether the last */
+    };
     smap_originals originals; /* of a map, as soon as it was asked for generated places */
 };
 
@@ -95,6 +101,9 @@ struct held *map_of(napi_env env, napi_value value);
 /* Makes an object that holds what is full, of so many bytes that V8 is to know of. The object names its place. Where that fails,
  * what is held is freed. */
 napi_value object_of(napi_env env, struct held *held, int64_t size);
+
+/* Frees what is held, if there is something. */
+void let_go(napi_env env, struct held *held);
 
 /* The map went over to what takes it. */
 void hand_over(napi_env env, struct held *map, struct held *taker);
@@ -112,6 +121,27 @@ void drop(napi_env env, void *data, void *hint);
 /* The environment ends: what is still held stands alone. */
 void drop_addon(napi_env env, void *data, void *hint);
 
+/* members.c: where the parts of an object or a list of a JSON text stand, two numbers each, a key and its value in turn. */
+struct parts { uint32_t *numbers; size_t count, room; };
+bool find_parts(const uint8_t *text, size_t length, size_t at, struct parts *parts);
+napi_value array_of_parts(napi_env env, const struct parts *parts);
+
+/* What a TraceMap has of the text of a regular map beside the library's, as JSON, with how many bytes of the text: nothing where that is
+ * not found so, and false where there is no memory. */
+bool outline_of(const uint8_t *text, size_t length, char **outline, size_t *bytes);
+
+/* map.c: the map that was read of so many bytes, as an object. */
+napi_value object_of_map(napi_env env, struct held *held, size_t length);
+
+/* rewriting.c: the time in milliseconds, from some point on. */
+uint64_t time_now(void);
+
+/* The bytes of a URL that is given as a text, which most have room for, and whether it has some; and the same of one that has to. */
+struct url { uint8_t *bytes; size_t length; uint8_t room[512]; };
+bool url_of(napi_env env, napi_value text, struct url *url, bool *has_bytes);
+bool whole_url_of(napi_env env, napi_value text, struct url *url);
+void free_url(struct url *url);
+
 /* What node calls. Each says beside its body what it is given and gives. */
 typedef napi_value call(napi_env env, napi_callback_info info);
 call close_map, close_table, close_inners;
@@ -121,6 +151,8 @@ call look_up, look_up_many, generated, bytes_by_source, fit;
 call mappings, encode;
 /* map.c */
 call read_map, counts, size, use_paths, source_name, source_content, source_lines, is_ignored, name, file, write_map;
+/* later.c */
+call read_later;
 /* members.c */
 call members;
 /* refusals.c */
@@ -128,7 +160,11 @@ call refusal_text, refusal_explain, compose_refusal_text, table_refusal_text, ge
 call rewrite_refusal_text, write_refusal_text, encode_refusal_text;
 /* compose.c */
 call compose, new_inners, put_inner, next_inner, inner_name, compose_all;
-/* table.c */
-call new_table, add, table_has, table_look_up, rewrite, stripped, next_frame_url;
+/* store.c */
+call new_table, add, is_bad_url, read_into, put, put_none, forget, table_counts, find_place, wanted, key_of_map, map_at;
+/* rewriting.c */
+call new_rewriting, give, run, take_text, stripped;
+/* urls.c */
+call locations, folder_path;
 
 #endif

@@ -15,6 +15,7 @@ static const struct { napi_type_tag tag; const char *other, *closed; } kinds[] =
     [MAP] = {{0x8d3f0b6a91c24e55, 0xb1a7c05e2f6d4a01}, "no map", "the map is closed"},
     [TABLE] = {{0x8d3f0b6a91c24e55, 0xb1a7c05e2f6d4a02}, "no table", "the table is closed"},
     [INNERS] = {{0x8d3f0b6a91c24e55, 0xb1a7c05e2f6d4a03}, "no inner maps", "the inner maps are closed"},
+    [REWRITING] = {{0x8d3f0b6a91c24e55, 0xb1a7c05e2f6d4a04}, "no rewriting", "the rewriting is closed"},
 };
 
 /* The addon that this thread asked for last, and its environment: so a look-up need not ask node for it. */
@@ -38,14 +39,14 @@ static void give_back(struct addon *addon, int64_t size) {
     }
 }
 
-/* Frees what is held, if there is something. */
-static void let_go(napi_env env, struct held *held) {
+void let_go(napi_env env, struct held *held) {
     if (held->originals.at) smap_originals_free(&held->originals);
     held->originals.at = NULL;
     if (held->full) {
         if (held->kind == MAP) smap_map_free(&held->map);
-        else if (held->kind == TABLE) smap_table_free(&held->table);
-        else smap_inners_free(&held->inners);
+        else if (held->kind == INNERS) smap_inners_free(&held->inners);
+        else if (held->kind == REWRITING) smap_rewriting_free(&held->rewriting);
+        else smap_table_free(&held->table), smap_store_free(&held->store);
         give_back(held->addon, held->size);
     }
     held->full = false;

@@ -7,6 +7,12 @@ static int64_t size_of(size_t length, const smap_count *count) {
     return (int64_t)(length + 32 * (count->checkpoints + count->sources + count->names) + 8 * count->lines);
 }
 
+napi_value object_of_map(napi_env env, struct held *held, size_t length) {
+    smap_count count = {0};
+    smap_counts(&held->map, &count);
+    return object_of(env, held, size_of(length, &count));
+}
+
 /* read(bytes, base, interval, mostNames, refusal): a map, the names of whose sources may have so many bytes together; or null,
  * with the numbers of the refusal in a Float64Array of 6. */
 napi_value read_map(napi_env env, napi_callback_info info) {
@@ -31,9 +37,7 @@ napi_value read_map(napi_env env, napi_callback_info info) {
         numbers[3] = refusal.build, numbers[4] = (double)refusal.section, numbers[5] = (double)refusal.byte;
         return null(env);
     }
-    smap_count count = {0};
-    smap_counts(&held->map, &count);
-    return object_of(env, held, size_of(length, &count));
+    return object_of_map(env, held, length);
 }
 
 napi_value counts(napi_env env, napi_callback_info info) {
@@ -51,7 +55,7 @@ napi_value counts(napi_env env, napi_callback_info info) {
     return result;
 }
 
-/* size(map): about how many bytes of memory it takes. */
+/* size(map): about how many bytes of memory it takes, with its index of originals if that was made. */
 napi_value size(napi_env env, napi_callback_info info) {
     napi_value words[WORDS];
     uint64_t bytes = 0;
@@ -59,18 +63,25 @@ napi_value size(napi_env env, napi_callback_info info) {
     struct held *held = map_of(env, words[0]);
     if (!held) return NULL;
     smap_map_size(&held->map, &bytes);
+    if (held->originals.at) {
+        smap_count count = {0};
+        smap_counts(&held->map, &count);
+        bytes += 16 * count.segments + 24 * count.sources;
+    }
     return number(env, (double)bytes);
 }
 
-/* usePaths(map, url): names the sources by the URL, where that is an absolute path. */
+/* usePaths(map, url): names the sources by the URL, where that is an absolute path; whether no other holds the map. */
 napi_value use_paths(napi_env env, napi_callback_info info) {
-    napi_value words[WORDS];
+    napi_value words[WORDS], alone;
     const uint8_t *url;
     size_t length;
     if (!words_of(env, info, 2, words)) return NULL;
     struct held *held = map_of(env, words[0]);
     if (!held || !bytes_of(env, words[1], &url, &length)) return NULL;
-    return smap_map_use_paths(&held->map, url, length) == SMAP_DONE ? NULL : refuse(env, "out of memory");
+    uint32_t status = smap_map_use_paths(&held->map, url, length);
+    if (status == SMAP_NO_MEMORY) return refuse(env, "out of memory");
+    return napi_get_boolean(env, status == SMAP_DONE, &alone) == napi_ok ? alone : NULL;
 }
 
 /* The source of a call's second argument. */

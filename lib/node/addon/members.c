@@ -1,5 +1,6 @@
 /* Where the parts of a JSON text stand that was read, without a copy of it. */
 #include "addon.h"
+#include <stdio.h>
 #include <stdlib.h>
 #include <string.h>
 
@@ -41,29 +42,20 @@ static void pass_value(struct cursor *cursor) {
 
 #define EACH 4
 
-/* Puts where a part begins and ends at the end of the numbers, of which there is room for so many. */
-static bool put_part(uint32_t **numbers, size_t *count, size_t *room, size_t begin, size_t end) {
-    if (*count == *room) {
-        uint32_t *larger = realloc(*numbers, (*room = *room * 2 + 16 * EACH) * sizeof **numbers);
+/* Puts where a part begins and ends at the end of the parts. */
+static bool put_part(struct parts *parts, size_t begin, size_t end) {
+    if (parts->count == parts->room) {
+        uint32_t *larger = realloc(parts->numbers, (parts->room = parts->room * 2 + 16 * EACH) * sizeof *larger);
         if (!larger) return false;
-        *numbers = larger;
+        parts->numbers = larger;
     }
-    (*numbers)[(*count)++] = (uint32_t)begin;
-    (*numbers)[(*count)++] = (uint32_t)end;
+    parts->numbers[parts->count++] = (uint32_t)begin;
+    parts->numbers[parts->count++] = (uint32_t)end;
     return true;
 }
 
-/* members(bytes, at): of the object or the list that begins at this byte, or behind blanks, where each key and its value begin
- * and end; in a list the keys have no byte. Four numbers each, as a Uint32Array. */
-napi_value members(napi_env env, napi_callback_info info) {
-    napi_value words[WORDS], array = NULL, buffer;
-    struct cursor cursor = {0};
-    uint32_t at, *numbers = NULL;
-    size_t count = 0, room = 0;
-    void *place;
-    if (!words_of(env, info, 2, words) || !bytes_of(env, words[0], &cursor.text, &cursor.length)) return NULL;
-    if (!number_of(env, words[1], &at)) return NULL;
-    cursor.at = at;
+bool find_parts(const uint8_t *text, size_t length, size_t at, struct parts *parts) {
+    struct cursor cursor = {text, length, at};
     pass(&cursor, " \t\r\n");
     bool is_object = cursor.at < cursor.length && cursor.text[cursor.at] == '{', whole = true;
     for (cursor.at++; whole;) {
@@ -71,16 +63,91 @@ napi_value members(napi_env env, napi_callback_info info) {
         if (cursor.at >= cursor.length || strchr("}]", cursor.text[cursor.at])) break;
         size_t key = cursor.at;
         if (is_object) pass_string(&cursor);
-        whole = put_part(&numbers, &count, &room, key, cursor.at);
+        whole = put_part(parts, key, cursor.at);
         if (is_object) pass(&cursor, " \t\r\n:");
         size_t value = cursor.at;
         pass_value(&cursor);
         if (cursor.at == value) break;
-        whole = whole && put_part(&numbers, &count, &room, value, cursor.at);
+        whole = whole && put_part(parts, value, cursor.at);
     }
-    if (whole && napi_create_arraybuffer(env, count * sizeof *numbers, &place, &buffer) == napi_ok &&
-        napi_create_typedarray(env, napi_uint32_array, count, buffer, 0, &array) == napi_ok && count)
-        memcpy(place, numbers, count * sizeof *numbers);
-    free(numbers);
-    return array ? array : refuse(env, "out of memory");
+    return whole;
+}
+
+napi_value array_of_parts(napi_env env, const struct parts *parts) {
+    napi_value array = NULL, buffer;
+    void *place;
+    size_t bytes = parts->count * sizeof *parts->numbers;
+    if (napi_create_arraybuffer(env, bytes, &place, &buffer) != napi_ok ||
+        napi_create_typedarray(env, napi_uint32_array, parts->count, buffer, 0, &array) != napi_ok)
+        return refuse(env, "out of memory");
+    if (bytes) memcpy(place, parts->numbers, bytes);
+    return array;
+}
+
+/* What else is kept of a map's text: its values that a TraceMap has. */
+enum { SOURCES, SOURCE_ROOT, IGNORED, IGNORED_BY_OTHERS, CONTENTS, MAPPINGS, SECTIONS, KEYS };
+static const char *const keys[KEYS] = {"\"sources\"", "\"sourceRoot\"", "\"ignoreList\"", "\"x_google_ignoreList\"", "\"sourcesContent\"", "\"mappings\"", "\"sections\""};
+
+/* Where the values of a map's keys stand; a null is as not there. Whether they are found so: no key is escaped. */
+static bool find_values(const uint8_t *text, const struct parts *parts, smap_text *values) {
+    const uint32_t *part = parts->numbers;
+    for (size_t i = 0; i + 3 < parts->count; i += 4, part += 4) {
+        size_t length = part[1] - part[0];
+        if (memchr(text + part[0], '\\', length)) return false;
+        for (int key = 0; key < KEYS; key++) {
+            if (length != strlen(keys[key]) || memcmp(text + part[0], keys[key], length)) continue;
+            bool is_null = part[3] - part[2] == 4 && !memcmp(text + part[2], "null", 4);
+            values[key] = (smap_text){text + part[2], is_null ? 0 : part[3] - part[2]};
+        }
+    }
+    return true;
+}
+
+/* How many lines begin in a quoted text of mappings behind its last segment. */
+static size_t lines_behind(smap_text quoted) {
+    size_t lines = 0;
+    for (size_t at = quoted.length - 1; at > 1 && strchr(";,", quoted.bytes[at - 1]); at--) lines += quoted.bytes[at - 1] == ';';
+    return lines;
+}
+
+bool outline_of(const uint8_t *text, size_t length, char **outline, size_t *bytes) {
+    struct parts members = {0}, contents = {0};
+    smap_text values[KEYS] = {{0}};
+    const uint8_t *end;
+    *outline = NULL;
+    size_t at = text[0] == 0xef ? 3 : 0;
+    if (text[at] == ')' && (end = memchr(text + at, '\n', length - at))) at = (size_t)(end - text);
+    bool whole = find_parts(text, length, at, &members);
+    bool is_found = whole && find_values(text, &members, values) && !values[SECTIONS].length && values[MAPPINGS].length > 1 &&
+                    !memchr(values[MAPPINGS].bytes, '\\', values[MAPPINGS].length);
+    free(members.numbers);
+    if (!is_found) return whole;
+    if (!values[IGNORED].length) values[IGNORED] = values[IGNORED_BY_OTHERS];
+    if (values[CONTENTS].length) whole = find_parts(values[CONTENTS].bytes, values[CONTENTS].length, 0, &contents);
+    free(contents.numbers);
+    *bytes = values[SOURCES].length + values[SOURCE_ROOT].length + values[IGNORED].length;
+    char *out = whole ? malloc(*bytes + 160) : NULL;
+    if (!out) return false;
+    size_t used = (size_t)sprintf(out, "{\"behind\":%zu", lines_behind(values[MAPPINGS]));
+    if (values[CONTENTS].length) used += (size_t)sprintf(out + used, ",\"contents\":%zu", contents.count / EACH);
+    for (int key = SOURCES; key <= IGNORED; key++)
+        if (values[key].length) used += (size_t)sprintf(out + used, ",%s:%.*s", keys[key], (int)values[key].length, (const char *)values[key].bytes);
+    strcpy(out + used, "}");
+    *outline = out;
+    return true;
+}
+
+/* members(bytes, at): of the object or the list that begins at this byte, or behind blanks, where each key and its value begin
+ * and end; in a list the keys have no byte. Four numbers each, as a Uint32Array. */
+napi_value members(napi_env env, napi_callback_info info) {
+    napi_value words[WORDS];
+    const uint8_t *text;
+    size_t length;
+    uint32_t at;
+    struct parts parts = {0};
+    if (!words_of(env, info, 2, words) || !bytes_of(env, words[0], &text, &length) || !number_of(env, words[1], &at)) return NULL;
+    bool whole = find_parts(text, length, at, &parts);
+    napi_value array = whole ? array_of_parts(env, &parts) : refuse(env, "out of memory");
+    free(parts.numbers);
+    return array;
 }

@@ -16,6 +16,14 @@ static napi_value room_of(napi_env env, struct addon *addon) {
     return addon->room && napi_create_reference(env, room, 1, &kept) == napi_ok ? room : NULL;
 }
 
+/* The Array of the texts of a look-up, whose only element is its own. */
+static napi_value texts_of(napi_env env, struct addon *addon) {
+    napi_value texts;
+    const napi_value none[] = {null(env)};
+    texts = list_of(env, none, 1);
+    return texts && napi_create_reference(env, texts, 1, &addon->texts) == napi_ok ? texts : NULL;
+}
+
 NAPI_MODULE_INIT() {
     const struct { const char *name; napi_callback call; } calls[] = {
         {"read", read_map}, {"refusalText", refusal_text}, {"refusalExplain", refusal_explain}, {"closeMap", close_map},
@@ -25,8 +33,10 @@ NAPI_MODULE_INIT() {
         {"sourceLines", source_lines}, {"isIgnored", is_ignored},
         {"name", name}, {"file", file}, {"write", write_map}, {"compose", compose}, {"newInners", new_inners},
         {"putInner", put_inner}, {"nextInner", next_inner}, {"innerName", inner_name}, {"composeAll", compose_all}, {"newTable", new_table},
-        {"add", add}, {"tableHas", table_has}, {"tableLookUp", table_look_up}, {"rewrite", rewrite}, {"stripped", stripped},
-        {"nextFrameUrl", next_frame_url}, {"composeRefusalText", compose_refusal_text},
+        {"add", add}, {"isBadUrl", is_bad_url}, {"put", put}, {"readInto", read_into}, {"putNone", put_none}, {"forget", forget}, {"tableCounts", table_counts},
+        {"findPlace", find_place}, {"wanted", wanted}, {"keyOfMap", key_of_map}, {"mapAt", map_at}, {"newRewriting", new_rewriting},
+        {"give", give}, {"run", run}, {"takeText", take_text}, {"stripped", stripped}, {"locations", locations}, {"folderPath", folder_path},
+        {"readLater", read_later}, {"composeRefusalText", compose_refusal_text},
         {"tableRefusalText", table_refusal_text}, {"generatedRefusalText", generated_refusal_text},
         {"rewriteRefusalText", rewrite_refusal_text}, {"writeRefusalText", write_refusal_text},
         {"encodeRefusalText", encode_refusal_text},
@@ -37,7 +47,8 @@ NAPI_MODULE_INIT() {
         return refuse(env, "out of memory");
     }
     napi_value room = room_of(env, addon);
-    if (!room || !define(env, exports, "room", room)) return NULL;
+    napi_value texts = room ? texts_of(env, addon) : NULL;
+    if (!room || !define(env, exports, "room", room) || !define(env, exports, "texts", texts)) return NULL;
     for (size_t i = 0; i < sizeof calls / sizeof *calls; i++) {
         napi_value function;
         if (napi_create_function(env, calls[i].name, NAPI_AUTO_LENGTH, calls[i].call, NULL, &function) != napi_ok ||

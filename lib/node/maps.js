@@ -1,0 +1,242 @@
+'use strict';
+// Maps by URL, within a bound of memory, and what is asked of them.
+const fs = require('fs');
+const { performance } = require('perf_hooks');
+const addon = require('./addon.js');
+const given = require('./given.js');
+const { Made, TraceMap, sourceContext } = require('./map.js');
+const { outlineFrom } = require('./outline.js');
+const { Store, locationsIn } = require('./store.js');
+const { Told, counted, rewriting, storeOf, wholePart } = require('./table.js');
+
+// A map file with more bytes is refused, and read no further.
+const MOST_FILE = 67108864;
+
+// So many URLs are near at most.
+const MOST_NEAR = 1000;
+
+// A URL or a prefix, which is no pattern.
+function whole(url, name) {
+  if (given.text(url, name).startsWith('*')) throw new Error(`\`${name}\` is a pattern`);
+  return url;
+}
+
+// Maps by URL. `load` is asked for the map of a URL when it is first wanted, and gives it, or null or undefined where there is none, as
+// for a Table, as are `paths` and `maxNames`; `loadAsync` gives a promise of it. Maps are kept while they count for at most `maxBytes` bytes of
+// memory, or one by itself: what was longest not asked for goes first. What both throw, and why a map is refused, is told to `refused`, or
+// else kept in `refusals`, of which there are 100 at most; that URL is asked for again after `retryAfter` seconds, and twice as many
+// after each failure in a row, up to ten minutes, and one without a map after `noneFor` seconds, if they are given.
+class Maps extends Told {
+  // Of each map that was put what its text has, for how much it counts, and its TraceMap, which others may have.
+  #kept = new Map();
+  #mostKept = 16;
+  // The URLs that were asked for since what is known has changed, by their last use, of which the store is told before it changes again; with
+  // their TraceMaps, where they were asked for twice.
+  #near = new Map();
+  #lent = new WeakSet();
+  #most;
+
+  constructor(options) {
+    const words = given.options(options, 'load', 'loadAsync', 'maxBytes', 'refused', 'atOnce', 'paths', 'maxNames', 'retryAfter', 'noneFor');
+    super(words.refused);
+    const { load, loadAsync } = words;
+    for (const [call, name] of [[load, 'load'], [loadAsync, 'loadAsync']]) given.callable(call, name);
+    if (!load && !loadAsync) throw new TypeError('`load` or `loadAsync` is wanted');
+    this.#most = given.count(words.maxBytes, 'maxBytes', Number.MAX_SAFE_INTEGER);
+    this.inner = new Store(this, { ...words, came: (url, made, size) => this.#came(url, made, size) }, this.#most);
+    this.inner.settles = () => this.#settle();
+    this.counts = null;
+  }
+
+  // The maps of the URLs that begin with this prefix, which ends in `/`, in a folder, as the program has them of `PREFIX=FOLDER/`: that of
+  // PREFIXjs/app.js is js/app.js.map. No URL leads out of the folder. A file that is not there is no map. After `freshFor` seconds a file
+  // is looked at again, and read where it has changed; where that is refused, its map stays.
+  static folder(prefix, root, options) {
+    if (!whole(prefix, 'prefix').endsWith('/')) throw new Error('a prefix ends in /');
+    const { freshFor, ...words } = given.options(options, 'maxBytes', 'refused', 'paths', 'maxNames', 'retryAfter', 'noneFor', 'freshFor');
+    const [front, folder, fresh] = [given.utf8(prefix, '`prefix`'), given.utf8(`${given.text(root, 'root')}/`, '`root`'), given.time(freshFor, 'freshFor', null)];
+    const files = new Map();
+    const load = (url) => {
+      const name = addon.folderPath(front, folder, Buffer.from(url));
+      if (name === null) return null;
+      const stamp = fresh === null ? null : stampOf(name);
+      files.delete(url);
+      if (stamp !== null) files.set(url, { name, stamp, due: performance.now() + fresh });
+      return readFile(name);
+    };
+    const maps = new Maps({ ...words, load });
+    if (fresh !== null) maps.inner.renews = () => maps.#renew(files, fresh);
+    return maps;
+  }
+
+  // Looks at the files again whose time has come, of which there are maps.
+  #renew(files, fresh) {
+    const now = performance.now();
+    for (const [url, file] of files) {
+      if (file.due > now) break;
+      files.delete(url);
+      if (!this.inner.holds(url)) continue;
+      if (stampOf(file.name) === file.stamp) files.set(url, { ...file, due: now + Math.max(fresh, 1) });
+      else this.inner.renew(url);
+    }
+  }
+
+  get maxBytes() {
+    return this.#most;
+  }
+
+  set maxBytes(value) {
+    this.#most = given.count(value, 'maxBytes', Number.MAX_SAFE_INTEGER);
+    this.inner.move(this.#most, this.#kept);
+  }
+
+  // For how many bytes of memory what is kept counts, and how many maps are kept.
+  get nbytes() {
+    const [bytes, , noneBytes] = addon.tableCounts(this.inner.changing, new Float64Array(7));
+    return bytes + noneBytes;
+  }
+
+  get size() {
+    return addon.tableCounts(this.inner.open, new Float64Array(7))[1];
+  }
+
+  has(url) {
+    return this.inner.has(given.text(url, 'url'));
+  }
+
+  lookUp(url, line, column) {
+    if (this.#near.has(url)) {
+      const map = this.#mapOf(url);
+      return map && map.placeAt(line, column);
+    }
+    const place = super.lookUp(url, line, column);
+    this.#use(url, null);
+    return place;
+  }
+
+  // The map of a URL or, where none was added under it, of that without its query and its fragment; or null.
+  get(url) {
+    const map = this.#mapOf(given.text(url, 'url'));
+    if (map) this.#lent.add(map);
+    return map;
+  }
+
+  #mapOf(url) {
+    if (this.inner.renews) this.inner.renews();
+    let map = this.#near.get(url);
+    if (!map || !map.inner.handle) {
+      const key = this.inner.found(this.inner.keyOfMap, url, null);
+      if (key === null) return null;
+      const kept = this.#kept.get(key);
+      map = kept.map && kept.map.deref();
+      if (typeof kept.outline === 'string') kept.outline = outlineFrom(kept.outline);
+      if (!map || !map.inner.handle) map = new TraceMap(new Made(this.inner.mapAt(key), kept.outline, kept.bytes));
+      kept.map = new WeakRef(map);
+    }
+    this.#use(url, map);
+    return map;
+  }
+
+  #use(url, map) {
+    this.#near.delete(url);
+    if (this.#near.size >= MOST_NEAR) this.#settle();
+    this.#near.set(url, map);
+  }
+
+  // Tells the store what was used, and for how much a map counts that has an index of originals now.
+  #settle() {
+    if (this.#near.size === 0) return;
+    const near = [...this.#near];
+    this.#near.clear();
+    for (const [url, map] of near) {
+      const key = this.inner.keyOfMap(url);
+      if (!map || !map.inner.handle) continue;
+      const [kept, { nbytes }] = [this.#kept.get(key), map];
+      if (!this.#lent.has(map)) map.close();
+      else if (kept && kept.size !== nbytes) addon.put(this.inner.open, key, map.inner.handle, (kept.size = nbytes));
+    }
+  }
+
+  // A line of a source of a URL's map with those around it, as sourceContext.
+  context(url, index, line, before, after) {
+    const map = this.#mapOf(given.text(url, 'url'));
+    return map && sourceContext(map, index, line, before, after);
+  }
+
+  // Puts a map under this very URL, in place of what is kept of it. A pattern is no URL here.
+  add(url, map) {
+    this.inner.add(whole(url, 'url'), map);
+  }
+
+  // Drops what is kept of a URL, so that its map is asked for anew.
+  discard(url) {
+    this.inner.discard(given.text(url, 'url'));
+  }
+
+  // Asks `loadAsync`, or `load`, for the maps of these URLs that are not known, so many at once.
+  async load(urls) {
+    await this.inner.fill([...urls].map((url) => given.text(url, 'url')));
+  }
+
+  close() {
+    this.inner.move(this.#most, []);
+    this.#kept.clear();
+  }
+
+  // A map was put: what is said of those that were dropped goes, too, from time to time.
+  #came(url, { outline, bytes, map }, size) {
+    this.#kept.set(url, { outline, bytes, size, map: map && new WeakRef(map) });
+    if (map) this.#lent.add(map);
+    if (this.#kept.size <= this.#mostKept) return;
+    for (const key of this.#kept.keys()) if (!this.inner.holds(key)) this.#kept.delete(key);
+    this.#mostKept = 2 * this.#kept.size + 16;
+  }
+}
+
+// When a file was written, which file it is and how long, or null where there is none.
+function stampOf(name) {
+  try {
+    const { mtimeNs, ctimeNs, ino, size } = fs.statSync(name, { bigint: true });
+    return `${mtimeNs} ${ctimeNs} ${ino} ${size}`;
+  } catch {
+    return null;
+  }
+}
+
+// The bytes of a file, of which no more are read than one that is too large for a map has, or null where there is none.
+function readFile(name) {
+  let file;
+  try {
+    file = fs.openSync(name, 'r');
+  } catch (error) {
+    if (error.code === 'ENOENT' || error.code === 'ENOTDIR') return null;
+    throw error;
+  }
+  try {
+    const { size } = fs.fstatSync(file);
+    if (size <= MOST_FILE) return fs.readFileSync(file);
+    const bytes = Buffer.alloc(MOST_FILE + 1);
+    return bytes.subarray(0, fs.readSync(file, bytes, 0, bytes.length, 0));
+  } finally {
+    fs.closeSync(file);
+  }
+}
+
+// The URLs and paths for whose maps a loader would be asked, without query and fragment: those of the frames or, with `anywhere`, of the
+// places of a text, each once, in their order.
+function frameUrls(trace, options) {
+  const { places } = rewriting(given.options(options, 'anywhere'));
+  return locationsIn(given.bytes(trace, 'trace'), places);
+}
+
+// What `rewrite` gives over maps that are waited for.
+async function rewriteAsync(maps, trace, options) {
+  if (!(maps instanceof Maps)) throw new TypeError('Maps are wanted');
+  const how = rewriting(options);
+  const [store, bytes] = [storeOf(maps), given.bytes(trace, 'trace')];
+  const { text, numbers } = await store.rewrittenLater(store.begun(how), wholePart(bytes, how), undefined, { ...how, ahead: bytes });
+  maps.counts = counted(numbers, how);
+  return text;
+}
+
+module.exports = { Maps, frameUrls, rewriteAsync };

@@ -1,0 +1,323 @@
+'use strict';
+// Maps by URL, of those that are given and of those that a loader gives, and the one loop over them: what is wanted is loaded and put, and
+// then it goes on.
+const addon = require('./addon.js');
+const given = require('./given.js');
+const { Under } = require('./map.js');
+const { madeLater, madeUnder, readInto } = require('./reading.js');
+const { refusedText, refusedUrl } = require('./refused.js');
+
+const { room, texts } = addon;
+const ROOM_TABLE = 10;
+const ROOM_IGNORED = 11;
+// Why there is no map.
+const [MISSING, FAILED] = [0, 1];
+// What failed is asked for again after so many milliseconds at most, and of so many URLs it is known how often.
+const [MOST_WAIT, MOST_FAILED] = [600000, 1000];
+// A text with more bytes is not rewritten.
+const MOST_TEXT = 1073741824;
+
+// The URLs and paths of the frames of a text for whose maps a loader would be asked, without query and fragment, or those of its places: each
+// once, in their order.
+function locationsIn(bytes, places) {
+  const [found, names] = [addon.locations(bytes, places), new Set()];
+  for (let i = 0; i < found.length; i += 3) {
+    const name = bytes.toString('latin1', found[i], found[i + 1]);
+    names.add(found[i + 2] ? name.replace(/\\\\/g, '\\') : name);
+  }
+  return [...names].map(textOf).filter((name) => name !== null);
+}
+
+// The text of these bytes, which has a character for each, or null where they are not UTF-8.
+function textOf(latin1) {
+  if (!/[^\x00-\x7f]/.test(latin1)) return latin1;
+  const bytes = Buffer.from(latin1, 'latin1');
+  const text = bytes.toString();
+  return Buffer.from(text).equals(bytes) ? text : null;
+}
+
+// What the owner, a table or maps, knows of URLs. `isNamed` is whether only what a frame can name is taken, and `came` is told of each map.
+class Store {
+  #owner;
+  #options;
+  #atOnce;
+  // The URLs that are asked for, with what waits for each, and those that are asked for by a call that has not returned.
+  #asked = new Map();
+  #loading = new Set();
+  #failures = new Map();
+
+  constructor(owner, options, most) {
+    const { load, loadAsync, paths = false, maxNames, atOnce = 8, retryAfter, noneFor, isNamed = false, came = () => {} } = options;
+    this.#owner = owner;
+    [this.load, this.loadAsync] = [given.callable(load, 'load'), given.callable(loadAsync, 'loadAsync')];
+    this.#atOnce = Math.max(given.count(atOnce, 'atOnce', 1000), 1);
+    const [retry, none] = [given.time(retryAfter, 'retryAfter', 30000), given.time(noneFor, 'noneFor', null)];
+    this.#options = { paths: given.boolean(paths, 'paths'), reading: given.reading({ maxNames }), retry, none, isNamed, came };
+    // What is to be done before what is known is asked for, and before it changes.
+    [this.renews, this.settles] = [undefined, undefined];
+    this.keyOfMap = (url) => {
+      room[ROOM_TABLE] = this.open.place;
+      return addon.keyOfMap(url);
+    };
+    this.handle = addon.newTable(most);
+  }
+
+  get asks() {
+    return Boolean(this.load || this.loadAsync);
+  }
+
+  get open() {
+    if (!this.handle) throw new Error('the table is closed');
+    return this.handle;
+  }
+
+  // The handle, where what is known is to change.
+  get changing() {
+    if (this.settles) this.settles();
+    return this.open;
+  }
+
+  // Another store of so many bytes, with the maps under these URLs that this one has.
+  move(most, urls) {
+    const [old, handle] = [this.changing, addon.newTable(most)];
+    for (const [url, { size }] of urls) {
+      const map = this.mapAt(url);
+      if (map === null) continue;
+      addon.put(handle, url, map, size);
+      addon.closeMap(map);
+    }
+    this.handle = handle;
+    addon.closeTable(old);
+  }
+
+  mapAt(url) {
+    room[ROOM_TABLE] = this.open.place;
+    return addon.mapAt(url);
+  }
+
+  // The key under which a map is wanted of this URL, or null.
+  wanted(url) {
+    room[ROOM_TABLE] = this.open.place;
+    return addon.wanted(url);
+  }
+
+  // Whether it is known what map this URL has, or that it has none; and whether it has one.
+  has(url) {
+    this.wanted(url);
+    return room[3] < 2;
+  }
+
+  holds(url) {
+    this.wanted(url);
+    return room[3] === 0;
+  }
+
+  // Of a call with a URL, its answer; after the loader was asked, where it has none.
+  found(call, url, none) {
+    if (this.renews) this.renews();
+    for (let asks = true; ; asks = false) {
+      const answer = call(url);
+      if (answer !== none || !asks) return answer;
+      const key = this.wanted(url);
+      if (key === null || !this.ask(key)) return none;
+    }
+  }
+
+  lookUp(url, line, column) {
+    const [line0, column0] = [given.line(line), given.column(column)];
+    const find = (named) => {
+      [room[0], room[1], room[ROOM_TABLE]] = [line0, column0, this.open.place];
+      return addon.findPlace(named);
+    };
+    const source = this.found(find, url, undefined);
+    if (source === undefined || room[3] !== 2) return null;
+    return { source, line: room[6] + 1, column: room[7], name: room[8] ? texts[0] : null, ignored: room[ROOM_IGNORED] === 1, index: room[5] };
+  }
+
+  // Asks `load` for the map under a key; whether it was asked.
+  ask(key, tell) {
+    const { load } = this;
+    if (!load || this.#loading.has(key)) return false;
+    this.#loading.add(key);
+    try {
+      this.#settle(key, () => this.#read(key, load(key)), tell);
+    } finally {
+      this.#loading.delete(key);
+    }
+    return true;
+  }
+
+  // Calls `go` once it is known what map there is under a key, with what the one threw that is told. The loader is asked once for all that
+  // wait; and again, where what is known was discarded meanwhile.
+  wait(key, go, tell) {
+    const waiting = this.#asked.get(key);
+    if (waiting) waiting.push(go);
+    else this.#fetch(key, this.#asked.set(key, [go]).get(key), tell);
+  }
+
+  async #fetch(key, waiting, tell) {
+    const load = this.loadAsync || this.load;
+    let [came, trouble] = [];
+    do {
+      waiting.isStale = false;
+      try {
+        const made = await this.#made(madeLater, key, await load(key));
+        came = () => made;
+      } catch (error) {
+        came = () => {
+          throw error;
+        };
+      }
+    } while (waiting.isStale);
+    this.#asked.delete(key);
+    try {
+      if (!this.holds(key)) this.#settle(key, came, tell);
+    } catch (error) {
+      trouble = { error };
+    }
+    // Before another map is put that takes the room of this one.
+    for (const go of waiting) go(trouble);
+  }
+
+  under(url) {
+    return new Under(url, this.#options.paths, this.#options.reading);
+  }
+
+  // What was given under a key, which is read into the store at once if it can be.
+  #read(key, data) {
+    const { isNamed, came } = this.#options;
+    const made = isNamed || data === null ? null : readInto(this.changing, this.under(key), data);
+    if (made === null) return this.#made(madeUnder, key, data);
+    came(key, made, made.size);
+    return made;
+  }
+
+  #made(make, key, data) {
+    return data === null || data === undefined ? null : make(this.under(key), data);
+  }
+
+  // Puts what comes of a call: a map, or that there is none, or that it failed, which is told; then a map may stay.
+  #settle(key, make, tell = (url, error) => this.#owner.tell(url, error), stays = false) {
+    try {
+      const made = make();
+      if (made && made.handle) this.put(key, made);
+      else if (!made) addon.putNone(this.changing, key, MISSING, this.#options.none);
+      this.#failures.delete(key);
+    } catch (error) {
+      if (stays && this.holds(key)) return void tell(key, error);
+      const [times, { retry }] = [this.#failures.get(key) || 0, this.#options];
+      this.#failures.delete(key);
+      this.#failures.set(key, times + 1);
+      if (this.#failures.size > MOST_FAILED) this.#failures.delete(this.#failures.keys().next().value);
+      try {
+        tell(key, error);
+      } finally {
+        addon.putNone(this.changing, key, FAILED, retry === null ? null : Math.min(retry * 2 ** times, Math.max(retry, MOST_WAIT)));
+      }
+    }
+  }
+
+  // Puts a map under this very URL. Its handle is freed, if no TraceMap has it.
+  put(url, made) {
+    const { isNamed, came } = this.#options;
+    const why = isNamed ? addon.isBadUrl(url, made.handle) : undefined;
+    if (why !== undefined) throw refusedUrl(why, url);
+    const { size } = made;
+    addon.put(this.changing, url, made.handle, size);
+    came(url, made, size);
+    if (!made.map) addon.closeMap(made.handle);
+  }
+
+  // What is given is put, or its error thrown.
+  add(url, data) {
+    this.put(url, madeUnder(this.under(url), data));
+  }
+
+  // Asks `load` again for a map that is there, which stays where that fails.
+  renew(key) {
+    const { load } = this;
+    this.#settle(key, () => this.#read(key, load(key)), undefined, true);
+  }
+
+  discard(url) {
+    room[ROOM_TABLE] = this.changing.place;
+    const key = addon.forget(url);
+    this.#failures.delete(key);
+    if (this.#asked.has(key)) this.#asked.get(key).isStale = true;
+  }
+
+  // Asks for the maps of these URLs that are wanted, so many at once.
+  async fill(urls) {
+    const left = [...new Set(urls.map((url) => this.wanted(url)))].filter((key) => key !== null).reverse();
+    const wait = (key) => new Promise((resolve, reject) => this.wait(key, (trouble) => (trouble ? reject(trouble.error) : resolve())));
+    const next = async () => {
+      while (left.length) await wait(left.pop());
+    };
+    await Promise.all(Array.from({ length: Math.min(this.#atOnce, left.length) }, next));
+  }
+
+  // Begins with a text of at most so many bytes.
+  begun({ places, hide, strip }, most = MOST_TEXT) {
+    return addon.newRewriting(places, hide, strip, this.asks, most);
+  }
+
+  #give(rewriting, { bytes, most, isLast }) {
+    if (this.renews) this.renews();
+    if (!addon.give(rewriting, bytes, most, isLast)) throw refusedText();
+  }
+
+  // Goes on with a rewriting: the key for whose map is to be asked, or null.
+  #run(rewriting, numbers, lines) {
+    const key = addon.run(rewriting, this.changing, numbers);
+    if (key !== false) return key;
+    throw numbers[0] === 0 ? new Error('`*` with `anywhere`') : refusedText(numbers[0], Math.max(numbers[1] - lines, 0));
+  }
+
+  // What comes out of a part of a text, behind which nothing comes or more, and which may make so many bytes: its text, and how many lines,
+  // frames or places there were so far, and how many were mapped and hidden. `lines` is how many stood before.
+  rewritten(rewriting, part, tell) {
+    const numbers = new Float64Array(4);
+    this.#give(rewriting, part);
+    for (let key; (key = this.#run(rewriting, numbers, part.lines)) !== null; ) {
+      if (this.ask(key, tell)) continue;
+      if (!this.load) throw new Error('`load` is wanted: it is rewriteAsync that asks `loadAsync`');
+      // It is the loader itself that rewrites.
+      addon.putNone(this.changing, key, FAILED, 1);
+    }
+    return { text: addon.takeText(rewriting), numbers };
+  }
+
+  // The same, where maps are waited for, so many at once: those that are named in `ahead`, whole lines of the part.
+  async rewrittenLater(rewriting, part, tell, { ahead, strip, places }) {
+    const [numbers, at] = [new Float64Array(4), new Map()];
+    let names;
+    this.#give(rewriting, part);
+    await new Promise((resolve, reject) => {
+      const go = (trouble) => {
+        try {
+          if (trouble) throw trouble.error;
+          const key = this.#run(rewriting, numbers, part.lines);
+          if (key === null) return resolve();
+          this.wait(key, go, tell);
+          if (!names) (names = locationsIn(strip ? stripped(ahead) : ahead, places)).forEach((name, i) => at.set(name, i + 1));
+          const from = at.get(key) || 0;
+          const next = names.slice(from, from + this.#atOnce - 1).filter((name) => this.wanted(name) === name);
+          next.forEach((name) => this.wait(name, (failed) => failed && reject(failed.error), tell));
+        } catch (error) {
+          reject(error);
+        }
+      };
+      go();
+    });
+    return { text: addon.takeText(rewriting), numbers };
+  }
+}
+
+// The bytes without control sequences.
+function stripped(bytes) {
+  const text = addon.stripped(bytes);
+  if (text === null) throw refusedText();
+  return text;
+}
+
+module.exports = { Store, locationsIn };
