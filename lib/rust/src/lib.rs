@@ -20,13 +20,14 @@
 #![deny(missing_docs, unsafe_code)]
 
 mod compose;
+mod engine;
 mod error;
 #[allow(unsafe_code)]
 mod library;
 mod map;
+mod maps;
 mod originals;
 mod reading;
-mod rewriting;
 #[allow(unsafe_code)]
 mod sys;
 mod table;
@@ -36,6 +37,7 @@ mod urls;
 pub use compose::ComposeOptions;
 pub use error::{Code, Error, Reason, Refused};
 pub use map::{BytesBySource, Fit, SourceMap};
+pub use maps::{Found, Maps, MapsCounts};
 pub use originals::{Generated, Originals};
 pub use reading::ReadOptions;
 pub use table::{Table, TraceCounts};

@@ -10,6 +10,8 @@ mod bytes;
 mod inners;
 mod map;
 mod originals;
+mod rewriting;
+mod store;
 mod table;
 mod texts;
 
@@ -17,7 +19,9 @@ pub(crate) use bytes::Bytes;
 pub(crate) use inners::Inners;
 pub(crate) use map::{Map, Reading, Source};
 pub(crate) use originals::Originals;
-pub(crate) use table::{cut_url, frame_urls, Table};
+pub(crate) use rewriting::{Rewriting, Stop};
+pub(crate) use store::{Found, Known, Store};
+pub(crate) use table::{path_below, Table};
 pub(crate) use texts::{
     compose_refusal_text, generated_refusal_text, reason, refusal_text, rewrite_refusal_text,
     table_refusal_text, version, write_refusal_text,
@@ -27,9 +31,8 @@ use crate::error::Error;
 use crate::sys;
 use std::slice;
 
-/// The numbers of C1 and C2.
+/// The number of C1.
 const NO_SOURCE: u32 = 1;
-const TOO_LARGE: u32 = 2;
 
 /// Where a pointer to no bytes leads.
 static NOTHING: u8 = 0;

@@ -6,11 +6,12 @@ use crate::originals::Originals;
 use crate::reading::ReadOptions;
 use crate::token::{Mappings, Token};
 use std::fmt;
+use std::sync::Arc;
 
 /// A source map that was read, a regular one or an index map.
 ///
 /// A thread that has one may hand it to another. For several that look up at once, give each its
-/// own, or put it into a `Mutex`:
+/// own by [`share`](SourceMap::share): one call at a time may use it, so it is not `Sync`:
 ///
 /// ```compile_fail
 /// fn shared<T: Sync>() {}
@@ -33,6 +34,11 @@ use std::fmt;
 /// ```
 pub struct SourceMap {
     map: library::Map,
+    texts: Arc<Texts>,
+}
+
+/// The names in a map.
+struct Texts {
     file: Option<String>,
     sources: Vec<library::Source>,
     names: Vec<String>,
@@ -48,6 +54,23 @@ impl SourceMap {
     /// ```
     pub fn from_slice(map: &[u8]) -> Result<SourceMap, Error> {
         ReadOptions::new().read(map)
+    }
+
+    /// Another one of the same map, of which nothing is copied, for another thread. The map goes with
+    /// the last of them. It fails where memory runs out.
+    ///
+    /// ```
+    /// # let map = smap::SourceMap::from_slice(br#"{"version":3,"sources":["a.ts"],"mappings":"EAAA,IAEC"}"#)?;
+    /// let other = map.share()?;
+    /// let done = std::thread::spawn(move || other.lookup(0, 5).map(|token| token.get_dst_col()));
+    /// assert_eq!((done.join().unwrap(), map.lookup(0, 5).unwrap().get_dst_col()), (Some(2), 2));
+    /// # Ok::<(), smap::Error>(())
+    /// ```
+    pub fn share(&self) -> Result<SourceMap, Error> {
+        Ok(SourceMap {
+            map: self.map.shared()?,
+            texts: Arc::clone(&self.texts),
+        })
     }
 
     /// The original of a generated position, where lines and columns count from 0, columns in
@@ -121,7 +144,10 @@ impl SourceMap {
     /// # Ok::<(), smap::Error>(())
     /// ```
     pub fn sources(&self) -> impl ExactSizeIterator<Item = Option<&str>> + '_ {
-        self.sources.iter().map(|source| source.name.as_deref())
+        self.texts
+            .sources
+            .iter()
+            .map(|source| source.name.as_deref())
     }
 
     /// The name of a source, from 0, where there is one that has one.
@@ -132,7 +158,7 @@ impl SourceMap {
     /// # Ok::<(), smap::Error>(())
     /// ```
     pub fn get_source(&self, index: u32) -> Option<&str> {
-        self.sources.get(index as usize)?.name.as_deref()
+        self.texts.sources.get(index as usize)?.name.as_deref()
     }
 
     /// A copy of the content of a source, from 0, where the map holds it.
@@ -158,7 +184,7 @@ impl SourceMap {
     /// # Ok::<(), smap::Error>(())
     /// ```
     pub fn ignore_list(&self) -> impl Iterator<Item = u32> + '_ {
-        let sources = self.sources.iter().zip(0..);
+        let sources = self.texts.sources.iter().zip(0..);
         sources
             .filter(|(source, _)| source.is_ignored)
             .map(|(_, index)| index)
@@ -172,7 +198,7 @@ impl SourceMap {
     /// # Ok::<(), smap::Error>(())
     /// ```
     pub fn names(&self) -> impl ExactSizeIterator<Item = &str> + '_ {
-        self.names.iter().map(String::as_str)
+        self.texts.names.iter().map(String::as_str)
     }
 
     /// A name, from 0.
@@ -183,7 +209,7 @@ impl SourceMap {
     /// # Ok::<(), smap::Error>(())
     /// ```
     pub fn get_name(&self, index: u32) -> Option<&str> {
-        self.names.get(index as usize).map(String::as_str)
+        self.texts.names.get(index as usize).map(String::as_str)
     }
 
     /// The name of the generated file, where the map has one.
@@ -194,7 +220,7 @@ impl SourceMap {
     /// # Ok::<(), smap::Error>(())
     /// ```
     pub fn get_file(&self) -> Option<&str> {
-        self.file.as_deref()
+        self.texts.file.as_deref()
     }
 
     /// The text of one regular map that states the same.
@@ -266,11 +292,14 @@ impl SourceMap {
         while let Some(name) = map.name(names.len() as u32) {
             names.push(name);
         }
-        SourceMap {
+        let texts = Texts {
             file: map.file(),
-            map,
             sources,
             names,
+        };
+        SourceMap {
+            map,
+            texts: Arc::new(texts),
         }
     }
 
@@ -286,9 +315,9 @@ impl SourceMap {
 impl fmt::Debug for SourceMap {
     fn fmt(&self, to: &mut fmt::Formatter<'_>) -> fmt::Result {
         to.debug_struct("SourceMap")
-            .field("file", &self.file)
-            .field("sources", &self.sources.len())
-            .field("names", &self.names.len())
+            .field("file", &self.texts.file)
+            .field("sources", &self.texts.sources.len())
+            .field("names", &self.texts.names.len())
             .field("mappings", &self.get_token_count())
             .finish()
     }

@@ -1,17 +1,12 @@
 //! Tables of maps, and the traces that are rewritten over them.
 
-mod asking;
 mod counts;
 
 pub use counts::TraceCounts;
 
-use crate::compose::standing_at;
-use crate::error::{Error, Refused};
-use crate::library::{self, Reading};
+use crate::engine::{folder_of, reading, Engine, Loader, What};
+use crate::error::Error;
 use crate::map::SourceMap;
-use crate::rewriting::{Rewriting, What};
-use crate::urls::read_in;
-use std::collections::HashSet;
 use std::fmt;
 use std::io::{self, Read, Write};
 use std::path::PathBuf;
@@ -31,21 +26,8 @@ use std::path::PathBuf;
 /// # Ok::<(), smap::Error>(())
 /// ```
 pub struct Table {
-    table: library::Table,
-    load: Option<Loader>,
-    /// The URLs that have a map or were asked for.
-    known: HashSet<Vec<u8>>,
-    has_patterns: bool,
-    has_map_of_all: bool,
-    refusals: Vec<(String, Error)>,
-    how: Reading,
-    most_output: u64,
+    engine: Engine,
 }
-
-/// So many bytes are written at most, if nothing else is said.
-const USUAL_OUTPUT: u64 = 1_073_741_824;
-
-type Loader = Box<dyn FnMut(&str, Reading) -> Result<Option<library::Map>, Error> + Send>;
 
 impl Table {
     /// A table without maps.
@@ -55,15 +37,12 @@ impl Table {
     /// # Ok::<(), smap::Error>(())
     /// ```
     pub fn new() -> Result<Table, Error> {
+        Table::asking(None)
+    }
+
+    fn asking(load: Option<Loader>) -> Result<Table, Error> {
         Ok(Table {
-            table: library::Table::new()?,
-            load: None,
-            known: HashSet::new(),
-            has_patterns: false,
-            has_map_of_all: false,
-            refusals: Vec::new(),
-            how: Reading::USUAL,
-            most_output: USUAL_OUTPUT,
+            engine: Engine::new(u64::MAX, load)?,
         })
     }
 
@@ -89,19 +68,12 @@ impl Table {
     /// assert_eq!(rewritten, b"f@https://ex.test/a.ts:3:1\n");
     /// # Ok::<(), smap::Error>(())
     /// ```
-    pub fn with_loader<L, B>(mut load: L) -> Result<Table, Error>
+    pub fn with_loader<L, B>(load: L) -> Result<Table, Error>
     where
         L: FnMut(&str) -> io::Result<Option<B>> + Send + 'static,
         B: AsRef<[u8]>,
     {
-        let load = move |url: &str, how| match load(url)? {
-            Some(bytes) => standing_at(url, bytes.as_ref(), how).map(Some),
-            None => Ok(None),
-        };
-        Ok(Table {
-            load: Some(Box::new(load)),
-            ..Table::new()?
-        })
+        Table::asking(Some(reading(load)))
     }
 
     /// A table of the maps of the URLs that begin with this prefix, which ends in `/`, in a folder, as the
@@ -123,11 +95,7 @@ impl Table {
         prefix: impl Into<String>,
         folder: impl Into<PathBuf>,
     ) -> Result<Table, Error> {
-        let (prefix, folder) = (prefix.into(), folder.into());
-        if !prefix.ends_with('/') || prefix.starts_with('*') {
-            return Err(Refused::prefix().into());
-        }
-        Table::with_loader(move |url| read_in(&folder, &prefix, url))
+        Table::asking(Some(folder_of(prefix.into(), folder.into())?))
     }
 
     /// Puts a map under a URL. One that no frame can name is refused, and one that has a map. A URL
@@ -149,12 +117,7 @@ impl Table {
     /// # Ok::<(), smap::Error>(())
     /// ```
     pub fn insert(&mut self, url: impl AsRef<str>, map: SourceMap) -> Result<(), Error> {
-        let url = url.as_ref();
-        self.table.add(url, map.into_library_map())?;
-        self.known.insert(url.as_bytes().to_vec());
-        self.has_patterns |= url.starts_with('*');
-        self.has_map_of_all |= url == "*";
-        Ok(())
+        self.engine.table.add(url.as_ref(), map.into_library_map())
     }
 
     /// How many bytes one call writes at most, 1,073,741,824 if this is not said. Of a text that comes to
@@ -169,7 +132,7 @@ impl Table {
     /// # Ok::<(), smap::Error>(())
     /// ```
     pub fn set_max_output(&mut self, bytes: u64) {
-        self.most_output = bytes;
+        self.engine.most_output = bytes;
     }
 
     /// Of how many bytes the names in each map that the loader gives may be made together, as
@@ -183,7 +146,7 @@ impl Table {
     /// # Ok::<(), smap::Error>(())
     /// ```
     pub fn set_max_names(&mut self, bytes: u64) {
-        self.how.most_names = bytes;
+        self.engine.how.most_names = bytes;
     }
 
     /// The URLs whose maps the loader could not give, or whose maps were refused, and why: the first
@@ -201,7 +164,7 @@ impl Table {
     /// # Ok::<(), smap::Error>(())
     /// ```
     pub fn refusals(&self) -> &[(String, Error)] {
-        &self.refusals
+        self.engine.refusals()
     }
 
     /// Rewrites a trace: each frame whose URL is in the table and whose place has an original gets
@@ -224,7 +187,7 @@ impl Table {
         reader: R,
         writer: W,
     ) -> Result<TraceCounts, Error> {
-        Rewriting::new(self, What::Frames, writer).run(reader)
+        self.engine.rewrite(What::Frames, reader, writer)
     }
 
     /// The same, and lines of frames from sources that the map ignores are left out.
@@ -244,12 +207,11 @@ impl Table {
         reader: R,
         writer: W,
     ) -> Result<TraceCounts, Error> {
-        Rewriting::new(self, What::VisibleFrames, writer).run(reader)
+        self.engine.rewrite(What::VisibleFrames, reader, writer)
     }
 
-    /// Rewrites each place URL:line:column, wherever it stands in a line. A loader is asked for the
-    /// URLs of frames alone. A line of more than 1,073,741,824 bytes is refused, and any text where
-    /// a map is under `*` alone.
+    /// Rewrites each place URL:line:column, wherever it stands in a line. A loader is asked for what
+    /// looks like a URL there, too. Any text is refused where a map is under `*` alone.
     ///
     /// ```
     /// # use smap::{SourceMap, Table};
@@ -266,17 +228,12 @@ impl Table {
         reader: R,
         writer: W,
     ) -> Result<TraceCounts, Error> {
-        if self.has_map_of_all {
-            return Err(Refused::places_of_all().into());
-        }
-        Rewriting::new(self, What::Places, writer).run(reader)
+        self.engine.rewrite(What::Places, reader, writer)
     }
 }
 
 impl fmt::Debug for Table {
     fn fmt(&self, to: &mut fmt::Formatter<'_>) -> fmt::Result {
-        to.debug_struct("Table")
-            .field("urls", &self.known.len())
-            .finish()
+        to.debug_struct("Table").finish_non_exhaustive()
     }
 }

@@ -7,8 +7,8 @@ use std::fmt;
 use std::iter::FusedIterator;
 
 /// The kind of an answer that leads to an original, and of none.
-const MAPPED: u32 = 2;
-const NONE: u32 = 0;
+pub(crate) const MAPPED: u32 = 2;
+pub(crate) const NONE: u32 = 0;
 
 /// A mapping: a generated position, and the original one where it has one. All lines, columns and
 /// indices count from 0, columns in UTF-16 code units.

@@ -1,6 +1,6 @@
 //! Maps.
 
-use super::{copied, done, no_source, no_text, Bytes, NOTHING, NO_SOURCE, TOO_LARGE};
+use super::{copied, done, no_source, no_text, Bytes, NOTHING};
 use crate::error::{Error, Refused};
 use crate::sys;
 use std::cell::{Cell, UnsafeCell};
@@ -195,7 +195,8 @@ impl Map {
     /// What this map and that of one of its sources come to.
     pub(crate) fn composed(&self, source: u32, inner: &Map) -> Result<Bytes, Error> {
         if ptr::eq(self, inner) {
-            return self.composed(source, &self.read_again(source)?);
+            // No call takes one handle twice.
+            return self.composed(source, &self.shared()?);
         }
         let (outer, inner, refusal) = (self.handle(), inner.handle(), Cell::new(0));
         let call =
@@ -203,27 +204,14 @@ impl Map {
         Bytes::of(call, || Refused::composition(refusal.get()))
     }
 
-    /// A copy of this map, for composing it with itself: no call takes one handle twice. Where it
-    /// is too large to be written, so is what it would come to, which has the same generated
-    /// positions.
-    fn read_again(&self, source: u32) -> Result<Map, Error> {
-        match self.written() {
-            // Its names were taken once.
-            Ok(text) => Map::read(
-                &text,
-                None,
-                Reading {
-                    most_names: u64::MAX,
-                    ..Reading::USUAL
-                },
-            ),
-            Err(Error::Refused(_)) => {
-                let is_there = u64::from(source) < self.counts().sources;
-                let number = if is_there { TOO_LARGE } else { NO_SOURCE };
-                Err(Refused::composition(number).into())
-            }
-            Err(error) => Err(error),
-        }
+    /// A handle of its own of the same map, which another thread may have.
+    pub(crate) fn shared(&self) -> Result<Map, Error> {
+        let mut handle = sys::smap_map {
+            at: ptr::null_mut(),
+        };
+        let status = unsafe { sys::smap_map_share(self.handle(), &mut handle) };
+        done(status, Refused::nothing)?;
+        Ok(Map::full(handle))
     }
 }
 

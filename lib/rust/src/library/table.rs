@@ -1,10 +1,9 @@
 //! Tables of maps, and what they make of texts.
 
-use super::{done, lent, no_source, no_text, Bytes, Map};
+use super::store::Found;
+use super::{done, no_source, no_text, Bytes, Map, NOTHING};
 use crate::error::{Error, Refused};
 use crate::sys;
-use std::cell::Cell;
-use std::ops::Range;
 use std::ptr;
 
 /// Maps, each under a URL.
@@ -39,10 +38,30 @@ impl Table {
         done(status, || Refused::table(refusal))
     }
 
-    /// Whether a URL has a map, by itself, without its query and fragment, or by a pattern.
-    pub(crate) fn has(&self, url: &[u8]) -> bool {
+    pub(super) fn handle(&mut self) -> &mut sys::smap_table {
+        &mut self.handle
+    }
+
+    /// Puts a map that is held by others, too.
+    pub(crate) fn add_shared(&mut self, url: &str, map: &Map) -> Result<(), Error> {
+        let mut refusal = 0;
+        let status = unsafe {
+            let (table, url, length) = (&mut self.handle, url.as_ptr(), url.len());
+            sys::smap_table_add_shared(table, url, length, map.handle(), &mut refusal)
+        };
+        done(status, || Refused::table(refusal))
+    }
+
+    /// What answers at a position in the map of a URL, which has one by itself, without its query and
+    /// its fragment, or by a pattern.
+    pub(crate) fn look_up(
+        &mut self,
+        url: &[u8],
+        (line, column): (u32, u32),
+        is_after: bool,
+    ) -> Option<Found> {
         let options = sys::smap_table_options {
-            after: false,
+            after: is_after,
             cut: true,
         };
         let (mut found, mut source) = (sys::smap_found::default(), no_source());
@@ -51,28 +70,11 @@ impl Table {
             let (table, bytes, length) = (&self.handle, url.as_ptr(), url.len());
             let source = &mut source;
             sys::smap_table_look_up(
-                table, bytes, length, 0, 0, &options, &mut found, source, &mut name,
+                table, bytes, length, line, column, &options, &mut found, source, &mut name,
             )
         };
-        status == sys::SMAP_DONE
-    }
-
-    /// What a text comes to, which has at most so many bytes.
-    pub(crate) fn rewritten(
-        &mut self,
-        text: &[u8],
-        options: &sys::smap_rewrite_options,
-        most: u64,
-    ) -> Result<(Bytes, sys::smap_trace_count), Error> {
-        let (table, bytes, length) = (&mut self.handle, text.as_ptr(), text.len());
-        let mut counts = sys::smap_trace_count::default();
-        let refusal = Cell::new(sys::smap_rewrite_refusal::default());
-        let call = |text| unsafe {
-            let why = refusal.as_ptr();
-            sys::smap_rewrite_within(table, bytes, length, options, most, text, &mut counts, why)
-        };
-        let text = Bytes::of(call, || Refused::text(refusal.take()))?;
-        Ok((text, counts))
+        // The next call with the table comes after what it lends is copied.
+        (status == sys::SMAP_DONE).then(|| unsafe { Found::of(found, &source, &name) })
     }
 }
 
@@ -82,23 +84,23 @@ impl Drop for Table {
     }
 }
 
-/// A URL without its query and its fragment.
-pub(crate) fn cut_url(url: &[u8]) -> &[u8] {
-    let mut text = no_text();
-    // What is lent is a part of the URL.
-    unsafe {
-        sys::smap_cut_url(url.as_ptr(), url.len(), &mut text);
-        lent(&text)
+/// Where the map of a URL with this prefix stands below its folder, if that is within it.
+pub(crate) fn path_below(prefix: &str, url: &str) -> Result<Option<String>, Error> {
+    let call = |path| unsafe {
+        let (bytes, length) = (url.as_ptr(), url.len());
+        sys::smap_folder_path(
+            prefix.as_ptr(),
+            prefix.len(),
+            &NOTHING,
+            0,
+            bytes,
+            length,
+            path,
+        )
+    };
+    match Bytes::of(call, Refused::nothing) {
+        Ok(path) => Ok(Some(path.to_text())),
+        Err(Error::Refused(_)) => Ok(None),
+        Err(error) => Err(error),
     }
-}
-
-/// Where the URL of each frame of a trace stands, in turn.
-pub(crate) fn frame_urls(trace: &[u8]) -> impl Iterator<Item = Range<usize>> + '_ {
-    let mut found = sys::smap_frame_url::default();
-    std::iter::from_fn(move || {
-        let from = found.next;
-        let status =
-            unsafe { sys::smap_next_frame_url(trace.as_ptr(), trace.len(), from, &mut found) };
-        (status == sys::SMAP_DONE).then(|| found.start..found.start + found.length)
-    })
 }

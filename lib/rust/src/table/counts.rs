@@ -23,19 +23,12 @@ pub struct TraceCounts {
 }
 
 impl TraceCounts {
-    pub(super) fn of(counts: &sys::smap_trace_count) -> TraceCounts {
+    pub(crate) fn of(counts: &sys::smap_trace_count) -> TraceCounts {
         TraceCounts {
             lines: counts.lines,
             frames: counts.frames,
             mapped: counts.mapped,
             hidden: counts.hidden,
         }
-    }
-
-    pub(crate) fn add(&mut self, more: &TraceCounts) {
-        self.lines += more.lines;
-        self.frames += more.frames;
-        self.mapped += more.mapped;
-        self.hidden += more.hidden;
     }
 }
