@@ -68,27 +68,29 @@ fn the_places_of_a_text_are_rewritten(rt: HostRuntime) -> Result<(), Fail> {
     let table = table_of_two(rt.alloc())?;
     let locations = Locations::new(rt.alloc());
     let urls = MapUrls::new(rt.alloc(), &table, &locations)?;
+    rewrites_two(&rt, rt.alloc(), &urls, &mut TableMaps(&table))
+}
+
+// A call by itself, as above.
+fn rewrites_two(
+    rt: &impl Abort,
+    alloc: Global,
+    known: &MapUrls<'_>,
+    maps: &mut TableMaps<'_>,
+) -> Result<(), Fail> {
+    let mut notes = PlaceNotes::new(alloc);
     let options = PlaceOptions {
-        known: &urls,
+        known,
         most_bytes: 100,
         is_noted: true,
     };
-    let mut maps = TableMaps(&table);
-    let mut notes = PlaceNotes::new(rt.alloc());
-    let text = Vec::from_slice(rt.alloc(), b"at /u:1:2, /x /u:1:1\n/v.js:1:1")?;
+    let text = Vec::from_slice(alloc, b"at /u:1:2, /x /u:1:1\n/v.js:1:1")?;
     let mut input = MemorySource::new(text, 8, 0);
-    let mut output = MemorySink::new(Vec::with_capacity(rt.alloc(), 100)?, 8, 0);
-    let summary = rewrite_anywhere(
-        rt.alloc(),
-        &mut input,
-        &mut output,
-        &mut maps,
-        &options,
-        &mut notes,
-    );
+    let mut output = MemorySink::new(Vec::with_capacity(alloc, 100)?, 8, 0);
+    let summary = rewrite_anywhere(alloc, &mut input, &mut output, maps, &options, &mut notes);
     let summary = summary.ok().ok_or("it is not rewritten")?;
-    is_of_two(&rt, &summary, output.bytes());
-    are_noted(&rt, &notes);
+    is_of_two(rt, &summary, output.bytes());
+    are_noted(rt, &notes);
     Ok(())
 }
 
