@@ -108,10 +108,18 @@ static void look_ups(smap_map *map, const smap_position *positions, size_t place
 }
 
 static smap_rewriting rewriting_of(void) {
-    const smap_rewriting_options options = {.most = UINT64_MAX};
+    const smap_rewriting_options options = {.asks = true, .most = UINT64_MAX, .most_output = UINT64_MAX};
     smap_rewriting rewriting = {0};
     insist(smap_rewriting_new(&options, &rewriting) == SMAP_DONE);
     return rewriting;
+}
+
+/* A table without maps. */
+static smap_table none;
+
+static uint32_t run(smap_rewriting *rewriting, smap_store *store) {
+    smap_rewrite_refusal refusal = {0};
+    return smap_rewriting_run(rewriting, &none, store, 0, &refusal);
 }
 
 static void lines_of_two(const uint8_t *bytes, size_t length) {
@@ -128,7 +136,7 @@ static void lines_of_two(const uint8_t *bytes, size_t length) {
     smap_rewriting_end(&rewriting);
     double begin = now();
     long given = 0;
-    while (smap_rewriting_run(&rewriting, &store, 0) == SMAP_WANTED) {
+    while (run(&rewriting, &store) == SMAP_WANTED) {
         smap_text url = SMAP_TEXT, key = SMAP_TEXT;
         insist(smap_rewriting_url(&rewriting, &url) == SMAP_DONE && smap_store_key(&store, url.bytes, url.length, &key) == SMAP_DONE);
         insist(smap_store_put(&store, key.bytes, key.length, &maps[given++ & 1], 1) == SMAP_DONE);
@@ -161,7 +169,7 @@ static void traces(const uint8_t *bytes, size_t length, bool is_bound) {
             insist(smap_rewriting_give(&rewriting, (const uint8_t *)line, (size_t)count) == SMAP_DONE);
         }
         smap_rewriting_end(&rewriting);
-        while (smap_rewriting_run(&rewriting, &store, 0) == SMAP_WANTED) {
+        while (run(&rewriting, &store) == SMAP_WANTED) {
             smap_map map = read_map(bytes, length);
             insist(smap_store_put(&store, (const uint8_t *)url, strlen(url), &map, size) == SMAP_DONE);
             smap_map_free(&map);
@@ -179,10 +187,12 @@ int main(int count, char **words) {
     uint8_t *bytes = whole(words[1], &length), *small = whole(words[3], &small_length);
     smap_position *positions = (smap_position *)whole(words[2], &size);
     smap_map map = read_map(bytes, length);
+    insist(smap_table_new(&none) == SMAP_DONE);
     look_ups(&map, positions, size / sizeof *positions);
     smap_map_free(&map);
     lines_of_two(small, small_length);
     traces(small, small_length, false);
     traces(small, small_length, true);
+    smap_table_free(&none);
     return 0;
 }
