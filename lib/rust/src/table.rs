@@ -121,7 +121,8 @@ impl Table {
     }
 
     /// How many bytes one call writes at most, 1,073,741,824 if this is not said. Of a text that comes to
-    /// more the lines that fit are written, and it is refused: [`Refused::lines`] says how many.
+    /// more the lines that fit are written, and it is refused:
+    /// [`Refused::lines`](crate::Refused::lines) says how many.
     ///
     /// ```
     /// let mut table = smap::Table::new()?;
