@@ -1,7 +1,7 @@
 -- Which frames have no file where places are sought: for them at most a pattern has one.
 use Rattle.std.proofs.Common.{◌≡◌, ◌&&◌, ◌||◌, ℕ, Bool, true, false, List, Option, Some, None, is_some, refl, sym}
 use Rattle.std.proofs.lemmas.Bool.{or_parts}
-use Rattle.smap_by_text.specs.ByText.{value_under}
+use Rattle.smap_locations.specs.ByText.{value_under}
 use Rattle.smap_locations.specs.Locations.{has_path_as_named, has_pattern_path_in_text, or_else, path_in_folders}
 use Rattle.smap_locations.specs.Paths.{without_query}
 use Rattle.smap_locations.specs.Patterns.{path_by_patterns}

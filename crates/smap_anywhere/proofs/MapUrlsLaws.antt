@@ -1,7 +1,7 @@
 -- The URLs that are named: their lengths; and where there are none.
 use Rattle.std.proofs.Common.{◌≡◌, ◌++◌, ◌||◌, ◌⊎◌, ℕ, zero, suc, Bool, true, false, List, [], ◌∷◌, Option, Some, None, is_some, inl, inr, length, map, take, ap, arith, refl, ◌∙◌}
 use Rattle.std.proofs.lemmas.Bool.{or_cases, or_parts}
-use Rattle.smap_by_text.specs.ByText.{value_under}
+use Rattle.smap_locations.specs.ByText.{value_under}
 use Rattle.smap_locations.specs.Locations.{folder_path, has_path_as_named, or_else, path_within}
 use Rattle.smap_locations.specs.Paths.{without_query}
 use Rattle.smap_pairs.specs.Known.{is_among}

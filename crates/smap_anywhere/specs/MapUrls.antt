@@ -3,8 +3,8 @@
 use Rattle.std.specs.Prelude.{ℕ, ◌==◌, ◌||◌, ◌&&◌, Bool, nat_le, not, List, Option, Some, None, if◌then◌else◌, is_some, length, map, take}
 use Rattle.std.specs.List.{prefix_len}
 use Rattle.std.specs.Str.{bytes_eq}
-use Rattle.smap_by_text.specs.ByText.{value_under}
-use Rattle.smap_by_text.specs.Common.{common_front, common_of}
+use Rattle.smap_locations.specs.ByText.{value_under}
+use Rattle.smap_locations.specs.Common.{common_front, common_of}
 use Rattle.smap_locations.specs.Locations.{has_path_as_named, has_pattern_path_in_text}
 use Rattle.smap_locations.specs.Paths.{without_query}
 use Rattle.smap_pairs.specs.Json.{has_quotation_mark}

@@ -8,7 +8,7 @@ ghost use Rattle.smap_pairs.specs.Json.{has_quotation_mark};
 use crate::frame_url::frame_url;
 use crate::lengths::each_length;
 use memchr::memmem::Finder;
-use smap_by_text::common_front;
+use smap_locations::common_front;
 use smap_locations::{Locations, without_query};
 use smap_pairs::{KnownUrls, NamedBy};
 use smap_trace::Table;

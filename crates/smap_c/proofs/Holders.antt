@@ -5,7 +5,7 @@ use Rattle.smap_anywhere.specs.contracts.url_finder.UrlFinder as url_finder
 use Rattle.smap_originals.specs.contracts.originals.Originals as originals_index
 use Rattle.smap_piecewise.specs.contracts.rewriting.Rewriting as text_rewriting
 use Rattle.smap_piecewise.specs.contracts.kept_maps.KeptMaps as kept_maps
-use Rattle.smap_tables.specs.contracts.url_table.UrlTable as url_table
+use Rattle.smap_store.specs.contracts.url_table.UrlTable as url_table
 use Rattle.smap_c.specs.contracts.bytes.Bytes as handed
 use Rattle.smap_c.specs.contracts.inners.Inners as inner_maps
 use Rattle.smap_c.specs.declared.handles.MapHandle.{MapHandle}

@@ -8,7 +8,7 @@ use Rattle.smap_codes.specs.declared.code.Code.TheVariants.{X3, X5}
 use Rattle.smap_lines.specs.Limits.{most_text_bytes}
 use Rattle.smap_lines.specs.declared.fault.LineFault.{LineFault}
 use Rattle.smap_lines.specs.declared.fault.LineFault.TheVariants.{TooMuch}
-use Rattle.smap_tables.specs.UrlTable.{UrlTableSeen}
+use Rattle.smap_store.specs.UrlTable.{UrlTableSeen}
 use Rattle.smap_trace.specs.declared.outcome.Summary.{Summary}
 use Rattle.smap_c.specs.Private.Rewriting.{EndsRewriting, HasFront, IsRewritten, IsTooMuch}
 use Rattle.smap_c.specs.Trace.{IsLong, line_ends, rewrite_refused}

@@ -5,7 +5,7 @@ use Rattle.std.specs.Option.{IfSome, option_or}
 use Rattle.std.specs.Prelude.{⊤, Err, Ok, Result, unwrap_or}
 use Rattle.std.specs.Result.{IfErr, IfOk}
 use Rattle.std.proofs.lemmas.Bool.{cond-false, cond-true}
-use Rattle.smap_by_text.specs.ByText.{value_under}
+use Rattle.smap_locations.specs.ByText.{value_under}
 use Rattle.smap_io.specs.Device.{Gives, Takes}
 use Rattle.smap_lines.specs.Edited.{IsEdited}
 use Rattle.smap_lines.specs.Editing.{DevicesSeen}
@@ -23,8 +23,8 @@ use Rattle.smap_anywhere.specs.Laws.AnywhereBy.{anywhere_by}
 use Rattle.smap_anywhere.specs.PartSteps.{MayBe, MayBecome}
 use Rattle.smap_anywhere.specs.Replaced.{part_text, parts_text, replacement}
 use Rattle.smap_anywhere.specs.Parts.{Part, found, other}
-use Rattle.smap_tables.specs.UrlTable.{UrlTableSeen, map_by_pattern, map_of_cut, map_under}
-use Rattle.smap_tables.specs.declared.url_maps.UrlMaps.{UrlMaps}
+use Rattle.smap_store.specs.UrlTable.{UrlTableSeen, map_by_pattern, map_of_cut, map_under}
+use Rattle.smap_store.specs.declared.url_maps.UrlMaps.{UrlMaps}
 use Rattle.smap_trace.specs.Frame.{FrameParts}
 use Rattle.smap_trace.specs.FrameOf.{frame_of}
 use Rattle.smap_trace.specs.Hiding.{HidingSeen, only_ignored}

@@ -11,7 +11,7 @@ use Rattle.smap_piecewise.specs.Work.{OfFrames, OfPlaces, WorkNow, is_of_places,
 use Rattle.smap_piecewise.specs.declared.kept_maps.KeptMaps.{KeptMaps}
 use Rattle.smap_piecewise.specs.declared.stop.Stop.{Stop}
 use Rattle.smap_piecewise.specs.declared.stop.Stop.TheVariants.{Full}
-use Rattle.smap_tables.specs.UrlTable.{UrlTableSeen}
+use Rattle.smap_store.specs.UrlTable.{UrlTableSeen}
 use Rattle.smap_trace.specs.Hiding.{only_ignored}
 use Rattle.smap_c.specs.Trace.{has_map_of_all, rewrite_refused}
 use Rattle.smap_c.specs.declared.piecewise.RewritingOptions.{RewritingOptions}

@@ -3,7 +3,7 @@ use Rattle.std.specs.Prelude.{◌≡◌, ◌⊎◌, ℕ, List, None, Option, IsU
 use Rattle.smap_record.specs.MapFile.{Map}
 use Rattle.smap_codes.specs.Codes.{number_of}
 use Rattle.smap_trace.specs.Codes.{table_code}
-use Rattle.smap_tables.specs.UrlTable.{IsAdded as HasAdded, UrlTableSeen, url_refusal}
+use Rattle.smap_store.specs.UrlTable.{IsAdded as HasAdded, UrlTableSeen, url_refusal}
 use Rattle.smap_trace.specs.declared.refusal.TableRefusal.{TableRefusal}
 
 -- the table has one more map, under this URL or this pattern

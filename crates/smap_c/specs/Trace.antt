@@ -1,7 +1,7 @@
 -- What becomes of a text that is rewritten over a table, and what is said of it.
 use Rattle.std.specs.Prelude.{◌≡◌, ◌<◌, ◌⊎◌, ℕ, ◌&&◌, ◌++◌, Bool, List, [], false, true, filter, if◌then◌else◌, is_some, length, take}
 use Rattle.memchr.specs.Find.{is_byte, places}
-use Rattle.smap_by_text.specs.ByText.{value_under}
+use Rattle.smap_locations.specs.ByText.{value_under}
 use Rattle.smap_codes.specs.Codes.{number_of}
 use Rattle.smap_codes.specs.declared.code.Code.TheVariants.{X3, X5}
 use Rattle.smap_lines.specs.Limits.{most_text_bytes}
@@ -13,7 +13,7 @@ use Rattle.smap_anywhere.specs.SeemingUrls.{urls_seeming}
 use Rattle.smap_pairs.specs.Known.{UrlsKnown}
 use Rattle.smap_anywhere.specs.Replaced.{is_place, is_replaced, parts_text}
 use Rattle.smap_sequences.specs.Sequences.{without_sequences}
-use Rattle.smap_tables.specs.UrlTable.{UrlTableSeen, locations_of, map_under}
+use Rattle.smap_store.specs.UrlTable.{UrlTableSeen, locations_of, map_under}
 use Rattle.smap_trace.specs.Hiding.{only_ignored}
 use Rattle.smap_trace.specs.MapsOf.{counts_by, rewritten_by}
 use Rattle.smap_trace.specs.Rewritten.{Counts}

@@ -12,8 +12,8 @@ ghost use Rattle.smap_piecewise.specs.contracts.rewriting.Rewriting as text_rewr
 ghost use Rattle.smap_piecewise.specs.contracts.kept_maps.KeptMaps as kept_maps;
 ghost use Rattle.smap_piecewise.specs.declared.kept_maps.KeptMaps.{KeptMaps};
 ghost use Rattle.smap_shared.specs.contracts.shared_map.SharedMap as shared_map;
-ghost use Rattle.smap_tables.specs.UrlTable.{UrlTableSeen};
-ghost use Rattle.smap_tables.specs.contracts.url_table.UrlTable as url_table;
+ghost use Rattle.smap_store.specs.UrlTable.{UrlTableSeen};
+ghost use Rattle.smap_store.specs.contracts.url_table.UrlTable as url_table;
 ghost use Rattle.smap_c.specs.contracts.bytes.Bytes as handed;
 ghost use Rattle.smap_c.specs.contracts.inners.Inners as inner_maps;
 ghost use Rattle.smap_c.specs.Inners.{Places};
@@ -29,7 +29,7 @@ use smap_anywhere::UrlFinder;
 use smap_originals::Originals;
 use smap_piecewise::{KeptMaps, Rewriting};
 use smap_shared::SharedMap;
-use smap_tables::UrlTable;
+use smap_store::UrlTable;
 use std::alloc::Global;
 use std::marker::{Model, Send};
 

@@ -13,7 +13,7 @@ use crate::texts::Text;
 use crate::trace::{RewriteRefusal, TraceCounts, counted, refused};
 use smap_codes::Code;
 use smap_piecewise::{GiveFault, HiddenFrames, Rewriting, Stop, TextOptions};
-use smap_tables::UrlTable;
+use smap_store::UrlTable;
 use std::alloc::{AllocError, Global};
 
 /// How many bytes a text may have at most, whatever bound is given.

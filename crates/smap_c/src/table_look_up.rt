@@ -2,7 +2,7 @@
 ghost use Rattle.std.specs.Prelude.{◌≡◌, IfSome, IsSome, MatchOption, option_map};
 ghost use Rattle.smap_c.specs.TableLook.{IsLookedUp, IsSourceOf, answer_in, name_found};
 ghost use Rattle.smap_c.specs.Texts.{text_or_none};
-ghost use Rattle.smap_tables.specs.UrlTable.{map_under};
+ghost use Rattle.smap_store.specs.UrlTable.{map_under};
 
 use crate::handles::TableHandle;
 use crate::look_up::{Found, answer_numbers};

@@ -4,7 +4,7 @@ ghost use Rattle.smap_c.specs.Tables.{IsAdded, IsFree, IsNotAdded};
 
 use crate::handles::{MapHandle, TableHandle};
 use crate::status::{DONE, NO_MEMORY, REFUSED};
-use smap_tables::UrlTable;
+use smap_store::UrlTable;
 use std::alloc::Global;
 
 /// Makes a table without maps.

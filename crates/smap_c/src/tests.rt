@@ -33,7 +33,7 @@ use crate::texts::{Source, Text, smap_file, smap_name, smap_source};
 use crate::trace::{TraceCounts, smap_rewrite, smap_rewrite_anywhere};
 use crate::written::{smap_bytes_free, smap_bytes_text, smap_compose, smap_map_write};
 use smap_record::MapFile;
-use smap_tables::UrlTable;
+use smap_store::UrlTable;
 use std::alloc::Global;
 use std::fs;
 use std::process::Abort;

@@ -4,7 +4,7 @@ ghost use Rattle.smap_codes.specs.Codes.{number_of};
 ghost use Rattle.smap_codes.specs.declared.code.Code.TheVariants.{X3, X5};
 ghost use Rattle.smap_lines.specs.Limits.{most_text_bytes};
 ghost use Rattle.smap_lines.specs.declared.fault.LineFault.TheVariants.{TooMuch};
-ghost use Rattle.smap_tables.specs.UrlTable.{map_under};
+ghost use Rattle.smap_store.specs.UrlTable.{map_under};
 ghost use Rattle.smap_trace.specs.Hiding.{only_ignored};
 ghost use Rattle.smap_trace.specs.MapsOf.{counts_by, rewritten_by};
 ghost use Rattle.smap_trace.specs.Rewriting.{counts_seen as summary_seen};
@@ -18,7 +18,7 @@ use crate::status::{DONE, NO_MEMORY, REFUSED};
 use crate::written::hand_out;
 use memchr::memchr_iter;
 use smap_codes::Code;
-use smap_tables::UrlTable;
+use smap_store::UrlTable;
 use smap_trace::{RewriteFault, Summary};
 use std::alloc::Global;
 

@@ -11,7 +11,7 @@ use Rattle.smap_command.specs.Limits.{usual_interval}
 use Rattle.smap_command.specs.declared.asked.ComposeAll.{ComposeAll}
 use Rattle.smap_command.specs.declared.options.WriteOptions.{WriteOptions}
 use Rattle.smap_compose.specs.Composition.{all_composed}
-use Rattle.smap_by_text.specs.ByText.{IsWith, value_under}
+use Rattle.smap_locations.specs.ByText.{IsWith, value_under}
 use Rattle.smap_locations.specs.Named.{Named}
 use Rattle.smap_record.specs.Record.{MapRecord}
 use Rattle.smap_record.specs.Sources.{StatedSource}

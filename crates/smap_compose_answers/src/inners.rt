@@ -11,7 +11,7 @@ ghost use Rattle.smap_compose_answers.specs.Private.OuterMap.{IsOuter};
 ghost use Rattle.smap_compose_answers.specs.Private.Inners.{inner_reported, inners_reported, map_reported, pair_seen};
 ghost use Rattle.smap_replies.specs.Lists.{list_refusal};
 ghost use Rattle.smap_replies.specs.Arguments.{argument_of, argument_text};
-ghost use Rattle.smap_by_text.specs.ByText.{value_under};
+ghost use Rattle.smap_locations.specs.ByText.{value_under};
 ghost use Rattle.smap_record.specs.Sources.{source_of};
 ghost use Rattle.smap_locations.specs.ListLine.{line_entry};
 

@@ -5,7 +5,7 @@ use Rattle.std.proofs.lemmas.List.Sums.{sum_by-cons, sum_by-append}
 use Rattle.std.proofs.lemmas.Slice.Eq.{bytes_eq-Decides}
 use Rattle.std.specs.Option.{option_map_or}
 use Rattle.std.specs.Str.{bytes_eq}
-use Rattle.smap_by_text.specs.ByText.{value_under}
+use Rattle.smap_locations.specs.ByText.{value_under}
 use Rattle.smap_kept.specs.Bounded.{bytes_of, entry_bytes, fitting, is_within}
 use Rattle.smap_kept.specs.InOrder.{in_front, used, without}
 use Rattle.smap_kept.specs.declared.bounded.Counted.{Counted}

@@ -12,8 +12,8 @@ use Rattle.std.specs.Option.{option_map_or}
 use Rattle.std.specs.Ordering.{nat_cmp, eq_by_cmp}
 use Rattle.std.specs.Str.{bytes_eq}
 use Rattle.lru.specs.LruCache.{LruCache, lru_cache, promoted, put_entries}
-use Rattle.smap_by_text.specs.ByText.{value_under}
-use Rattle.smap_by_text.specs.Laws.ByText.{same_text}
+use Rattle.smap_locations.specs.ByText.{value_under}
+use Rattle.smap_locations.specs.Laws.ByText.{same_text}
 use Rattle.smap_kept.specs.InOrder.{in_front, used, without}
 use Rattle.smap_kept.specs.Private.Numbered.{IsNumbered, IsOnce, in_order, numbers_of}
 use Rattle.smap_kept.specs.declared.in_order.InOrder.TheInside.{Inside}

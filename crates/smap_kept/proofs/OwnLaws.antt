@@ -5,8 +5,8 @@ use Rattle.std.proofs.lemmas.List.Folds.{length-prefix_len}
 use Rattle.std.proofs.lemmas.List.Sums.{prefix_len_passes, prefix_len_stops}
 use Rattle.std.specs.List.{prefix_len}
 use Rattle.std.specs.Str.{bytes_eq}
-use Rattle.smap_by_text.specs.ByText.{value_under}
-use Rattle.smap_by_text.specs.Laws.ByText.{same_text}
+use Rattle.smap_locations.specs.ByText.{value_under}
+use Rattle.smap_locations.specs.Laws.ByText.{same_text}
 use Rattle.smap_locations.specs.Paths.{is_before_query, without_query}
 use Rattle.smap_kept.specs.Bounded.{bytes_of, entry_bytes, fitting, kept_within}
 use Rattle.smap_kept.specs.InOrder.{without}

@@ -1,7 +1,7 @@
 -- Values under texts, within a bound of bytes (this project's own).
 use Rattle.std.specs.Prelude.{◌≡◌, ℕ, ◌+◌, ◌-◌, ◌^◌, ◌==◌, ◌||◌, Bool, true, List, [], ◌∷◌, Option, option_map, if◌then◌else◌, length, min, nat_le}
 use Rattle.std.specs.List.{sum_by}
-use Rattle.smap_by_text.specs.ByText.{value_under}
+use Rattle.smap_locations.specs.ByText.{value_under}
 use Rattle.smap_kept.specs.declared.bounded.Counted.{Counted}
 use Rattle.smap_kept.specs.declared.bounded.Bounded.TheInside.{Inside}
 

@@ -1,7 +1,7 @@
 -- Values under texts, in the order of their last use (this project's own): what was used last stands first.
 use Rattle.std.specs.Prelude.{ℕ, List, [], ◌∷◌, Option, Some, None, if◌then◌else◌}
 use Rattle.std.specs.Str.{bytes_eq}
-use Rattle.smap_by_text.specs.ByText.{value_under}
+use Rattle.smap_locations.specs.ByText.{value_under}
 
 module _ {T : Type 0} where
   -- all but what is under a text

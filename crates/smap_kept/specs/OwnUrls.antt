@@ -1,7 +1,7 @@
 -- The URLs with a query or a fragment under which something was put (this project's own). Such a URL stands for itself from
 -- then on, also after what was put is dropped or forgotten: what is known of it without these is never its answer.
 use Rattle.std.specs.Prelude.{ℕ, ◌+◌, ◌||◌, ◌&&◌, Bool, true, false, not, List, ◌∷◌, if◌then◌else◌, is_some, length, nat_le, nat_lt}
-use Rattle.smap_by_text.specs.ByText.{value_under}
+use Rattle.smap_locations.specs.ByText.{value_under}
 use Rattle.smap_locations.specs.Paths.{without_query}
 use Rattle.smap_kept.specs.Bounded.{bytes_of, entry_bytes}
 use Rattle.smap_kept.specs.InOrder.{without}

@@ -1,7 +1,7 @@
 //! Values under texts within a bound.
 ghost use Rattle.std.specs.Prelude.{◌≡◌, ◌∷◌, ◌++◌, ◌+◌, ◌-◌, [], drop, is_some, length, nat_le, option_copied, take, IfErr, IfOk, OnErr, OnOk, true};
 ghost use Rattle.std.specs.Option.{option_map_or};
-ghost use Rattle.smap_by_text.specs.ByText.{value_under};
+ghost use Rattle.smap_locations.specs.ByText.{value_under};
 ghost use Rattle.smap_kept.specs.InOrder.{used, without};
 ghost use Rattle.smap_kept.specs.Bounded.{bytes_of, count_with, entry_bytes, fitting, is_within, kept_within, known_under};
 

@@ -3,7 +3,7 @@ ghost use Rattle.std.specs.Prelude.{◌≡◌, ◌++◌, ◌∷◌, [], is_some,
 ghost use Rattle.std.specs.Option.{IfNone, option_to_list};
 ghost use Rattle.std.specs.Map.{lookup, remove_entry};
 ghost use Rattle.lru.specs.LruCache.{lru_cache};
-ghost use Rattle.smap_by_text.specs.ByText.{value_under};
+ghost use Rattle.smap_locations.specs.ByText.{value_under};
 ghost use Rattle.smap_kept.specs.InOrder.{first_under, used, without};
 
 use lru::LruCache;

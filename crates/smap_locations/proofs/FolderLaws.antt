@@ -9,7 +9,7 @@ use Rattle.std.proofs.lemmas.List.Elements.{All-contains}
 use Rattle.std.proofs.lemmas.List.Sums.{AllPass-from_list_all}
 use Rattle.smap_locations.specs.InFolder.{IsInFolder, pieces}
 use Rattle.smap_locations.specs.Locations.{folder_path, path_in_folders, path_within}
-use Rattle.smap_by_text.specs.ByText.{value_under}
+use Rattle.smap_locations.specs.ByText.{value_under}
 use Rattle.smap_locations.specs.Named.{Named}
 use Rattle.smap_locations.specs.Paths.{is_plain, is_plain_byte, is_plain_piece, map_path}
 

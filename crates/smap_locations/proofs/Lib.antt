@@ -7,3 +7,5 @@ mod InTextLaws
 mod OrderLaws
 mod SlashLaws
 mod Examples
+mod CommonLaws
+mod EntryLaws

@@ -1,7 +1,7 @@
 -- What is found without patterns is found with them, and what patterns have is found at last.
 use Rattle.std.proofs.Common.{◌≡◌, ℕ, true, List, [], Option, Some, None, is_some, refl}
 use Rattle.smap_locations.specs.Locations.{LocationsSeen, has_path_as_named, has_pattern_path_in_text, or_else, path_for, path_in_folders}
-use Rattle.smap_by_text.specs.ByText.{value_under}
+use Rattle.smap_locations.specs.ByText.{value_under}
 use Rattle.smap_locations.specs.Paths.{without_query}
 use Rattle.smap_locations.specs.Patterns.{path_by_patterns}
 use Rattle.smap_locations.proofs.InTextLaws.{path_in_text}

@@ -8,7 +8,7 @@ use Rattle.std.proofs.lemmas.Slice.Eq.{bytes_eq-Decides}
 use Rattle.smap_locations.specs.ListLine.{is_folder}
 use Rattle.smap_locations.specs.Deciding.{longest_prefix, prefix_within}
 use Rattle.smap_locations.specs.Locations.{folder_path, path_in_folders, path_within}
-use Rattle.smap_by_text.specs.ByText.{value_under}
+use Rattle.smap_locations.specs.ByText.{value_under}
 use Rattle.smap_locations.specs.Named.{Named}
 use Rattle.smap_locations.specs.Paths.{has_map_path}
 

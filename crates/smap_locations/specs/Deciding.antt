@@ -1,7 +1,7 @@
 -- What decides where the map of a URL is, as it was named (this project's own): the URL, with or without its query and its
 -- fragment, the longest prefix that has a folder, or a pattern behind its `*`.
 use Rattle.std.specs.Prelude.{ℕ, zero, suc, ◌++◌, List, Option, Some, None, codes, if◌then◌else◌, is_some, length, take}
-use Rattle.smap_by_text.specs.ByText.{value_under}
+use Rattle.smap_locations.specs.ByText.{value_under}
 use Rattle.smap_locations.specs.Locations.{LocationsSeen, or_else, path_in_folders}
 use Rattle.smap_locations.specs.Named.{Named}
 use Rattle.smap_locations.specs.Paths.{without_query}

@@ -1,7 +1,7 @@
 -- Where the file of a URL is that is found in a folder.
 use Rattle.std.specs.Prelude.{◌≡◌, ◌≢◌, ℕ, ◌==◌, ◌<◌, ◌≤◌, List, ◌++◌, Some, None, codes, length, take}
 use Rattle.std.specs.List.{Contains, slice_split}
-use Rattle.smap_by_text.specs.ByText.{value_under}
+use Rattle.smap_locations.specs.ByText.{value_under}
 use Rattle.smap_locations.specs.Named.{Named}
 
 -- the pieces of a path, which stand between `/`

@@ -1,1 +1,3 @@
 pub mod Key
+pub mod ByText
+pub mod Common

@@ -8,3 +8,5 @@ pub mod PatternSeen
 pub mod Laws
 pub mod InFolder
 pub mod ByPattern
+pub mod ByText
+pub mod Common

@@ -3,7 +3,7 @@
 use Rattle.std.specs.Prelude.{ℕ, zero, suc, ◌||◌, Bool, List, [], Option, Some, None, is_some, length, take, drop, if◌then◌else◌}
 use Rattle.std.specs.List.{list_any}
 use Rattle.smap_locations.specs.ListLine.{is_folder}
-use Rattle.smap_by_text.specs.ByText.{value_under}
+use Rattle.smap_locations.specs.ByText.{value_under}
 use Rattle.smap_locations.specs.Named.{Named, twice}
 use Rattle.smap_locations.specs.Paths.{map_path, without_query}
 use Rattle.smap_locations.specs.Patterns.{has_in_text, has_path_in_text, needs_query, path_by_patterns, text_by_patterns}

@@ -1,5 +1,6 @@
-//! Where the maps of a trace are: in files that are named for a URL, in folders in which the URLs behind a prefix have
-//! files of their own, and in files and folders of patterns of URLs.
+//! Which map a URL has, by texts and patterns: where the maps of a trace are, in files that are named for a URL, in folders
+//! in which the URLs behind a prefix have files of their own, and in files and folders of patterns of URLs; and what else is
+//! kept under a text.
 //!
 //! ```
 //! locations.add_folder(text("https://example.test/js/"), text("maps/"))?;
@@ -7,6 +8,8 @@
 //! ```
 #![tactic(auto)]
 
+mod by_text;
+mod common;
 pub mod laws;
 mod list_line;
 mod locations;
@@ -17,6 +20,8 @@ mod patterns;
 mod pieces;
 mod refusal;
 
+pub use by_text::ByText;
+pub use common::common_front;
 pub use list_line::{entry_of_line, is_folder, is_rule, pattern_text};
 pub use locations::Locations;
 pub use named::NamedPaths;

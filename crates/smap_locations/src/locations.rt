@@ -5,8 +5,8 @@ ghost use Rattle.smap_locations.specs.Deciding.{decided_by, longest_prefix};
 ghost use Rattle.smap_locations.specs.Locations.{has_path_as_named, has_pattern_in_text, has_pattern_path_in_text, key_for, path_for, path_in_folders, pattern_for, prefix_refusal};
 ghost use Rattle.smap_locations.specs.Patterns.{has_text, pattern_refusal};
 ghost use Rattle.std.specs.List.{list_any};
-ghost use Rattle.smap_by_text.specs.ByText.{IsWith, value_under};
-ghost use Rattle.smap_by_text.specs.Common.{common_of};
+ghost use Rattle.smap_locations.specs.ByText.{IsWith, value_under};
+ghost use Rattle.smap_locations.specs.Common.{common_of};
 ghost use Rattle.smap_locations.specs.Named.{twice};
 ghost use Rattle.smap_locations.specs.declared.refusal.LocationRefusal.TheVariants.{Memory};
 

@@ -1,13 +1,13 @@
 //! Paths that are named for texts.
 ghost use Rattle.std.specs.Prelude.{◌≡◌, [], string_bytes, option_map, MatchOption};
 ghost use Rattle.std.specs.Prelude.{OnErr, OnOk, IfErr, IfOk, IsErrAnd, Some, length, map};
-ghost use Rattle.smap_by_text.specs.ByText.{IsWith, value_under};
-ghost use Rattle.smap_by_text.specs.Common.{common_of};
+ghost use Rattle.smap_locations.specs.ByText.{IsWith, value_under};
+ghost use Rattle.smap_locations.specs.Common.{common_of};
 ghost use Rattle.smap_locations.specs.Named.{twice};
 ghost use Rattle.smap_locations.specs.declared.refusal.LocationRefusal.TheVariants.{Memory};
 
+use crate::by_text::ByText;
 use crate::refusal::LocationRefusal;
-use smap_by_text::ByText;
 use std::alloc::{AllocError, Global};
 use std::marker::Model;
 
@@ -19,7 +19,7 @@ pub struct NamedPaths {
 
 impl Model for NamedPaths {
     ghost use Rattle.std.specs.Prelude.{string_bytes};
-    ghost use Rattle.smap_by_text.specs.ByText.{all_seen};
+    ghost use Rattle.smap_locations.specs.ByText.{all_seen};
     ghost use Rattle.smap_locations.specs.Named.{Named};
 
     ghost Value = { Named };

@@ -12,7 +12,7 @@ use Rattle.smap_piecewise.specs.StoreMaps.{known_by, known_over}
 use Rattle.smap_piecewise.specs.declared.kept_maps.KeptMaps.{KeptMaps}
 use Rattle.smap_record.specs.MapFile.{Map}
 use Rattle.smap_record.specs.Record.{MapRecord}
-use Rattle.smap_tables.specs.UrlTable.{UrlTableSeen, map_under}
+use Rattle.smap_store.specs.UrlTable.{UrlTableSeen, map_under}
 
 pub known_same : (asks : Bool) (table : UrlTableSeen) (old new : KeptMaps) → ◌≡◌ {A = KnownByUrl} (known_in new.now new.kept) (known_in old.now old.kept)
     → ◌≡◌ {A = KnownByUrl} (known_over asks table new) (known_over asks table old)

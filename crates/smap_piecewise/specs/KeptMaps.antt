@@ -1,6 +1,6 @@
 -- The maps that are kept of URLs (this project's own).
 use Rattle.std.specs.Prelude.{ℕ, List, [], Option, None, Some}
-use Rattle.smap_by_text.specs.ByText.{value_under}
+use Rattle.smap_locations.specs.ByText.{value_under}
 use Rattle.smap_kept.specs.Kept.{KeptSeen, answer}
 use Rattle.smap_kept.specs.declared.answer.Answer.{Answer}
 use Rattle.smap_kept.specs.declared.answer.Answer.TheVariants.{Known, NoneKnown, Wanted}

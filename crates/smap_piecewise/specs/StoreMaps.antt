@@ -9,7 +9,7 @@ use Rattle.smap_piecewise.specs.declared.kept_maps.KeptMaps.{KeptMaps}
 use Rattle.smap_piecewise.specs.declared.store_maps.StoreMaps.{StoreMaps}
 use Rattle.smap_record.specs.MapFile.{Map}
 use Rattle.smap_record.specs.Record.{MapRecord}
-use Rattle.smap_tables.specs.UrlTable.{UrlTableSeen, map_under}
+use Rattle.smap_store.specs.UrlTable.{UrlTableSeen, map_under}
 
 -- where neither has something, a location is not known if maps are asked for, and has none else
 abbrev pub unkept : (asks : Bool) → (url : List ℕ) → Option (Option MapRecord)

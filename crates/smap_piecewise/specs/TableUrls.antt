@@ -5,7 +5,7 @@ use Rattle.smap_anywhere.specs.MapsSeen.{MapsSeen}
 use Rattle.smap_anywhere.specs.SeemingUrls.{looks_like_url}
 use Rattle.smap_locations.specs.Paths.{without_query}
 use Rattle.smap_pairs.specs.Known.{UrlsKnown}
-use Rattle.smap_tables.specs.UrlTable.{UrlTableSeen, locations_of}
+use Rattle.smap_store.specs.UrlTable.{UrlTableSeen, locations_of}
 
 -- the maps of a table, by which its URLs are known
 abbrev pub maps_of : UrlTableSeen → MapsSeen

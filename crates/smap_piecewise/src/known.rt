@@ -30,7 +30,7 @@ pub trait KnownMaps {
 /// Those of a table, which are all that there are.
 impl KnownMaps for TableMaps<'_> {
     ghost use Rattle.std.specs.Prelude.{ℕ, List, Some};
-    ghost use Rattle.smap_by_text.specs.ByText.{value_under};
+    ghost use Rattle.smap_locations.specs.ByText.{value_under};
     ghost use Rattle.smap_record.specs.Record.{MapRecord};
 
     ghost known = { λ maps url. Some (value_under url maps.0.now) };

@@ -26,7 +26,7 @@ use crate::table_urls::TableUrls;
 use crate::work::Work;
 use smap_lines::MOST_LINE_BYTES;
 use smap_pairs::{KnownUrls, LinePlaces};
-use smap_tables::UrlTable;
+use smap_store::UrlTable;
 use smap_trace::Summary;
 use std::alloc::{AllocError, Global};
 use std::marker::Model;

@@ -5,7 +5,7 @@ use crate::location::is_location;
 use smap_kept::Answer;
 use smap_locations::without_query;
 use smap_record::MapFile;
-use smap_tables::UrlTable;
+use smap_store::UrlTable;
 
 /// The maps of a table, which come first, and those that are kept of URLs. Where maps are asked for, it is not known what
 /// map a location has of which nothing is kept; other URLs have none.

@@ -5,7 +5,7 @@ ghost use Rattle.smap_piecewise.specs.TableUrls.{maps_of};
 use smap_anywhere::{MapUrls, SeemingUrls};
 use smap_locations::without_query;
 use smap_pairs::{KnownUrls, NamedBy};
-use smap_tables::UrlTable;
+use smap_store::UrlTable;
 use std::alloc::{AllocError, Global};
 
 /// The URLs and the patterns of a table; where maps are asked for, what looks like a URL without its query and its fragment

@@ -1,7 +1,7 @@
 -- What is remembered of the URLs that were asked for (this project's own): the map of each, or why it has none, while the
 -- bytes that these count for are within a bound each, or where there is no other; what was longest not asked for is dropped.
 use Rattle.std.specs.Prelude.{◌≡◌, ◌⊎◌, ℕ, ◌+◌, ◌-◌, ◌/◌, ◌^◌, Bool, true, false, min, List, [], ◌∷◌, Option, Some, None, MatchOption, Ok, Err, is_some}
-use Rattle.smap_by_text.specs.ByText.{value_under}
+use Rattle.smap_locations.specs.ByText.{value_under}
 use Rattle.smap_kept.specs.Bounded.{kept_within, known_under}
 use Rattle.smap_kept.specs.InOrder.{used, without}
 use Rattle.smap_kept.specs.declared.bounded.Counted.{Counted}

@@ -3,7 +3,7 @@
 use Rattle.std.specs.Prelude.{ℕ, ◌||◌, ◌&&◌, Bool, true, false, not, List, Option, Some, None, codes, is_some}
 use Rattle.std.specs.Bool.{nat_eq}
 use Rattle.std.specs.List.{ends_with, starts_with}
-use Rattle.smap_by_text.specs.ByText.{value_under}
+use Rattle.smap_locations.specs.ByText.{value_under}
 use Rattle.smap_locations.specs.Locations.{LocationsSeen}
 use Rattle.smap_record.specs.Record.{MapRecord}
 

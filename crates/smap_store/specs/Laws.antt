@@ -3,3 +3,4 @@ pub mod Kept
 pub mod Stored
 pub mod Outcome
 pub mod Same
+pub mod UrlMaps

@@ -6,3 +6,5 @@ pub mod StoredMaps
 pub mod ByPath
 pub mod MapList
 pub mod Laws
+pub mod UrlTable
+pub mod PatternSeen

@@ -5,7 +5,7 @@ use Rattle.std.specs.List.{list_any}
 use Rattle.smap_locations.specs.ListLine.{entry_of, is_folder, is_passed_over, is_rule, pattern_text}
 use Rattle.smap_locations.specs.Locations.{LocationsSeen}
 use Rattle.smap_locations.specs.Patterns.{ends_in_separator, has_text}
-use Rattle.smap_by_text.specs.ByText.{IsWith, value_under}
+use Rattle.smap_locations.specs.ByText.{IsWith, value_under}
 use Rattle.smap_record.specs.Record.{MapRecord}
 use Rattle.smap_trace.specs.Table.{is_bad_url}
 use Rattle.smap_locations.specs.declared.refusal.ListFault.{ListFault}

@@ -1,5 +1,6 @@
 //! The maps of a trace that are read when a frame first names their URLs: from the files and folders of
-//! [`Locations`](smap_locations::Locations), and kept in memory while their bytes are within a bound.
+//! [`Locations`](smap_locations::Locations), and kept in memory while their bytes are within a bound; and a table of maps
+//! that are given, each under a URL or under a pattern of URLs.
 //!
 //! ```
 //! let mut locations = Locations::new(alloc);
@@ -15,10 +16,15 @@ mod cache;
 mod fileless;
 mod list;
 mod loader;
+mod pattern_map;
 mod stored;
+mod url_maps;
+mod url_table;
 
 pub use cache::MapCache;
 pub use fileless::asks_no_file;
 pub use list::{add_list, add_rule};
 pub use loader::{LoadedMap, MapLoader, NoMap};
 pub use stored::StoredMaps;
+pub use url_maps::UrlMaps;
+pub use url_table::UrlTable;

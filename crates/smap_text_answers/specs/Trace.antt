@@ -13,7 +13,7 @@ use Rattle.smap_locations.specs.ListLine.{is_rule}
 use Rattle.smap_codes.specs.Codes.{text_of}
 use Rattle.smap_trace.specs.Codes.{table_code}
 use Rattle.smap_trace.specs.Rewriting.{Rewrites, RewritesFront}
-use Rattle.smap_by_text.specs.ByText.{IsWith}
+use Rattle.smap_locations.specs.ByText.{IsWith}
 use Rattle.smap_trace.specs.Table.{url_refusal}
 use Rattle.smap_trace.specs.declared.outcome.Summary.{Summary}
 use Rattle.smap_trace.specs.declared.refusal.TableRefusal.{TableRefusal}

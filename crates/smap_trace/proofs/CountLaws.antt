@@ -15,7 +15,7 @@ use Rattle.smap_trace.specs.Laws.MapsOf.{in_table, rewrites_by, rewrites_by_tabl
 use Rattle.smap_trace.specs.Rewriting.{BecomesFrame, RewriteAsked, Rewrites, RewritesFront, RewritesFrontOver, RewritesOver, frames_alone}
 use Rattle.smap_trace.specs.Rewritten.{Fate, MayMeet, fate, fate_at, fate_of, line_after, original_in, rewritten_line}
 use Rattle.smap_trace.specs.UrlNotes.{NotesSeen}
-use Rattle.smap_by_text.specs.ByText.{value_under}
+use Rattle.smap_locations.specs.ByText.{value_under}
 use Rattle.smap_trace.specs.declared.maps.TableMaps.{TableMaps}
 use Rattle.smap_trace.specs.declared.outcome.RewriteCounts.{RewriteCounts}
 

@@ -15,7 +15,7 @@ use Rattle.smap_record.specs.Written.{is_ignored_where, text_of_source}
 use Rattle.smap_trace.specs.Frame.{FrameParts}
 use Rattle.smap_trace.specs.FrameOf.{frame_of}
 use Rattle.smap_trace.specs.Hiding.{HidingSeen, hides, only_ignored}
-use Rattle.smap_by_text.specs.ByText.{value_under}
+use Rattle.smap_locations.specs.ByText.{value_under}
 
 -- ---- a source
 

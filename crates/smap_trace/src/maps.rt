@@ -45,7 +45,7 @@ pub struct TableMaps<'t>(pub &'t Table);
 
 impl Maps for TableMaps<'_> {
     ghost use Rattle.std.specs.Prelude.{◌≡◌, refl};
-    ghost use Rattle.smap_by_text.specs.ByText.{value_under};
+    ghost use Rattle.smap_locations.specs.ByText.{value_under};
     ghost use Rattle.smap_trace.specs.Laws.Maps.{table_given, table_same};
 
     ghost Gives = { λ maps url stated. stated ≡ value_under url maps.0.now };

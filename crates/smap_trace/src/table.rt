@@ -1,14 +1,14 @@
 //! The maps of a trace.
 ghost use Rattle.std.specs.Prelude.{◌≡◌, [], string_bytes, option_map, MatchOption, OnOk, OnErr, IfErr, IfOk, IsErrAnd, None, length, map};
 ghost use Rattle.std.specs.Str.{IsUtf8};
-ghost use Rattle.smap_by_text.specs.ByText.{IsWith, value_under};
-ghost use Rattle.smap_by_text.specs.Common.{common_of};
+ghost use Rattle.smap_locations.specs.ByText.{IsWith, value_under};
+ghost use Rattle.smap_locations.specs.Common.{common_of};
 ghost use Rattle.smap_trace.specs.Table.{is_bad_url, url_refusal};
 ghost use Rattle.smap_trace.specs.declared.refusal.TableRefusal.TheVariants.{Memory};
 
 use crate::entry::Entry;
 use crate::refusal::TableRefusal;
-use smap_by_text::ByText;
+use smap_locations::ByText;
 use smap_record::MapFile;
 use smap_shared::SharedMap;
 use std::alloc::{AllocError, AllocFailed, Global};
@@ -22,7 +22,7 @@ pub struct Table {
 
 impl Model for Table {
     ghost use Rattle.std.specs.Prelude.{ℕ, List};
-    ghost use Rattle.smap_by_text.specs.ByText.{all_seen};
+    ghost use Rattle.smap_locations.specs.ByText.{all_seen};
     ghost use Rattle.smap_record.specs.Record.{MapRecord};
     ghost use Rattle.smap_trace.specs.Private.EntrySeen.{entry_seen};
 

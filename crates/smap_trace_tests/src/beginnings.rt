@@ -1,5 +1,5 @@
 //! What texts, URLs and prefixes begin with in common.
-use smap_by_text::{ByText, common_front};
+use smap_locations::{ByText, common_front};
 use smap_locations::Locations;
 use smap_record::MapFile;
 use smap_trace::Table;

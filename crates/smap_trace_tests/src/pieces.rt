@@ -1,6 +1,6 @@
 //! A text that is rewritten in pieces, of which the map of a URL comes late.
 ghost use Rattle.std.specs.Prelude.{◌≡◌, ◌<◌, ◌^◌, None, Some, cond, false};
-ghost use Rattle.smap_by_text.specs.ByText.{value_under};
+ghost use Rattle.smap_locations.specs.ByText.{value_under};
 
 use crate::places::table_of_two;
 use smap_anywhere::SeemingUrls;

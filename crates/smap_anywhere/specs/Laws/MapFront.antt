@@ -6,9 +6,9 @@ use Rattle.std.specs.List.{list_any, prefix_len}
 use Rattle.std.proofs.lemmas.Bool.{and_parts, eqb-true, leb-true, or_cases}
 use Rattle.std.proofs.lemmas.List.{get_or_append_left, take-append-drop}
 use Rattle.memchr.specs.Find.{OccursAt}
-use Rattle.smap_by_text.specs.ByText.{value_under}
-use Rattle.smap_by_text.specs.Common.{IsFront, common_front, common_of}
-use Rattle.smap_by_text.specs.Laws.Common.{begins_common, begins_one, begins_other, front_of_front}
+use Rattle.smap_locations.specs.ByText.{value_under}
+use Rattle.smap_locations.specs.Common.{IsFront, common_front, common_of}
+use Rattle.smap_locations.specs.Laws.Common.{begins_common, begins_one, begins_other, front_of_front}
 use Rattle.smap_locations.specs.Locations.{folder_path, has_path_as_named, or_else, path_in_folders, path_within}
 use Rattle.smap_locations.specs.Named.{Named}
 use Rattle.smap_locations.specs.Paths.{without_query}

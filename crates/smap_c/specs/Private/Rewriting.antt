@@ -3,7 +3,7 @@ use Rattle.std.specs.Prelude.{◌≡◌, ◌<◌, ◌≤◌, ◌++◌, ℕ, List
 use Rattle.smap_lines.specs.Limits.{most_text_bytes}
 use Rattle.smap_lines.specs.declared.fault.LineFault.{LineFault}
 use Rattle.smap_lines.specs.declared.fault.LineFault.TheVariants.{TooMuch}
-use Rattle.smap_tables.specs.UrlTable.{UrlTableSeen}
+use Rattle.smap_store.specs.UrlTable.{UrlTableSeen}
 use Rattle.smap_trace.specs.Rewriting.{counts_seen as summary_seen}
 use Rattle.smap_trace.specs.declared.outcome.Summary.{Summary}
 use Rattle.smap_c.specs.Trace.{counts_of, text_of}

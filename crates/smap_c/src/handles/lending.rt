@@ -14,7 +14,7 @@ use smap_anywhere::UrlFinder;
 use smap_originals::Originals;
 use smap_piecewise::{KeptMaps, Rewriting};
 use smap_shared::SharedMap;
-use smap_tables::UrlTable;
+use smap_store::UrlTable;
 use std::alloc::Global;
 
 impl MapHandle {

@@ -13,7 +13,7 @@ use smap_originals::Originals;
 use smap_piecewise::{KeptMaps, Rewriting};
 use smap_record::MapFile;
 use smap_shared::SharedMap;
-use smap_tables::UrlTable;
+use smap_store::UrlTable;
 use std::alloc::{AllocError, AllocFailed, Global};
 
 impl MapHandle {

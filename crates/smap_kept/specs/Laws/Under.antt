@@ -4,8 +4,8 @@ use Rattle.std.specs.Prelude.{◌≡◌, ◌⊎◌, ℕ, ◌-◌, Bool, true, fa
 use Rattle.std.proofs.Common.{cond, refl, sym, ap, subst, ◌∙◌, inl, inr}
 use Rattle.std.proofs.lemmas.Slice.Eq.{bytes_eq-Decides}
 use Rattle.std.specs.Str.{bytes_eq}
-use Rattle.smap_by_text.specs.ByText.{value_under}
-use Rattle.smap_by_text.specs.Laws.ByText.{same_text}
+use Rattle.smap_locations.specs.ByText.{value_under}
+use Rattle.smap_locations.specs.Laws.ByText.{same_text}
 use Rattle.smap_kept.specs.Bounded.{entry_bytes, fitting, kept_within, known_under}
 use Rattle.smap_kept.specs.InOrder.{in_front, used, without}
 use Rattle.smap_kept.specs.declared.bounded.Counted.{Counted}

@@ -4,7 +4,7 @@ use Rattle.std.specs.List.{list_any, prefix_len}
 use Rattle.std.proofs.Common.{arith, refl, subst, suc, sym, ap, ◌∙◌}
 use Rattle.smap_locations.specs.ListLine.{is_folder}
 use Rattle.smap_locations.specs.Locations.{LocationsSeen, is_whole, key_for, or_else, path_for, path_in_folders}
-use Rattle.smap_by_text.specs.ByText.{value_under}
+use Rattle.smap_locations.specs.ByText.{value_under}
 use Rattle.smap_locations.specs.Named.{Named}
 use Rattle.smap_locations.specs.Paths.{is_before_query, without_query}
 use Rattle.smap_locations.specs.Patterns.{better, deciding, has_ending, has_url, is_better, needs_query, path_by_patterns, path_of, rest_behind}

@@ -1,7 +1,7 @@
 -- What is remembered after one more is, or after it is used.
 use Rattle.std.specs.Prelude.{◌≡◌, ◌⊎◌, ℕ, ◌/◌, Bool, true, false, List, Option, Some, None, Ok, Err, is_some, option_map}
 use Rattle.std.proofs.Common.{ap, inl, inr, refl, subst, sym, ◌∙◌}
-use Rattle.smap_by_text.specs.ByText.{value_under}
+use Rattle.smap_locations.specs.ByText.{value_under}
 use Rattle.smap_kept.specs.Bounded.{known_under}
 use Rattle.smap_kept.specs.InOrder.{in_front}
 use Rattle.smap_kept.specs.Laws.Under.{found_first, known_put, put_first, same_used}

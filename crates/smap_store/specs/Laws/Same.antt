@@ -6,7 +6,7 @@ use Rattle.smap_locations.specs.Laws.Key.{path_of_key}
 use Rattle.smap_locations.specs.Locations.{LocationsSeen, key_for, path_for}
 use Rattle.smap_record.specs.Record.{MapRecord}
 use Rattle.std.specs.Result.{result_ok}
-use Rattle.smap_by_text.specs.ByText.{value_under}
+use Rattle.smap_locations.specs.ByText.{value_under}
 use Rattle.smap_store.specs.ByPath.{IsGood, IsRight, MapsByPath, by_path, stored_maps}
 use Rattle.smap_store.specs.Cache.{CacheSeen, IsEmpty, IsKept, Keeps, Remembers, counted, kept_under, one_more, used_among}
 use Rattle.smap_store.specs.Fileless.{known_of}

@@ -2,7 +2,7 @@
 use Rattle.std.specs.Prelude.{◌≡◌, ℕ, List, Option}
 use Rattle.std.proofs.Common.{ap, ◌∙◌}
 use Rattle.smap_record.specs.Record.{MapRecord}
-use Rattle.smap_by_text.specs.ByText.{value_under}
+use Rattle.smap_locations.specs.ByText.{value_under}
 use Rattle.smap_trace.specs.declared.maps.TableMaps.{TableMaps}
 
 pub table_given : (maps after : TableMaps) (url : List ℕ) → after ≡ maps → value_under url after.0.now ≡ value_under url maps.0.now

@@ -21,7 +21,7 @@ use Rattle.smap_trace.specs.Rewriting.{RewriteAsked, Rewrites, RewritesOver, Tra
 use Rattle.smap_trace.specs.Rewritten.{Fate, FateStep, counts_of, fate, fate_at, fate_of, is_frame_line, is_hidden, is_mapped, line_after, original_in}
 use Rattle.smap_trace.specs.Rewritten.{rewritten, rewritten_line}
 use Rattle.smap_trace.specs.UrlNotes.{NotesSeen}
-use Rattle.smap_by_text.specs.ByText.{value_under}
+use Rattle.smap_locations.specs.ByText.{value_under}
 use Rattle.smap_trace.specs.declared.outcome.RewriteCounts.{RewriteCounts}
 
 -- ---- over the maps of a table

@@ -1,5 +1,5 @@
 use Rattle.std.proofs.Common.{ap, option_copied, option_map, sym, ◌∙◌}
-use Rattle.smap_by_text.specs.ByText.{value_under}
+use Rattle.smap_locations.specs.ByText.{value_under}
 use Rattle.smap_kept.proofs.Numbers.{found, no_value}
 use Rattle.smap_kept.proofs.in_order.InOrder.numbered_under.Goals as goal
 

@@ -1,7 +1,7 @@
 use Rattle.std.proofs.Common.{ℕ, arith, length, ◌++◌, ◌∷◌, [], None, ap, cond, sym, subst, ◌∙◌}
 use Rattle.std.specs.Map.{lookup}
 use Rattle.std.specs.Str.{bytes_eq}
-use Rattle.smap_by_text.specs.ByText.{value_under}
+use Rattle.smap_locations.specs.ByText.{value_under}
 use Rattle.smap_kept.specs.Private.Numbered.{IsOnce, in_order, numbers_of}
 use Rattle.smap_kept.specs.declared.in_order.Named.{Named}
 use Rattle.smap_kept.proofs.Numbers.{found}

@@ -1,5 +1,5 @@
 use Rattle.std.proofs.Common.{◌≡◌, Some, None, ap, arith, length, is_some, option_copied, sym, subst, ◌∙◌}
-use Rattle.smap_by_text.specs.ByText.{value_under}
+use Rattle.smap_locations.specs.ByText.{value_under}
 use Rattle.smap_kept.specs.InOrder.{in_front, used}
 use Rattle.smap_kept.specs.Private.Numbered.{IsOnce, in_order, numbers_of}
 use Rattle.smap_kept.proofs.Numbers.{Found, found, no_value}

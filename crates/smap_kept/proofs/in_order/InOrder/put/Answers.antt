@@ -1,6 +1,6 @@
 use Rattle.std.proofs.Common.{◌≡◌, ℕ, ◌∷◌, None, ap, arith, length, nat_eq, option_map, sym, subst, ◌∙◌}
 use Rattle.std.specs.Map.{lookup, remove_entry}
-use Rattle.smap_by_text.specs.ByText.{value_under}
+use Rattle.smap_locations.specs.ByText.{value_under}
 use Rattle.smap_kept.specs.InOrder.{without}
 use Rattle.smap_kept.specs.Private.Numbered.{IsOnce, in_order, numbers_of}
 use Rattle.smap_kept.specs.declared.in_order.Named.{Named}

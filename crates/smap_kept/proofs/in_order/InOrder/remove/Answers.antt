@@ -1,6 +1,6 @@
 use Rattle.std.proofs.Common.{◌≡◌, None, ap, arith, length, cond, option_map, sym, subst, ◌∙◌}
 use Rattle.std.specs.Str.{bytes_eq}
-use Rattle.smap_by_text.specs.ByText.{value_under}
+use Rattle.smap_locations.specs.ByText.{value_under}
 use Rattle.smap_kept.specs.InOrder.{without}
 use Rattle.smap_kept.specs.Private.Numbered.{IsOnce, in_order, numbers_of}
 use Rattle.smap_kept.proofs.Numbers.{Found, all_stay, found, no_value}

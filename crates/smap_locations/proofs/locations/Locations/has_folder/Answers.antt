@@ -1,5 +1,5 @@
 use Rattle.std.proofs.Common.{ap, is_some, sym, ◌∙◌}
-use Rattle.smap_by_text.specs.ByText.{value_under}
+use Rattle.smap_locations.specs.ByText.{value_under}
 use Rattle.smap_locations.proofs.PathLaws.{no_folder}
 use Rattle.smap_locations.proofs.locations.Locations.has_folder.Goals as goal
 

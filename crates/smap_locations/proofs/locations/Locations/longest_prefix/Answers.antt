@@ -1,5 +1,5 @@
 use Rattle.std.proofs.Common.{◌≡◌, suc, is_some, ap, sym, arith, ◌∙◌, ◌-◌}
-use Rattle.smap_by_text.specs.ByText.{value_under}
+use Rattle.smap_locations.specs.ByText.{value_under}
 use Rattle.smap_locations.specs.Deciding.{prefix_within}
 use Rattle.smap_locations.proofs.PathLaws.{prefix_here, prefix_shorter}
 use Rattle.smap_locations.proofs.locations.Locations.longest_prefix.Goals as goal

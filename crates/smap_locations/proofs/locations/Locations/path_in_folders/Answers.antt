@@ -1,6 +1,6 @@
 use Rattle.std.proofs.Common.{◌≡◌, [], None, Some, drop, string_bytes, option_map, take, ap, refl, sym, ◌∙◌}
 use Rattle.std.proofs.lemmas.Result.{IfOk-weaker}
-use Rattle.smap_by_text.specs.ByText.{value_under}
+use Rattle.smap_locations.specs.ByText.{value_under}
 use Rattle.smap_locations.specs.Deciding.{longest_prefix}
 use Rattle.smap_locations.specs.Locations.{folder_path, path_in_folders}
 use Rattle.smap_locations.specs.Paths.{map_path}

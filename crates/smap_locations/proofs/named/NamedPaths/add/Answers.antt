@@ -1,6 +1,6 @@
 use Rattle.std.proofs.Common.{◌≡◌, None, string_bytes, sym, ap, subst, ◌∙◌}
-use Rattle.smap_by_text.specs.ByText.{IsWith, all_seen, value_under}
-use Rattle.smap_by_text.specs.Laws.ByText.{none_found, none_under, with_seen}
+use Rattle.smap_locations.specs.ByText.{IsWith, all_seen, value_under}
+use Rattle.smap_locations.specs.Laws.ByText.{none_found, none_under, with_seen}
 use Rattle.smap_locations.proofs.named.NamedPaths.add.Goals as goal
 use Rattle.smap_locations.proofs.named.NamedPaths.add.Goals.{in-Ok, in-Err}
 

@@ -1,6 +1,6 @@
 use Rattle.std.proofs.Common.{string_bytes, ◌∙◌}
 use Rattle.std.proofs.lemmas.Result.{IfOk-weaker}
-use Rattle.smap_by_text.specs.Laws.ByText.{lengths_seen}
+use Rattle.smap_locations.specs.Laws.ByText.{lengths_seen}
 use Rattle.smap_locations.proofs.named.NamedPaths.lengths.Goals as goal
 
 pub returns : goal.returns

@@ -1,5 +1,5 @@
 use Rattle.std.proofs.Common.{string_bytes}
-use Rattle.smap_by_text.specs.Laws.ByText.{found_seen}
+use Rattle.smap_locations.specs.Laws.ByText.{found_seen}
 use Rattle.smap_locations.proofs.named.NamedPaths.path_under.Goals as goal
 
 pub returns : goal.returns

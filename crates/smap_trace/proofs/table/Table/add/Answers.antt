@@ -1,7 +1,7 @@
 use Rattle.std.proofs.Common.{◌≡◌, ℕ, List, None, string_bytes, sym, ap, ◌∙◌, subst}
 use Rattle.std.specs.Str.{IsUtf8}
-use Rattle.smap_by_text.specs.ByText.{IsWith, all_seen, value_under}
-use Rattle.smap_by_text.specs.Laws.ByText.{none_found, none_under, with_seen}
+use Rattle.smap_locations.specs.ByText.{IsWith, all_seen, value_under}
+use Rattle.smap_locations.specs.Laws.ByText.{none_found, none_under, with_seen}
 use Rattle.smap_trace.specs.Private.EntrySeen.{entry_seen}
 use Rattle.smap_trace.specs.declared.entry.Entry.TheVariants.{Own}
 use Rattle.smap_trace.proofs.table.Table.add.Goals as goal

@@ -1,7 +1,7 @@
 use Rattle.std.proofs.Common.{◌≡◌, Bool, Option, None, Some, true, false, refl}
 use Rattle.std.specs.Prelude.{if◌then◌else◌, is_some}
-use Rattle.smap_by_text.specs.ByText.{value_under}
-use Rattle.smap_by_text.specs.Laws.ByText.{none_under}
+use Rattle.smap_locations.specs.ByText.{value_under}
+use Rattle.smap_locations.specs.Laws.ByText.{none_under}
 use Rattle.smap_record.specs.Record.{MapRecord}
 use Rattle.smap_trace.specs.Private.EntrySeen.{entry_seen}
 use Rattle.smap_trace.specs.Table.{is_bad_url}

@@ -1,5 +1,5 @@
 use Rattle.std.proofs.Common.{◌∙◌}
-use Rattle.smap_by_text.specs.Laws.Common.{common_seen}
+use Rattle.smap_locations.specs.Laws.Common.{common_seen}
 use Rattle.smap_trace.specs.Private.EntrySeen.{entry_seen}
 use Rattle.smap_trace.proofs.table.Table.common_url.Goals as goal
 

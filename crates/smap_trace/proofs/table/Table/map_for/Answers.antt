@@ -1,5 +1,5 @@
 use Rattle.std.proofs.Common.{Some, ap, option_map, sym, ◌∙◌}
-use Rattle.smap_by_text.specs.Laws.ByText.{found_seen}
+use Rattle.smap_locations.specs.Laws.ByText.{found_seen}
 use Rattle.smap_trace.specs.Private.EntrySeen.{entry_seen}
 use Rattle.smap_trace.proofs.table.Table.map_for.Goals as goal
 

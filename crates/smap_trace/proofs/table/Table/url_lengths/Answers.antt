@@ -1,6 +1,6 @@
 use Rattle.std.proofs.Common.{◌∙◌}
 use Rattle.std.proofs.lemmas.Result.{IfOk-weaker}
-use Rattle.smap_by_text.specs.Laws.ByText.{lengths_seen}
+use Rattle.smap_locations.specs.Laws.ByText.{lengths_seen}
 use Rattle.smap_trace.specs.Private.EntrySeen.{entry_seen}
 use Rattle.smap_trace.proofs.table.Table.url_lengths.Goals as goal
 

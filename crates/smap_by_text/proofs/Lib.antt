@@ -1,2 +1,0 @@
-mod CommonLaws
-mod EntryLaws

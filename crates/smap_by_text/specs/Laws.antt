@@ -1,2 +1,0 @@
-pub mod ByText
-pub mod Common

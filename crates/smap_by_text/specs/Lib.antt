@@ -1,3 +1,0 @@
-pub mod ByText
-pub mod Common
-pub mod Laws

@@ -1,3 +1,0 @@
-pub mod UrlTable
-pub mod PatternSeen
-pub mod Laws
