@@ -22,8 +22,8 @@ use Rattle.smap_replies.specs.Map.{IsLine, IsResult, ReportsMap}
 use Rattle.smap_replies.specs.Runs.{ReportsAside, ReportsUnread, RunsOne}
 use Rattle.smap_replies.specs.Streams.{Streams}
 use Rattle.smap_replies.specs.Why.{ReportsChosen, ReportsMapWhy}
-use Rattle.smap_sequences.specs.Sequences.{IsWaiting, most_sequences}
-use Rattle.smap_sequences.specs.Source.{without_seen}
+use Rattle.smap_io.specs.Sequences.{IsWaiting, most_sequences}
+use Rattle.smap_io.specs.WithoutSequences.{without_seen}
 use Rattle.smap_text_answers.specs.Rewrite.{RunsRewrite}
 use Rattle.smap_command.specs.declared.command.Command.{Command}
 use Rattle.smap_command.specs.declared.command.Command.TheVariants.{Raw, Check, Show, Lookup, Generated, Positions, Mappings, Sources, SourceContent, Rewrite, Locate}

@@ -17,7 +17,7 @@ use smap_map_answers::{
     answer_sources,
 };
 use smap_replies::{FileReader, Loaded, LoadedFiles, MapReader, report};
-use smap_sequences::WithoutSequences;
+use smap_io::WithoutSequences;
 use smap_text_answers::{TextRequest, answer_rewrite};
 use std::alloc::Global;
 

@@ -7,9 +7,9 @@ use Rattle.std.proofs.lemmas.List.{drop-drop, drop-set-lt, length-drop, length-s
 use Rattle.smap_text.proofs.BeginLaws.{some_line}
 use Rattle.smap_text.specs.Begins.{BeginsAt}
 use Rattle.smap_text.specs.Lines.{lines_of}
-use Rattle.smap_context.proofs.EndLaws.{end_of_end, ends_next, slice_get_drop}
-use Rattle.smap_context.specs.Rest.{IsEndFrom}
-use Rattle.smap_context.specs.Shown.{IsFrontOf}
+use Rattle.smap_text.proofs.RestLaws.{end_of_end, ends_next, slice_get_drop}
+use Rattle.smap_text.specs.Rest.{IsEndFrom}
+use Rattle.smap_text.specs.ShownLine.{IsFrontOf}
 use Rattle.smap_c.specs.Lines.{IsLineAt}
 use Rattle.smap_c.specs.Texts.{flag}
 use Rattle.smap_c.specs.declared.lines.LineBytes.{LineBytes}

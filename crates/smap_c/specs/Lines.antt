@@ -5,7 +5,7 @@ use Rattle.std.specs.Str.{chars}
 use Rattle.smap_record.specs.Record.{MapRecord}
 use Rattle.smap_text.specs.Begins.{BeginsAt}
 use Rattle.smap_text.specs.Lines.{lines_of}
-use Rattle.smap_context.specs.Shown.{IsFrontOf}
+use Rattle.smap_text.specs.ShownLine.{IsFrontOf}
 use Rattle.smap_c.specs.Texts.{flag}
 use Rattle.smap_c.specs.declared.lines.LineBytes.{LineBytes}
 use Rattle.smap_c.specs.declared.lines.LineRange.{LineRange}

@@ -12,7 +12,7 @@ use Rattle.smap_anywhere.specs.MapUrls.{urls_known}
 use Rattle.smap_anywhere.specs.SeemingUrls.{urls_seeming}
 use Rattle.smap_pairs.specs.Known.{UrlsKnown}
 use Rattle.smap_anywhere.specs.Replaced.{is_place, is_replaced, parts_text}
-use Rattle.smap_sequences.specs.Sequences.{without_sequences}
+use Rattle.smap_io.specs.Sequences.{without_sequences}
 use Rattle.smap_store.specs.UrlTable.{UrlTableSeen, locations_of, map_under}
 use Rattle.smap_trace.specs.Hiding.{only_ignored}
 use Rattle.smap_trace.specs.MapsOf.{counts_by, rewritten_by}

@@ -2,14 +2,14 @@
 ghost use Rattle.std.specs.Prelude.{◌≡◌, ◌<◌, ◌≤◌, ◌+◌, ◌-◌, ℕ, IfSome, IsSome, IsSomeAnd, MatchOption, drop, length, min, nat_lt, option_map, slice_get};
 ghost use Rattle.std.specs.Str.{chars};
 ghost use Rattle.smap_text.specs.Lines.{lines_of};
-ghost use Rattle.smap_context.specs.Rest.{IsEndFrom};
-ghost use Rattle.smap_context.specs.Shown.{IsFrontOf};
+ghost use Rattle.smap_text.specs.Rest.{IsEndFrom};
+ghost use Rattle.smap_text.specs.ShownLine.{IsFrontOf};
 ghost use Rattle.smap_c.specs.Lines.{AreLines, IsLineAt, around, content_of};
 ghost use Rattle.smap_c.specs.Texts.{flag};
 
 use crate::handles::MapHandle;
 use crate::status::{DONE, REFUSED};
-use smap_context::{rest_from, shown_bytes};
+use smap_text::{rest_from, shown_bytes};
 use smap_record::MapFile;
 use smap_text::split_line;
 

@@ -1,8 +1,8 @@
 -- What `explain` prints of a code.
 use Rattle.std.specs.Prelude.{◌≡◌, ◌++◌, ◌∷◌, ℕ, codes, flat_map, List, None, Option, Some}
-use Rattle.smap_code_texts.specs.Texts.{code_text, title_line}
-use Rattle.smap_code_texts.specs.Words.{code_called}
-use Rattle.smap_code_texts.specs.declared.row.Row.{Row}
+use Rattle.smap_codes.specs.Texts.{code_text, title_line}
+use Rattle.smap_codes.specs.Words.{code_called}
+use Rattle.smap_codes.specs.declared.row.Row.{Row}
 use Rattle.smap_codes.specs.Codes.{all_codes}
 use Rattle.smap_codes.specs.declared.code.Code.{Code}
 use Rattle.smap_text.specs.Shown.{shown}

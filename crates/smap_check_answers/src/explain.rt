@@ -2,9 +2,9 @@
 ghost use Rattle.std.specs.Prelude.{◌≡◌, option_map, string_bytes, IfOk};
 ghost use Rattle.smap_check_answers.specs.Explain.{ReportsCalled, ReportsCode, no_code_text};
 ghost use Rattle.smap_replies.specs.Outcome.{OrMemory, report_of};
-ghost use Rattle.smap_code_texts.specs.Words.{code_called};
+ghost use Rattle.smap_codes.specs.Words.{code_called};
 
-use smap_code_texts::{all_codes_text, code_called, code_text, row_of};
+use smap_codes::{all_codes_text, code_called, code_text, row_of};
 use smap_command::Explain;
 use smap_replies::{Failure, Reply};
 use smap_text::shown;

@@ -1,10 +1,26 @@
-//! The codes by which refusals and failures are called, as `M14 Text`. What each means stands in smap_code_texts.
+//! The codes by which refusals and failures are called, as `M14 Text`; and what each means, what usually causes it, and
+//! what to do about it.
 //!
 //! ```text
 //! print(refusal.code().text());
+//! if let Some(code) = code_called("M14") {
+//!     print(code_text(alloc, row_of(code))?);
+//! }
 //! ```
 #![tactic(auto)]
 
+mod alone_codes;
 mod code;
+mod index_codes;
+mod map_codes;
+mod mappings_codes;
+mod row;
+mod table;
+mod trace_codes;
+mod word;
+mod writing_codes;
 
 pub use code::{Code, all};
+pub use row::{Row, code_text};
+pub use table::row_of;
+pub use word::{all_codes_text, code_called};

@@ -10,7 +10,7 @@ use Rattle.smap_piecewise.specs.Rewriting.{HasRun, IsHandedOn, RewritingNow, str
 use Rattle.smap_piecewise.specs.Stripping.{held_of, text_behind}
 use Rattle.smap_piecewise.specs.Work.{OfFrames, OfPlaces, WorkGoesOn, WorkNow, is_over, output_of, with_end, with_left, without_output, work_outcome}
 use Rattle.smap_pairs.specs.Known.{UrlsKnown}
-use Rattle.smap_sequences.specs.Sequences.{kept}
+use Rattle.smap_io.specs.Sequences.{kept}
 use Rattle.smap_piecewise.specs.declared.bound.Bound.{Bound}
 use Rattle.smap_piecewise.specs.declared.frames.Frames.{Frames}
 use Rattle.smap_piecewise.specs.declared.places.Places.{Places}

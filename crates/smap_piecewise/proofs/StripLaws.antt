@@ -1,12 +1,12 @@
 -- Bytes of a text that are handed on without control sequences.
 use Rattle.std.proofs.Common.{◌≡◌, ◌≤◌, ◌+◌, ◌-◌, ◌∙◌, ◌⊎◌, inl, inr, get_or, ℕ, Bool, true, false, List, [], ◌∷◌, ◌++◌, length, take, drop, sym, ap, refl, subst, arith, append-nil, append_assoc, length-append}
 use Rattle.std.proofs.Common.{length-drop, length-take-le}
-use Rattle.smap_sequences.specs.Sequences.{kept, kept_byte, sequence_length}
-use Rattle.smap_sequences.specs.Private.Front.{IsFront}
-use Rattle.smap_sequences.specs.Private.Given.{Tells}
-use Rattle.smap_sequences.specs.declared.front.Front.{Front}
-use Rattle.smap_sequences.specs.declared.front.Front.TheVariants.{Byte, Open, Sequence}
-use Rattle.smap_sequences.specs.declared.telling.Told.{Told}
+use Rattle.smap_io.specs.Sequences.{kept, kept_byte, sequence_length}
+use Rattle.smap_io.specs.Private.Front.{IsFront}
+use Rattle.smap_io.specs.Private.Given.{Tells}
+use Rattle.smap_io.specs.declared.front.Front.{Front}
+use Rattle.smap_io.specs.declared.front.Front.TheVariants.{Byte, Open, Sequence}
+use Rattle.smap_io.specs.declared.telling.Told.{Told}
 use Rattle.smap_piecewise.specs.Private.Stripping.{PassesOn}
 use Rattle.smap_piecewise.specs.declared.stripping.Stripping.{Stripping}
 

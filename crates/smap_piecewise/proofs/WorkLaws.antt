@@ -3,7 +3,7 @@ use Rattle.std.proofs.Common.{◌≡◌, ◌<◌, ◌≤◌, ◌-◌, ◌+◌, �
 use Rattle.std.proofs.Common.{drop, length-drop, length-take-le}
 use Rattle.std.specs.List.{slice_range}
 use Rattle.smap_pairs.specs.Known.{UrlsKnown}
-use Rattle.smap_sequences.specs.Sequences.{kept}
+use Rattle.smap_io.specs.Sequences.{kept}
 use Rattle.smap_trace.specs.MapsOf.{MapsByUrl}
 use Rattle.smap_piecewise.specs.Frames.{FramesNow, GoesOn, IsTooLong, outcome_of as frames_outcome, rest_of}
 use Rattle.smap_piecewise.specs.Known.{Agrees, KnownByUrl}

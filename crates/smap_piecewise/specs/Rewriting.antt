@@ -1,7 +1,7 @@
 -- A rewriting that is given bytes (this project's own).
 use Rattle.std.specs.Prelude.{◌≡◌, ◌<◌, ◌≤◌, ℕ, ◌+◌, ◌-◌, ◌^◌, Bool, true, false, List, [], ◌++◌, Option, None, Some, if◌then◌else◌, length, min}
 use Rattle.smap_pairs.specs.Known.{UrlsKnown}
-use Rattle.smap_sequences.specs.Sequences.{most_sequences, without_sequences}
+use Rattle.smap_io.specs.Sequences.{most_sequences, without_sequences}
 use Rattle.smap_trace.specs.Hiding.{HidingSeen}
 use Rattle.smap_trace.specs.MapsOf.{MapsByUrl}
 use Rattle.smap_piecewise.specs.Frames.{frames_start}

@@ -1,6 +1,6 @@
 -- A text that comes without the control sequences of a terminal (this project's own).
 use Rattle.std.specs.Prelude.{ℕ, List, [], ◌++◌, Option, None, Some}
-use Rattle.smap_sequences.specs.Sequences.{kept}
+use Rattle.smap_io.specs.Sequences.{kept}
 use Rattle.smap_piecewise.specs.declared.stripping.Stripping.{Stripping}
 
 -- what is still to be handed on of a text, if these bytes come behind those that were given

@@ -1,10 +1,10 @@
 //! A text that comes without the control sequences of a terminal.
 ghost use Rattle.std.specs.Prelude.{◌≡◌, [], OnOk, false, true};
-ghost use Rattle.smap_sequences.specs.Sequences.{most_sequences};
+ghost use Rattle.smap_io.specs.Sequences.{most_sequences};
 ghost use Rattle.smap_piecewise.specs.Private.Stripping.{PassesOn};
 
 use crate::given::Given;
-use smap_sequences::{Front, front_of, tell};
+use smap_io::{Front, front_of, tell};
 use std::alloc::{AllocError, Global};
 
 // How many bytes are told at once.

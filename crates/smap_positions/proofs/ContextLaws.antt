@@ -10,8 +10,8 @@ use Rattle.json.specs.Print.{escape_byte}
 use Rattle.serde_json.specs.Data.{string}
 use Rattle.serde_json.specs.View.{items_of}
 use Rattle.serde_json.specs.Written.{comma_if, compact_text, items_text}
-use Rattle.smap_context.proofs.EndLaws.{slice_get_drop}
-use Rattle.smap_context.specs.Rest.{IsEndFrom}
+use Rattle.smap_text.proofs.RestLaws.{slice_get_drop}
+use Rattle.smap_text.specs.Rest.{IsEndFrom}
 use Rattle.smap_positions.specs.Context.{Context, context_in, context_of, is_cut, lines_value, shown_line}
 use Rattle.smap_positions.specs.Private.Lines.{has_line, item_text, lines_text}
 use Rattle.smap_text.specs.Lines.{lines_of}

@@ -5,7 +5,7 @@ use Rattle.std.specs.Prelude.{slice_get, take}
 use Rattle.std.specs.List.{list_any}
 use Rattle.std.specs.Str.{chars, encode_utf8_all}
 use Rattle.serde_json.specs.Data.{Data, boolean, string, object, no_members, member}
-use Rattle.smap_context.specs.Shown.{shown_bytes}
+use Rattle.smap_text.specs.ShownLine.{shown_bytes}
 use Rattle.smap_record.specs.Sources.{StatedSource}
 use Rattle.smap_record.specs.Written.{list_value, member_where}
 use Rattle.smap_text.specs.Lines.{lines_of}

@@ -12,7 +12,7 @@ ghost use Rattle.smap_text.specs.Lines.{lines_behind, lines_of};
 
 use crate::map_text::put_json_text;
 use crate::output::Output;
-use smap_context::{rest_from, shown_bytes};
+use smap_text::{rest_from, shown_bytes};
 use smap_record::SourceEntry;
 use smap_text::split_line;
 

@@ -7,3 +7,5 @@ mod PlaceLaws
 mod ExcerptLaws
 mod ShownLaws
 mod Examples
+pub mod RestLaws
+mod ShownLineLaws

@@ -5,3 +5,5 @@ pub mod Place
 pub mod Shown
 pub mod Excerpt
 pub mod Private
+pub mod Rest
+pub mod ShownLine

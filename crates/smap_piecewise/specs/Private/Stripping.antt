@@ -1,6 +1,6 @@
 -- Of private contracts only: bytes of a text are handed on without control sequences.
 use Rattle.std.specs.Prelude.{◌≡◌, ◌≤◌, ℕ, ◌+◌, Bool, true, List, [], ◌++◌, length}
-use Rattle.smap_sequences.specs.Sequences.{kept}
+use Rattle.smap_io.specs.Sequences.{kept}
 use Rattle.smap_piecewise.specs.declared.stripping.Stripping.{Stripping}
 
 -- some were, behind what was there, and what is still to come is as it was; where the text has ended, nothing comes

@@ -1,7 +1,7 @@
 -- Of private contracts only: the frames or the places of a text, and a step of what is done with them.
 use Rattle.std.specs.Prelude.{◌≡◌, ◌≤◌, ℕ, ◌+◌, Bool, true, List, [], ◌++◌, length}
 use Rattle.smap_pairs.specs.Known.{UrlsKnown}
-use Rattle.smap_sequences.specs.Sequences.{kept}
+use Rattle.smap_io.specs.Sequences.{kept}
 use Rattle.smap_piecewise.specs.Known.{KnownByUrl}
 use Rattle.smap_piecewise.specs.Private.Frames.{IsWithin, Steps, frames_seen}
 use Rattle.smap_piecewise.specs.Private.Places.{ArePlacesWithin, IsSound, PlaceSteps, places_seen}

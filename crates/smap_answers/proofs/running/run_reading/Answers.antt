@@ -2,8 +2,8 @@ use Rattle.std.proofs.Common.{◌≡◌, ◌∙◌, [], ap, subst, sym}
 use Rattle.smap_command.specs.Runnable.{strips_ansi}
 use Rattle.smap_io.specs.Device.{SourceSeen}
 use Rattle.smap_replies.specs.Streams.{streams_seen}
-use Rattle.smap_sequences.specs.Sequences.{most_sequences}
-use Rattle.smap_sequences.specs.Source.{without_seen}
+use Rattle.smap_io.specs.Sequences.{most_sequences}
+use Rattle.smap_io.specs.WithoutSequences.{without_seen}
 use Rattle.smap_answers.specs.Run.{Runs}
 use Rattle.smap_answers.proofs.OverLaws.{in_case, in_other}
 use Rattle.smap_answers.proofs.running.run_reading.Goals as goal

@@ -1,6 +1,6 @@
 use Rattle.std.proofs.Common.{◌∙◌, ◌++◌, subst, sym}
 use Rattle.std.proofs.lemmas.Bool.{cond-false, cond-true}
-use Rattle.smap_sequences.specs.Sequences.{kept, without_sequences}
+use Rattle.smap_io.specs.Sequences.{kept, without_sequences}
 use Rattle.smap_c.specs.Private.Rewriting.{EndsRewriting}
 use Rattle.smap_c.proofs.rewriting.rewrite_text.Goals as goal
 

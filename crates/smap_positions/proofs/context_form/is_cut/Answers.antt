@@ -1,7 +1,7 @@
 use Rattle.std.proofs.Common.{◌≡◌, length, refl, subst, sym}
 use Rattle.std.specs.Prelude.{List, ℕ, nat_lt}
 use Rattle.std.proofs.lemmas.Str.{encodes-chars}
-use Rattle.smap_context.specs.Shown.{shown_bytes}
+use Rattle.smap_text.specs.ShownLine.{shown_bytes}
 use Rattle.smap_positions.proofs.context_form.is_cut.Goals as goal
 
 pub returns : goal.returns

@@ -3,7 +3,7 @@ use Rattle.std.specs.Prelude.{List, ℕ}
 use Rattle.serde_json.specs.Data.{string}
 use Rattle.serde_json.specs.Written.{compact_text}
 use Rattle.std.proofs.lemmas.Str.{encodes-chars}
-use Rattle.smap_context.specs.Shown.{shown_bytes}
+use Rattle.smap_text.specs.ShownLine.{shown_bytes}
 use Rattle.smap_positions.proofs.context_form.put_line.Goals as goal
 
 pub returns : goal.returns

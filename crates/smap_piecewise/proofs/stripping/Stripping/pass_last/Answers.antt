@@ -1,5 +1,5 @@
 use Rattle.std.proofs.Common.{◌≡◌, ◌∷◌, ◌∙◌, ap, drop, refl, subst, sym}
-use Rattle.smap_sequences.specs.Private.Front.{IsFront}
+use Rattle.smap_io.specs.Private.Front.{IsFront}
 use Rattle.smap_piecewise.proofs.StripLaws.{passes_first, stays_there}
 use Rattle.smap_piecewise.proofs.stripping.Stripping.pass_last.Goals as goal
 

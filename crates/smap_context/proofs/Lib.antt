@@ -1,2 +1,0 @@
-pub mod EndLaws
-mod ShownLaws

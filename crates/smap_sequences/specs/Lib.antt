@@ -1,4 +1,0 @@
-pub mod Sequences
-pub mod Source
-pub mod Turns
-pub mod Private
