@@ -3,12 +3,12 @@ use Rattle.std.specs.Prelude.{◌≡◌, ℕ, Bool, List, [], MatchBool, None, f
 use Rattle.smap_command.specs.Limits.{usual_interval}
 use Rattle.smap_command.specs.Runnable.{strips_ansi}
 pub use Rattle.smap_command.specs.Runnable.{IsRunnable}
-use Rattle.smap_check_answers.specs.Check.{ChecksAll, form_of, paths_of}
-use Rattle.smap_check_answers.specs.Explain.{ReportsCode}
-use Rattle.smap_check_answers.specs.Fit.{FitsAll}
-use Rattle.smap_compose_answers.specs.Compose.{ReportsComposed}
-use Rattle.smap_compose_answers.specs.ComposeAll.{ReportsAllComposed}
-use Rattle.smap_compose_answers.specs.Show.{shown_result}
+use Rattle.smap_map_answers.specs.Check.{ChecksAll, form_of, paths_of}
+use Rattle.smap_map_answers.specs.Explain.{ReportsCode}
+use Rattle.smap_map_answers.specs.Fit.{FitsAll}
+use Rattle.smap_map_answers.specs.Compose.{ReportsComposed}
+use Rattle.smap_map_answers.specs.ComposeAll.{ReportsAllComposed}
+use Rattle.smap_map_answers.specs.Show.{shown_result}
 use Rattle.smap_locate_answers.specs.Locate.{RunsLocate}
 use Rattle.smap_map_answers.specs.Generated.{generated_result}
 use Rattle.smap_map_answers.specs.Lookup.{lookup_print}

@@ -6,10 +6,10 @@ ghost use Rattle.smap_answers.specs.Run.{Runs, RunsOver};
 ghost use Rattle.smap_command.specs.Runnable.{IsRunnable, strips_ansi};
 ghost use Rattle.smap_replies.specs.Streams.{streams_seen};
 
-use smap_check_answers::{answer_check, answer_explain, answer_fit};
+use smap_map_answers::{answer_check, answer_explain, answer_fit};
 use smap_codes::Code;
 use smap_command::{Command, Direction, USUAL_INTERVAL, Url};
-use smap_compose_answers::{answer_compose, answer_compose_all, answer_show};
+use smap_map_answers::{answer_compose, answer_compose_all, answer_show};
 use smap_io::{ByteSink, ByteSource};
 use smap_locate_answers::answer_locate;
 use smap_map_answers::{

@@ -1,3 +1,11 @@
 mod GeneratedLaws
 mod PositionsLaws
 mod RawLaws
+mod ComposeLaws
+mod FirstLaws
+mod InnersLaws
+mod NamesLaws
+mod FitLaws
+mod JsonLaws
+mod MisfitLaws
+mod ReplyLaws

@@ -6,3 +6,13 @@ pub mod Positions
 pub mod Raw
 pub mod Sources
 pub mod Private
+pub mod Compose
+pub mod ComposeAll
+pub mod ComposedLines
+pub mod Show
+pub mod Written
+pub mod Check
+pub mod Explain
+pub mod CheckLines
+pub mod Misfits
+pub mod Fit

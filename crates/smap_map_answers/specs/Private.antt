@@ -1,2 +1,4 @@
 -- What contracts of private functions alone cite.
 pub mod Room
+pub mod Inners
+pub mod OuterMap

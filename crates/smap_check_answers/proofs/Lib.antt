@@ -1,4 +1,0 @@
-mod FitLaws
-mod JsonLaws
-mod MisfitLaws
-mod ReplyLaws

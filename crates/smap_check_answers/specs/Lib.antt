@@ -1,5 +1,0 @@
-pub mod Check
-pub mod Explain
-pub mod Lines
-pub mod Misfits
-pub mod Fit

@@ -1,4 +1,0 @@
-mod ComposeLaws
-mod FirstLaws
-mod InnersLaws
-mod NamesLaws

@@ -1,6 +1,0 @@
-pub mod Compose
-pub mod ComposeAll
-pub mod Lines
-pub mod Show
-pub mod Written
-pub mod Private

@@ -1,3 +1,0 @@
--- What contracts of private functions alone cite.
-pub mod Inners
-pub mod OuterMap
