@@ -1,13 +1,13 @@
 //! How much of a generated file each source makes.
 ghost use Rattle.std.specs.Prelude.{◌≡◌, ◌≢◌, ◌⊎◌, ℕ, IfSome, IsSome, length};
 ghost use Rattle.smap_index.specs.Parts.{joined};
-ghost use Rattle.smap_shares.specs.Shares.{IsBytesBySource};
+ghost use Rattle.smap_fit.specs.Shares.{IsBytesBySource};
 ghost use Rattle.smap_c.specs.Shares.{IsTextRefused};
 
 use crate::handles::MapHandle;
 use crate::status::{DONE, NO_MEMORY, REFUSED};
 use smap_record::MOST_FILE_BYTES;
-use smap_shares::bytes_by_source;
+use smap_fit::bytes_by_source;
 use std::alloc::Global;
 
 /// Counts how many bytes of the generated file of a map come from each source, and how many from none. `sources` has a place

@@ -6,3 +6,9 @@ mod PlaceLaws
 mod ShiftLaws
 mod StandingLaws
 mod WordLaws
+mod OwnerLaws
+mod TextLaws
+mod CountedLaws
+mod ByteLaws
+mod SegmentLaws
+mod RowLaws

@@ -7,3 +7,6 @@ pub mod First
 pub mod Fit
 pub mod Shift
 pub mod Private
+pub mod Owners
+pub mod Shares
+pub mod Rows

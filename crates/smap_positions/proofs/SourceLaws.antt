@@ -7,7 +7,7 @@ use Rattle.serde_json.specs.Data.{Data, Members, member, object}
 use Rattle.serde_json.specs.Written.{compact_text, members_text}
 use Rattle.smap_record.specs.Sources.{StatedSource}
 use Rattle.smap_record.specs.Written.{member_where}
-use Rattle.smap_shares.specs.declared.rows.SourceRow.{SourceRow}
+use Rattle.smap_fit.specs.declared.rows.SourceRow.{SourceRow}
 use Rattle.smap_positions.specs.Json.{count}
 use Rattle.smap_positions.specs.Private.Members.{row_front}
 use Rattle.smap_positions.specs.Sources.{row_members, row_value}

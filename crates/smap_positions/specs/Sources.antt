@@ -8,8 +8,8 @@ use Rattle.smap_index.specs.Parts.{joined}
 use Rattle.smap_record.specs.Record.{MapRecord}
 use Rattle.smap_record.specs.Sources.{StatedSource}
 use Rattle.smap_record.specs.Written.{is_ignored_where, member_where, text_of_source, value_of_text}
-use Rattle.smap_shares.specs.Rows.{IsOrderedRows, rows_of, unmapped_in}
-use Rattle.smap_shares.specs.declared.rows.SourceRow.{SourceRow}
+use Rattle.smap_fit.specs.Rows.{IsOrderedRows, rows_of, unmapped_in}
+use Rattle.smap_fit.specs.declared.rows.SourceRow.{SourceRow}
 use Rattle.smap_positions.specs.Json.{count, json_line}
 use Rattle.smap_positions.specs.Lines.{ignored_text}
 use Rattle.smap_command.specs.Lines.{line_from}

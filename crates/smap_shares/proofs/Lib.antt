@@ -1,6 +1,0 @@
-mod OwnerLaws
-mod TextLaws
-mod CountLaws
-mod ByteLaws
-mod SegmentLaws
-mod RowLaws

@@ -1,4 +1,0 @@
-use Rattle.smap_shares.proofs.owners.Owners.owner_of.Goals as goal
-
-pub returns-clause-named : goal.returns-clause-named
-returns-clause-named c = λ sources names all. c.owner.ensures.within sources names (c.pass.ensures.within sources names all)

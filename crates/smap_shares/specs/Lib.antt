@@ -1,4 +1,0 @@
-pub mod Owners
-pub mod Shares
-pub mod Rows
-pub mod Private

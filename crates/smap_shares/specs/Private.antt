@@ -1,4 +1,0 @@
--- What contracts of private functions alone cite.
-pub mod Counted
-pub mod Counts
-pub mod Left
