@@ -1,6 +1,6 @@
 #!/usr/bin/env python3
 """make-kept.py FILE: writes random runs over what is kept of URLs, with what store.py, a model, answers: kept_rows.rt of
-smap_trace_tests."""
+smap_call_tests."""
 
 import random
 import sys

@@ -1,0 +1,34 @@
+//! The tests of calls, of what no row of smap_rows can say: those behind the commands, devices, places, maps that are read
+//! when they are named, and what is kept of URLs. There is nothing here to call.
+#![tactic(auto)]
+
+#[cfg(test)]
+mod beginnings;
+#[cfg(test)]
+mod composing;
+#[cfg(test)]
+mod devices;
+#[cfg(test)]
+mod facts;
+#[cfg(test)]
+mod indexes;
+#[cfg(test)]
+mod kept;
+#[cfg(test)]
+mod kept_rows;
+#[cfg(test)]
+mod pieces;
+#[cfg(test)]
+mod places;
+#[cfg(test)]
+mod records;
+#[cfg(test)]
+mod same;
+#[cfg(test)]
+mod shared;
+#[cfg(test)]
+mod shown;
+#[cfg(test)]
+mod stored;
+#[cfg(test)]
+mod transfer;
