@@ -1,9 +1,10 @@
 //! The files of a row: paths and texts that it has, and those of the folder that the program runs in.
 ghost use Rattle.std.specs.Prelude.{⊤};
 
+use crate::fault::RowFault;
+use crate::row::Row;
 use smap_answers::{FileReader, UnreadCause};
 use smap_io::ReadFailure;
-use smap_row_calls::{Row, RowFault};
 use std::alloc::Global;
 
 /// The files of a row. Of two with one path the first is read.

@@ -7,13 +7,36 @@
 //! status 1.
 #![tactic(auto)]
 
+mod answer;
+mod calls;
+mod commands;
+mod composing;
+mod contents;
+mod devices;
+mod escapes;
+mod fault;
 mod files;
+mod indexes;
+mod lists;
+mod look_ups;
+mod maps;
+mod numbers;
+mod originals;
 mod parsed;
+mod paths;
+mod positions;
+mod row;
 mod runs;
+mod sources;
+mod texts;
+mod traces;
 mod usage;
 
+use crate::answer::{Answer, joined};
+use crate::calls::answer_call;
+use crate::fault::RowFault;
+use crate::row::{EACH, Row};
 use smap_io::{ByteSink, FromStd, read_all, write_all};
-use smap_row_calls::{Answer, EACH, Row, RowFault, answer_call, joined};
 use std::process::ExitCode;
 
 // How many bytes all rows have at most.

@@ -1,6 +1,9 @@
 //! What arguments come to, as a text.
+use crate::answer::Answer;
+use crate::commands::command_text;
+use crate::fault::RowFault;
+use crate::row::Row;
 use smap_arguments::{Usage, parse};
-use smap_row_calls::{Answer, Row, RowFault, command_text};
 
 /// The words of a command line: the command that they give, or the help that they ask for.
 pub fn answer(row: &Row<'_>, answer: &mut Answer) -> Result<(), RowFault> {

@@ -1,12 +1,15 @@
 //! Runs of the program.
 ghost use Rattle.std.specs.Prelude.{◌≡◌, false};
 
+use crate::answer::Answer;
+use crate::devices::{sink, sound_sink, sound_source, source};
+use crate::fault::RowFault;
 use crate::files::RowFiles;
+use crate::row::Row;
 use crate::usage::outcome_of;
 use smap_answers::{report, run_reading};
 use smap_arguments::parse;
 use smap_io::{MemorySink, MemorySource};
-use smap_row_calls::{Answer, Row, RowFault, sink, sound_sink, sound_source, source};
 
 /// A command line, standard input, and files: the status, and what stands on standard output and on standard error.
 pub fn over_sound(row: &Row<'_>, answer: &mut Answer) -> Result<(), RowFault> {
