@@ -1,6 +1,6 @@
 -- The handles, as the walks take them.
 use Rattle.std.proofs.Common.{refl}
-use Rattle.smap_shared.specs.contracts.shared_map.SharedMap as shared_map
+use Rattle.smap_record.specs.contracts.shared_map.SharedMap as shared_map
 use Rattle.smap_anywhere.specs.contracts.url_finder.UrlFinder as url_finder
 use Rattle.smap_originals.specs.contracts.originals.Originals as originals_index
 use Rattle.smap_piecewise.specs.contracts.rewriting.Rewriting as text_rewriting

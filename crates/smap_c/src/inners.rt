@@ -3,8 +3,7 @@ ghost use Rattle.std.specs.Prelude.{◌≡◌, None, Some, IfOk, IsSome, IsTrue,
 ghost use Rattle.smap_compose.specs.Inners.{stated_inners};
 ghost use Rattle.smap_c.specs.Inners.{is_free, map_at, no_maps, stated_maps, whole_of};
 
-use smap_record::MapFile;
-use smap_shared::SharedMap;
+use smap_record::{MapFile, SharedMap};
 use std::alloc::{AllocError, Global};
 use std::marker::Model;
 

@@ -9,9 +9,8 @@ ghost use Rattle.smap_c.specs.Texts.{flag};
 
 use crate::handles::MapHandle;
 use crate::status::{DONE, REFUSED};
-use smap_text::{rest_from, shown_bytes};
 use smap_record::MapFile;
-use smap_text::split_line;
+use smap_text::{rest_from, shown_bytes, split_line};
 
 /// Where a line stands in the content of its source, in bytes from 0, without its end.
 #[repr(C)]

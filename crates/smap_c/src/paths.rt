@@ -1,10 +1,10 @@
 //! Sources of maps that are named by paths.
 ghost use Rattle.std.specs.Prelude.{◌≡◌, ◌≢◌, ◌⊎◌, IsSome, option_map};
-ghost use Rattle.smap_names.specs.ByPath.{map_by_path};
+ghost use Rattle.smap_record.specs.NamedSources.{map_by_path};
 
 use crate::handles::MapHandle;
 use crate::status::{DONE, NO_MEMORY, REFUSED};
-use smap_names::name_sources_by_path;
+use smap_record::name_sources_by_path;
 use std::alloc::Global;
 
 /// Names the sources of a map by the URL at which it stands, where that is a path from a root: each whose name is kept as it

@@ -6,9 +6,8 @@ ghost use Rattle.smap_c.specs.Private.Rewriting.{EndsRewriting};
 use crate::devices::{Input, Output};
 use crate::trace::RewriteOptions;
 use smap_anywhere::{MapUrls, PlaceNotes, PlaceOptions, rewrite_anywhere};
-use smap_io::ByteSource;
+use smap_io::{ByteSource, WithoutSequences};
 use smap_lines::MOST_TEXT_BYTES;
-use smap_io::WithoutSequences;
 use smap_store::{UrlMaps, UrlTable};
 use smap_trace::{
     Beside, Hiding, NoPlaces, RewriteFault, RewriteOptions as FrameOptions, Summary, UrlNotes,

@@ -6,8 +6,8 @@ ghost use Rattle.smap_c.specs.Shares.{IsTextRefused};
 
 use crate::handles::MapHandle;
 use crate::status::{DONE, NO_MEMORY, REFUSED};
-use smap_record::MOST_FILE_BYTES;
 use smap_fit::bytes_by_source;
+use smap_record::MOST_FILE_BYTES;
 use std::alloc::Global;
 
 /// Counts how many bytes of the generated file of a map come from each source, and how many from none. `sources` has a place

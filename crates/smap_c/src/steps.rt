@@ -14,8 +14,7 @@ use crate::status::{DONE, REFUSED};
 use crate::texts::Text;
 use crate::written::not_composed;
 use smap_compose::ComposeRefusal;
-use smap_record::{MapFile, source_name};
-use smap_shared::SharedMap;
+use smap_record::{MapFile, SharedMap, source_name};
 use std::alloc::{AllocError, Global};
 
 // How many segments stand between the checkpoints of a map that others came to.

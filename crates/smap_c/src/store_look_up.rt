@@ -11,7 +11,7 @@ use crate::status::{DONE, NO_MEMORY, REFUSED, WANTED};
 use crate::table_look_up::{answer_in, name_of, source_of};
 use crate::texts::{Source, Text};
 use smap_kept::{Answer, NoValue};
-use smap_shared::SharedMap;
+use smap_record::SharedMap;
 use std::alloc::{AllocError, Global};
 
 /// Asks what is known of a URL at a time, and counts that: what answers is dropped after all others. Returns 0 where the URL

@@ -1,6 +1,6 @@
 //! A map that several hold.
 use smap_record::{Answer, MapFile, Meter, SourceName};
-use smap_shared::SharedMap;
+use smap_record::SharedMap;
 use std::alloc::{AllocError, Global};
 use std::process::Abort;
 use std::test::Fail;

@@ -11,9 +11,9 @@ use Rattle.smap_resolve.specs.SourceName.Name.{resolved, kept}
 use Rattle.smap_record.specs.MapFile.{Map}
 use Rattle.smap_record.specs.Record.{MapRecord}
 use Rattle.smap_record.specs.Sources.{StatedSource}
-use Rattle.smap_compose.specs.Composition.{inner_lists, mappings_of_map, names_within, sources_below, sources_within}
+use Rattle.smap_compose.specs.Composition.{inner_lists, mappings_of_map, names_within, source_from, sources_below, sources_within}
 use Rattle.smap_compose.specs.FollowAll.{inner_names, inner_sources}
-use Rattle.smap_names.specs.InnerNames.{name_from_outer, source_from}
+use Rattle.smap_resolve.specs.InnerNames.{name_from_outer}
 use Rattle.smap_compose.specs.Inners.{stated_inners}
 use Rattle.smap_compose.proofs.ListLaws.{from_place}
 

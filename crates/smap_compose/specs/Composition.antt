@@ -11,7 +11,7 @@ use Rattle.smap_record.specs.Refusals.{unless}
 use Rattle.smap_record.specs.Sources.{StatedSource}
 use Rattle.smap_compose.specs.Follow.{CountedMappings, followed}
 use Rattle.smap_compose.specs.FollowAll.{followed_all}
-use Rattle.smap_names.specs.InnerNames.{source_from}
+use Rattle.smap_resolve.specs.InnerNames.{name_from_outer}
 use Rattle.smap_compose.specs.declared.refusal.ComposeRefusal.{ComposeRefusal}
 use Rattle.smap_compose.specs.declared.refusal.ComposeRefusal.TheVariants.{SourceIndex, TooLarge}
 
@@ -77,6 +77,10 @@ inner_lists inners = map (option_map mappings_of_map) inners
 
 abbrev pub all_followed : MapRecord → List (Option MapRecord) → CountedMappings
 all_followed outer inners = followed_all (mappings_of_map outer) (inner_lists inners)
+
+-- a source of the inner map
+abbrev pub source_from : Option Name → StatedSource → StatedSource
+source_from outer source = record source { name = option_map (name_from_outer outer) source.name }
 
 -- the sources of the inner map of a source, where it has one, as they are called by it
 abbrev pub sources_below : StatedSource → Option MapRecord → List StatedSource

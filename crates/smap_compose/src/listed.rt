@@ -3,16 +3,15 @@ ghost use Rattle.std.specs.Prelude.{◌≡◌, ◌≤◌, ◌++◌, flat_map, le
 ghost use Rattle.smap_resolve.specs.SourceName.{name_of};
 ghost use Rattle.smap_record.specs.Limits.{most_listed};
 ghost use Rattle.smap_record.specs.Sources.{source_of};
-ghost use Rattle.smap_compose.specs.Composition.{all_followed, names_together, names_within, sources_below, sources_together, sources_within};
+ghost use Rattle.smap_compose.specs.Composition.{all_followed, names_together, names_within, source_from, sources_below, sources_together, sources_within};
 ghost use Rattle.smap_compose.specs.FollowAll.{inner_sources};
-ghost use Rattle.smap_names.specs.InnerNames.{source_from};
 ghost use Rattle.smap_compose.specs.Inners.{stated_inners};
 ghost use Rattle.smap_compose.specs.Private.Listing.{lent_source, lent_text};
 ghost use Rattle.smap_compose.specs.Private.Placed.{inner_list};
 
 use crate::listing::LentSource;
-use smap_names::name_from_outer;
 use smap_record::{MapFile, SourceEntry, SourceName};
+use smap_resolve::name_from_outer;
 use std::alloc::{AllocError, Global};
 
 /// The sources of both maps, those of the outer one first. All keep their names.

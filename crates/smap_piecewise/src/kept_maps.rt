@@ -2,7 +2,7 @@
 use crate::known::KnownMaps;
 use smap_kept::{Answer, Kept};
 use smap_record::MapFile;
-use smap_shared::SharedMap;
+use smap_record::SharedMap;
 
 /// The maps that are kept of URLs, and the time at which they are asked for.
 #[derive(Drop)]

@@ -24,3 +24,4 @@ pub mod WriteLaws
 pub mod WrittenFields
 pub mod WrittenMappings
 pub mod WrittenSources
+pub mod RenamedLaws

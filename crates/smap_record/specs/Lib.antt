@@ -17,3 +17,5 @@ pub mod MapFile
 pub mod Regular
 pub mod Codes
 pub mod Private
+pub mod NamedSources
+pub mod Lending

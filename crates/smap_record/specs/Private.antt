@@ -1,3 +1,4 @@
 -- What contracts of private functions alone cite.
 pub mod PartWithin
 pub mod Seen
+pub mod Renamed

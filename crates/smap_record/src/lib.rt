@@ -1,5 +1,6 @@
 //! The map files of ECMA-426 (Source map format): what the JSON text of a map states, why one is refused, and the text
-//! of a written map. Lines, columns and indices count from 0, columns in UTF-16 code units.
+//! of a written map. A map may be shared: nothing is copied, and it is freed with the last that holds it. Lines, columns and
+//! indices count from 0, columns in UTF-16 code units.
 //!
 //! ```text
 //! let map = MapFile::read(alloc, bytes, None, 64)?;
@@ -7,6 +8,8 @@
 //!     let source = map.source(origin.source);
 //! }
 //! let bytes = map.write(alloc)?;
+//! let held = SharedMap::new(alloc, map)?;
+//! let other = held.share()?;
 //! ```
 #![tactic(auto)]
 
@@ -20,10 +23,12 @@ mod joined;
 mod json;
 mod map_file;
 mod name_bytes;
+mod named_sources;
 mod outer;
 mod parts;
 mod refusal;
 mod section;
+mod shared_map;
 mod sources;
 mod write;
 mod written;
@@ -31,8 +36,10 @@ mod written;
 pub use entry::{SourceEntry, copied_text, is_ignored, source_name};
 pub use file_text::{file_members, json_text, without_mark};
 pub use map_file::MapFile;
+pub use named_sources::name_sources_by_path;
 pub use parts::file_parts;
 pub use refusal::MapRefusal;
+pub use shared_map::SharedMap;
 pub use smap_index::{Answer, BuildRefusal, JoinedMappings, Neighbours};
 pub use smap_mappings::{Fault, FaultKind, Mapping, Meter, Origin};
 pub use smap_resolve::SourceName;

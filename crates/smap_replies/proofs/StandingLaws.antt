@@ -2,7 +2,7 @@
 use Rattle.std.proofs.Common.{◌≡◌, ◌≢◌, ◌∙◌, ℕ, List, ap, inl, inr, refl, subst, sym}
 use Rattle.std.specs.Prelude.{None, Result, Ok, Err}
 use Rattle.std.specs.Result.{result_map_both}
-use Rattle.smap_names.specs.ByPath.{map_by_path, named_by_path}
+use Rattle.smap_record.specs.NamedSources.{map_by_path, named_by_path}
 use Rattle.smap_record.specs.MapFile.{IsMapOf, IsRefusalOf, Map}
 use Rattle.smap_record.specs.Record.{MapRecord, record_of}
 use Rattle.smap_record.specs.declared.refusal.MapRefusal.{MapRefusal}

@@ -1,7 +1,7 @@
 -- The map that bytes are, by where it stands.
 use Rattle.std.specs.Prelude.{◌≡◌, ◌⊎◌, ℕ, List, Option, Some, None, Result, Ok, Err, option_copied}
 use Rattle.std.specs.Result.{result_map_both}
-use Rattle.smap_names.specs.ByPath.{named_by_path}
+use Rattle.smap_record.specs.NamedSources.{named_by_path}
 use Rattle.smap_record.specs.Record.{MapRecord, record_of}
 use Rattle.smap_record.specs.declared.refusal.MapRefusal.{MapRefusal}
 use Rattle.smap_record.specs.declared.refusal.MapRefusal.TheVariants.{Memory, Url}

@@ -9,8 +9,7 @@ ghost use Rattle.url.specs.Parser.{parse_url};
 
 use crate::outcome::Failure;
 use crate::refusal::refusal_of;
-use smap_names::name_sources_by_path;
-use smap_record::{MapFile, MapRefusal, Url};
+use smap_record::{MapFile, MapRefusal, Url, name_sources_by_path};
 use std::alloc::{AllocError, Global};
 use url::ParseError;
 

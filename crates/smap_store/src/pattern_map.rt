@@ -4,7 +4,7 @@ ghost use Rattle.smap_locations.specs.ByText.{value_under};
 ghost use Rattle.smap_store.specs.PatternSeen.{pattern_seen};
 
 use smap_record::MapFile;
-use smap_shared::SharedMap;
+use smap_record::SharedMap;
 
 /// The text of a pattern, which stands behind `*`, and its map.
 #[derive(Drop)]

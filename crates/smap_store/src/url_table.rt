@@ -7,7 +7,7 @@ ghost use Rattle.smap_store.specs.UrlTable.{IsAdded, IsWithPattern, IsWithWord, 
 use crate::pattern_map::{PatternMap, map_of_text};
 use smap_locations::{Locations, pattern_text, without_query};
 use smap_record::MapFile;
-use smap_shared::SharedMap;
+use smap_record::SharedMap;
 use crate::fileless::asks_no_file;
 use smap_trace::{Table, TableRefusal, is_bad_url};
 use std::alloc::{AllocError, Global};

@@ -2,7 +2,7 @@
 use Rattle.std.specs.Prelude.{ℕ, ◌&&◌, Bool, List, Option, Some, None, Result, is_none, if◌then◌else◌}
 use Rattle.std.specs.Str.{is_utf8}
 use Rattle.smap_locations.specs.Paths.{without_query}
-use Rattle.smap_names.specs.ByPath.{is_path}
+use Rattle.smap_resolve.specs.ByPath.{is_path}
 use Rattle.smap_record.specs.Record.{MapRecord}
 use Rattle.smap_record.specs.declared.refusal.MapRefusal.{MapRefusal}
 use Rattle.smap_replies.specs.Standing.{StandingSeen, record_standing}

@@ -4,7 +4,7 @@ ghost use Rattle.smap_replies.specs.Standing.{standing_seen};
 ghost use Rattle.smap_text_answers.specs.Standing.{goes_by_path, standing_at, standing_loaded, standing_named, standing_of_text};
 
 use smap_locations::without_query;
-use smap_names::is_path;
+use smap_resolve::is_path;
 use smap_record::Url;
 use smap_replies::Standing;
 

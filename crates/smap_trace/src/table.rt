@@ -10,7 +10,7 @@ use crate::entry::Entry;
 use crate::refusal::TableRefusal;
 use smap_locations::ByText;
 use smap_record::MapFile;
-use smap_shared::SharedMap;
+use smap_record::SharedMap;
 use std::alloc::{AllocError, AllocFailed, Global};
 use std::marker::Model;
 

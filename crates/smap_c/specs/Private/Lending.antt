@@ -2,7 +2,7 @@
 use Rattle.std.specs.Prelude.{List, ℕ, Some}
 use Rattle.std.specs.Borrow.{Lends, MutBor, Fml}
 use Rattle.smap_record.specs.MapFile.{Map}
-use Rattle.smap_shared.specs.contracts.shared_map.SharedMap as shared_map
+use Rattle.smap_record.specs.contracts.shared_map.SharedMap as shared_map
 use Rattle.smap_store.specs.UrlTable.{UrlTableSeen}
 use Rattle.smap_store.specs.contracts.url_table.UrlTable as url_table
 use Rattle.smap_anywhere.specs.FoundUrls.{FinderSeen}

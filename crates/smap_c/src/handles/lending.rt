@@ -13,7 +13,7 @@ use crate::loose::Loose;
 use smap_anywhere::UrlFinder;
 use smap_originals::Originals;
 use smap_piecewise::{KeptMaps, Rewriting};
-use smap_shared::SharedMap;
+use smap_record::SharedMap;
 use smap_store::UrlTable;
 use std::alloc::Global;
 

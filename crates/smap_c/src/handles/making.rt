@@ -11,8 +11,7 @@ use crate::loose::Loose;
 use smap_anywhere::UrlFinder;
 use smap_originals::Originals;
 use smap_piecewise::{KeptMaps, Rewriting};
-use smap_record::MapFile;
-use smap_shared::SharedMap;
+use smap_record::{MapFile, SharedMap};
 use smap_store::UrlTable;
 use std::alloc::{AllocError, AllocFailed, Global};
 

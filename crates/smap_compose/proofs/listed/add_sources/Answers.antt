@@ -4,7 +4,7 @@ use Rattle.std.proofs.lemmas.List.{map-append}
 use Rattle.smap_resolve.specs.SourceName.{name_of}
 use Rattle.smap_record.specs.Sources.{source_of}
 use Rattle.smap_compose.specs.declared.listing.LentSource.{LentSource}
-use Rattle.smap_names.specs.InnerNames.{source_from}
+use Rattle.smap_compose.specs.Composition.{source_from}
 use Rattle.smap_compose.specs.Private.Listing.{lent_source}
 use Rattle.smap_compose.proofs.ListLaws.{none_past, mapped_next}
 use Rattle.smap_compose.proofs.listed.add_sources.Goals as goal

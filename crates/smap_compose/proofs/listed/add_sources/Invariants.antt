@@ -1,7 +1,7 @@
 use Rattle.std.proofs.Common.{◌≡◌, ◌++◌, map, option_map, take}
 use Rattle.std.specs.Prelude.{option_copied}
 use Rattle.smap_resolve.specs.SourceName.{name_of}
-use Rattle.smap_names.specs.InnerNames.{source_from}
+use Rattle.smap_compose.specs.Composition.{source_from}
 use Rattle.smap_compose.specs.Private.Listing.{lent_source}
 use Rattle.smap_compose.proofs.listed.add_sources.Given as goal
 

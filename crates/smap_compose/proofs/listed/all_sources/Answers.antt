@@ -2,8 +2,7 @@ use Rattle.std.proofs.Common.{◌≤◌, ◌<◌, ◌+◌, ◌++◌, None, drop,
 use Rattle.std.proofs.lemmas.List.{append-nil, append_assoc, length-map}
 use Rattle.smap_record.specs.Sources.{source_of}
 use Rattle.smap_compose.specs.declared.listing.LentSource.{LentSource}
-use Rattle.smap_compose.specs.Composition.{sources_below, sources_within}
-use Rattle.smap_names.specs.InnerNames.{source_from}
+use Rattle.smap_compose.specs.Composition.{source_from, sources_below, sources_within}
 use Rattle.smap_compose.specs.Inners.{stated_inners}
 use Rattle.smap_compose.specs.Private.Listing.{lent_source}
 use Rattle.smap_compose.proofs.ListLaws.{drop_past, none_past}

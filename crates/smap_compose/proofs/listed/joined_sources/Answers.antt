@@ -1,5 +1,5 @@
 use Rattle.std.proofs.Common.{None, ◌++◌, map, ap, ◌∙◌}
-use Rattle.smap_names.specs.InnerNames.{source_from}
+use Rattle.smap_compose.specs.Composition.{source_from}
 use Rattle.smap_compose.specs.Private.Listing.{lent_source}
 use Rattle.smap_compose.proofs.ListedLaws.{called_alike, entries_counted}
 use Rattle.smap_compose.proofs.listed.joined_sources.Goals as goal

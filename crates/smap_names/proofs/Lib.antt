@@ -1,5 +1,0 @@
-mod Examples
-pub mod PathPieceLaws
-pub mod PathLaws
-pub mod RenamedLaws
-pub mod SlashLaws

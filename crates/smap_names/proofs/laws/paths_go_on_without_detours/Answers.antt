@@ -1,5 +1,0 @@
-use Rattle.smap_names.proofs.PathPieceLaws.{goes_on_plainly}
-use Rattle.smap_names.proofs.laws.paths_go_on_without_detours.Goals as goal
-
-pub returns : goal.returns
-returns c file text = goes_on_plainly file text

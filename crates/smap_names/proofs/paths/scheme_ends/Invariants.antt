@@ -1,7 +1,0 @@
-use Rattle.std.proofs.Common.{◌≡◌, drop}
-use Rattle.smap_names.specs.Paths.{ends_scheme}
-use Rattle.smap_names.proofs.paths.scheme_ends.Given as goal
-
--- what is left decides
-abbrev pub invariant-loop-byte : goal.invariant-loop-byte
-invariant-loop-byte l = ends_scheme (drop l.byte-index l.text) ≡ ends_scheme l.text

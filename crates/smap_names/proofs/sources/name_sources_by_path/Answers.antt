@@ -1,7 +1,0 @@
-use Rattle.smap_names.proofs.RenamedLaws.{map_named}
-use Rattle.smap_names.proofs.sources.name_sources_by_path.Goals as goal
-
-pub returns-clause-named : goal.returns-clause-named
-returns-clause-named c =
-    map_named c.args.url.now c.args.map_file.now c.rename.new.map_file _ c.in_ok-names.ensures.names c.rename.ensures.named c.rename.ensures.parts
-    c.rename.ensures.names c.rename.ensures.file c.rename.ensures.interval

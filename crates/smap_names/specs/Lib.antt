@@ -1,4 +1,0 @@
-pub mod Paths
-pub mod InnerNames
-pub mod ByPath
-pub mod Private
