@@ -1,14 +1,14 @@
 -- The first line of a text, by its characters and by its bytes.
-use Rattle.std.proofs.Common.{◌≡◌, ◌+◌, ◌-◌, ◌<◌, ℕ, suc, zero, Bool, true, false, eqb, List, [], ◌∷◌, ◌++◌, length, get_or, take, drop, Some, None}
+use Rattle.std.proofs.Common.{◌≡◌, ◌+◌, ◌-◌, ◌<◌, ℕ, Bool, true, false, eqb, List, [], ◌∷◌, ◌++◌, length, get_or, take, drop, Some}
 use Rattle.std.proofs.Common.{slice_get, refl, sym, ap, subst, ◌∙◌, arith, ⊎_elim}
 use Rattle.std.specs.Str.{IsUtf8, IsCharBoundary, chars}
 use Rattle.std.proofs.lemmas.Bool.{cond-false, eqb-true, eqb-false, ne_eqb, and_left, and_parts, and_from, cases_Bool}
-use Rattle.std.proofs.lemmas.List.{append_assoc, length-append, take_at, drop_at, take_all, drop_all, drop-drop, length-drop}
+use Rattle.std.proofs.lemmas.List.{append_assoc, length-append, take_at, drop_at, take_all, drop_all}
 use Rattle.std.proofs.lemmas.Str.{char_from_byte, length-encode, len_utf8_bounds, chars-encodes, encodes-append, IsCharBoundary-at_seam, IsCharBoundary-end}
 use lib.Utf8.{encode, encodes, scalar, scalars}
 use Rattle.smap_text.specs.Private.Ends.{end_bytes, line_bytes}
 use Rattle.smap_text.specs.Begins.{BeginsAt}
-use Rattle.smap_text.specs.Lines.{IsRestFrom, is_line_end, lines_from, lines_of, with_front}
+use Rattle.smap_text.specs.Lines.{is_line_end, lines_from, lines_of, with_front}
 use Rattle.smap_text.proofs.EndLaws.{byte_ends, cr_ends, character_passes, ends_are, others_are, read_from}
 
 -- ---- by characters
@@ -203,40 +203,8 @@ second_begins {text} {line} {end} bytes some = record {
   behind = sym (bytes.after some).1;
 }
 
--- ---- line after line
+-- ---- the first line and the rest
 
 pub first_and_rest : (lines : List (List ℕ)) (first : List ℕ) (rest : List (List ℕ)) → slice_get lines 0 ≡ Some first → drop 1 lines ≡ rest → lines ≡ first ∷ rest
 first_and_rest [] first rest is after = absurd (cc)
 first_and_rest (line ∷ lines) first rest is after = let same : line ≡ first = cc in ap (λ l. l ∷ lines) same ∙ ap (λ l. first ∷ l) after
-
-pub from_start : (content : List ℕ) → IsRestFrom content 0 content
-from_start content = record { start = 0; within = refl; lines = refl }
-
-slice_get_drop : (xs : List (List ℕ)) (n : ℕ) → slice_get xs n ≡ slice_get (drop n xs) 0
-slice_get_drop xs zero = refl
-slice_get_drop [] (suc n) = refl
-slice_get_drop (x ∷ xs) (suc n) = slice_get_drop xs n
-
-slice_get_past : (xs : List (List ℕ)) (n : ℕ) → drop n xs ≡ [] → slice_get xs n ≡ None
-slice_get_past xs n none = slice_get_drop xs n ∙ ap (λ l. slice_get l 0) none
-
-pub from_next : (content : List ℕ) (line : ℕ) (text rest : List ℕ) → IsRestFrom content line text
-    → drop 1 (lines_of (chars text)) ≡ lines_of (chars rest) → drop (length text - length rest) text ≡ rest
-    → IsRestFrom content (line + 1) rest
-from_next content line text rest from lines within = record {
-  start = from.start + (length text - length rest);
-  within = sym (drop-drop (length text - length rest) from.start content) ∙ ap (drop (length text - length rest)) from.within ∙ within;
-  lines = sym (drop-drop 1 line (lines_of (chars content))) ∙ ap (drop 1) from.lines ∙ lines;
-}
-
--- where the text ends with the line before, it has no line of that number or a later one
-pub none_after : (content : List ℕ) (line asked : ℕ) (text : List ℕ) → IsRestFrom content line text → line < asked
-    → drop 1 (lines_of (chars text)) ≡ [] → slice_get (lines_of (chars content)) asked ≡ None
-none_after content line asked text from later none =
-    let gone : drop (line + 1) (lines_of (chars content)) ≡ [] = sym (drop-drop 1 line (lines_of (chars content))) ∙ ap (drop 1) from.lines ∙ none in
-    slice_get_past (lines_of (chars content)) asked
-    (drop_all asked (lines_of (chars content)) (omega (arith, ap length gone, length-drop (line + 1) (lines_of (chars content)))))
-
-pub line_here : (content : List ℕ) (line : ℕ) (text first : List ℕ) → IsRestFrom content line text
-    → slice_get (lines_of (chars text)) 0 ≡ Some (chars first) → slice_get (lines_of (chars content)) line ≡ Some (chars first)
-line_here content line text first from is = slice_get_drop (lines_of (chars content)) line ∙ ap (λ l. slice_get l 0) from.lines ∙ is

@@ -1,5 +1,5 @@
 -- The end of a text that begins with one of its lines.
-use Rattle.std.proofs.Common.{◌≡◌, ◌∙◌, ◌+◌, ◌-◌, ◌<◌, ◌≤◌, ℕ, zero, suc, List, [], ◌∷◌, ap, arith, drop, length, refl, subst, sym}
+use Rattle.std.proofs.Common.{◌≡◌, ◌∙◌, ◌+◌, ◌-◌, ◌<◌, ◌≤◌, ℕ, zero, suc, List, [], ◌∷◌, Some, ap, arith, drop, length, refl, subst, sym}
 use Rattle.std.specs.Prelude.{slice_get}
 use Rattle.std.specs.Str.{IsUtf8, chars}
 use Rattle.std.proofs.lemmas.List.{drop-drop, length-drop}
@@ -69,3 +69,9 @@ pub slice_get_drop : {X : Type 0} (xs : List X) (n : ℕ) → slice_get xs n ≡
 slice_get_drop xs zero = refl
 slice_get_drop [] (suc n) = refl
 slice_get_drop (x ∷ xs) (suc n) = slice_get_drop xs n
+
+-- its line of the number from which an end of it has the lines
+pub line_of_end : (text : List ℕ) (line : ℕ) (rest first : List ℕ) (behind : List (List ℕ)) → IsEndFrom text line rest
+    → lines_of (chars rest) ≡ first ∷ behind → slice_get (lines_of (chars text)) line ≡ Some first
+line_of_end text line rest first behind from lines =
+    slice_get_drop (lines_of (chars text)) line ∙ ap (λ l. slice_get l 0) (from.lines ∙ lines)

@@ -1,9 +1,11 @@
 //! The lines of a text (ECMAScript, line terminator sequences).
-ghost use Rattle.std.specs.Prelude.{◌≡◌, ◌≤◌, ◌-◌, [], ◌∷◌, length, drop, take, Some, option_copied, option_map, slice_get, IfSome, MatchOption};
+ghost use Rattle.std.specs.Prelude.{◌≡◌, ◌≤◌, ◌-◌, ◌∷◌, length, drop, take, option_copied, option_map, slice_get, IfSome};
 ghost use Rattle.std.specs.Str.{chars};
 ghost use Rattle.smap_text.specs.Private.Ends.{end_bytes, line_bytes};
 ghost use Rattle.smap_text.specs.Begins.{BeginsAt};
 ghost use Rattle.smap_text.specs.Lines.{IsSliceAt, lines_behind, lines_of};
+
+use crate::rest::rest_from;
 
 /// The line of this number, from 0, without its line end; `None` where there are fewer. Lines end in LF, CR LF, CR,
 /// U+2028 or U+2029, and an empty content has one empty line.
@@ -12,10 +14,7 @@ pub fn line_at(content: &str, line: u32) -> Option<&str>
         ≡ slice_get (lines_of (chars content.now)) line }
     ensures slice { IfSome result (λ text. IsSliceAt content.now line text.now) }
 {
-    let mut rest = content;
-    for _passed in 0..line {
-        rest = after_first_line(rest)?;
-    }
+    let rest = rest_from(content, line)?;
     Some(split_line(rest).0)
 }
 
@@ -36,16 +35,6 @@ pub fn split_line(text: &str) -> (&str, Option<&str>)
         0 => (line, None),
         length => (line, Some(&text[end + length..])),
     }
-}
-
-// What follows the first line of a text and its end; `None` where the text ends with that line.
-fn after_first_line(text: &str) -> Option<&str>
-    ensures lines { MatchOption result (drop 1 (lines_of (chars text.now)) ≡ [])
-        (λ rest. drop 1 (lines_of (chars text.now)) ≡ lines_of (chars rest.now)) }
-    ensures rest { IfSome result (λ rest.
-        drop (length text.now - length rest.now) text.now ≡ rest.now) }
-{
-    split_line(text).1
 }
 
 // How many bytes stand before the first line end of a text.
