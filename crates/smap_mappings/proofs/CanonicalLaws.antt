@@ -27,7 +27,7 @@ use Rattle.smap_mappings.proofs.CanonicalSegments.{delta_of_mapping, deltas_of_m
 -- ---- the running values
 
 -- the values from which a mapping on this line differs
-abbrev values_before : List Mapping → ℕ → RunningValues
+abbrev pub values_before : List Mapping → ℕ → RunningValues
 values_before before line = record {
   column = pos (column_before (last_or None before) line);
   source = pos (origin_before before).source;
@@ -93,11 +93,11 @@ values-step before = by_fields (λ mapping. values_after (values_before before m
     })
 
 -- the segments so far are on lines up to the last mapping's, and the values after them are those of the mappings
-record AreAfter (before : List Mapping) (deltas : List Delta) : Type 0 where
+pub record AreAfter (before : List Mapping) (deltas : List Delta) : Type 0 where
   pub lines : AllByRecursion (λ (delta : Delta). delta.line ≤ line_before (last_or None before)) deltas
   pub values : (line : ℕ) → line_before (last_or None before) ≤ line → values_on line deltas ≡ values_before before line
 
-none_are_after : AreAfter [] []
+pub none_are_after : AreAfter [] []
 unfolding values_on
 none_are_after = record { lines = tt; values = λ line later. refl }
 
@@ -134,7 +134,7 @@ module _ (before : List Mapping) (deltas : List Delta) (mapping : Mapping) (are 
         name = (here i).name;
       }
 
-  after-push : AreAfter (before ++ mapping ∷ []) (deltas ++ delta_of_mapping before mapping ∷ [])
+  pub after-push : AreAfter (before ++ mapping ∷ []) (deltas ++ delta_of_mapping before mapping ∷ [])
   after-push =
       let now = before ++ mapping ∷ [] in
       let all = deltas ++ delta_of_mapping before mapping ∷ [] in

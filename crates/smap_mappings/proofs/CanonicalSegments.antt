@@ -72,13 +72,13 @@ segment_is before mapping small =
 -- ---- separators
 
 -- a `;` or a `,` comes after a segment, or nothing
-at_nothing : AfterRun []
+pub at_nothing : AfterRun []
 at_nothing = record { line_bytes = []; lines = []; parts = []; splits = refl; first = refl }
 
-at_line_end : (text : List ℕ) → AfterRun (59 ∷ text)
+pub at_line_end : (text : List ℕ) → AfterRun (59 ∷ text)
 at_line_end text = record { line_bytes = []; lines = slice_split is_semicolon text; parts = []; splits = refl; first = refl }
 
-at_comma : (text : List ℕ) → AfterRun (44 ∷ text)
+pub at_comma : (text : List ℕ) → AfterRun (44 ∷ text)
 at_comma text =
     let rest = first_part is_semicolon text in
     record { line_bytes = 44 ∷ rest.0; lines = rest.1; parts = slice_split is_comma rest.0; splits = ap (onto_first 44) rest.2; first = refl }

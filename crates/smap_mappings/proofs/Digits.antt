@@ -1,13 +1,13 @@
 -- The tables in `src/base64.rt` hold, at each byte, the byte's place in the alphabet, and the number that it spells by
 -- itself.
 use Rattle.std.proofs.Common.{◌≡◌, ℕ, ◌<◌, ◌≤◌, true, false, [], ◌∷◌, get_or, Some, None, Option, cond, ltb, refl, sym, ◌∙◌, ap, map, zero-add}
-use Rattle.std.proofs.Common.{lt-ltb, le-ltb, to_z, of_z, w32}
+use Rattle.std.proofs.Common.{lt-ltb, le-ltb, to_z, of_z, w32, Bool, eqb, leb, ◌&&◌, ◌||◌}
 use Rattle.std.specs.Prelude.{ℤ, pos, int_lt}
 use Rattle.std.specs.List.{range_with_len}
 use Rattle.std.proofs.lemmas.Bool.{cond-true, cond-false}
 use Rattle.std.proofs.lemmas.List.FromFn.{get_or-map-range_with_len}
 use Rattle.smap_mappings.specs.Base64.{digit_of}
-use Rattle.smap_mappings.specs.Vlq.{unsigned_of, number_of}
+use Rattle.smap_mappings.specs.Vlq.{is_continuing, unsigned_of, number_of}
 use Rattle.smap_mappings.specs.declared.base64.TheConstants.{DIGITS, NUMBERS}
 
 -- what holds of each byte of a list of all holds of each byte
@@ -49,3 +49,11 @@ number_found byte below found = sym (number_is_table byte below ∙ cond-true _ 
 
 pub number_missing : (byte : ℕ) → byte < 256 → int_lt (entry byte) (pos 16) ≡ false → None ≡ number_of (byte ∷ [])
 number_missing byte below missing = sym (number_is_table byte below ∙ cond-false _ _ _ missing)
+
+-- what the code asks of a byte, to see whether it is a digit that goes on
+abbrev pub is_continuing_byte : ℕ → Bool
+is_continuing_byte byte = (leb 103 byte && leb byte 122 || leb 48 byte && leb byte 57) || eqb byte 43 || eqb byte 47
+
+pub continuing_is : (byte : ℕ) → byte < 256 → is_continuing_byte byte ≡ is_continuing byte
+unfolding digit_of
+continuing_is = by_byte is_continuing_byte is_continuing false refl

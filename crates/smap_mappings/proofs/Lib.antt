@@ -11,6 +11,8 @@ pub mod BeforeLaws
 pub mod CanonicalSegments
 pub mod CanonicalLaws
 pub mod ListFaultLaws
+pub mod NeededLaws
+pub mod CutEndLaws
 pub mod WritingLaws
 pub mod EncodeLaws
 pub mod DeltaLaws
@@ -24,6 +26,8 @@ pub mod CheckLaws
 pub mod CountLaws
 pub mod OrderLaws
 pub mod WithinLaws
+pub mod AsItStandsLaws
+pub mod FewBytesLaws
 pub mod SpellingFaultLaws
 pub mod CleanNumbers
 pub mod CutLaws

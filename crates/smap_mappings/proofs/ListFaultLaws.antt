@@ -88,7 +88,7 @@ in_order_is_faultless list order in_range = no_fault_from 0 None list (good list
 
 module _ (sources names : ℕ) where
   -- what is within some counts is within the limit
-  within_limit : (mapping : Mapping) → IsWithin sources names mapping → is_mapping_past_limit mapping ≡ false
+  pub within_limit : (mapping : Mapping) → IsWithin sources names mapping → is_mapping_past_limit mapping ≡ false
   within_limit = by_fields (λ mapping. IsWithin sources names mapping → is_mapping_past_limit mapping ≡ false)
       (λ line column within. or_from _ _ (or_from _ _ (le-ltb limit line within.line) (le-ltb limit column within.column)) refl)
       (λ line column source original_line original_column within.

@@ -13,6 +13,7 @@ pub mod Order
 pub mod Within
 pub mod Range
 pub mod Canonical
+pub mod Needless
 pub mod Encode
 pub mod Writing
 pub mod State

@@ -15,6 +15,7 @@ mod advance;
 mod base64;
 mod canonical;
 mod check;
+mod copied;
 mod cursor;
 mod fault;
 mod faulty;

@@ -4,6 +4,7 @@ ghost use Rattle.std.specs.List.{All};
 ghost use Rattle.smap_mappings.specs.Limits.{most_text_bytes};
 ghost use Rattle.smap_mappings.specs.Mappings.{mappings_of};
 ghost use Rattle.smap_mappings.specs.Accepted.{IsAccepted};
+ghost use Rattle.smap_mappings.specs.Canonical.{canonical_text};
 ghost use Rattle.smap_mappings.specs.Faults.{first_fault};
 ghost use Rattle.smap_mappings.specs.Counts.{segment_count, used_lines_of};
 ghost use Rattle.smap_mappings.specs.Order.{IsInOrder};
@@ -13,6 +14,7 @@ ghost use Rattle.smap_mappings.specs.LineWalk.{decoded_in, IsWalked};
 ghost use Rattle.smap_mappings.specs.PackedText.{IsPacked};
 
 use crate::check::check_segments;
+use crate::copied::canonical_copy;
 use crate::cursor::Cursor;
 use crate::fault::Fault;
 use crate::limits::MOST_BYTES;
@@ -175,6 +177,22 @@ impl PackedText {
     {
         decode_segments(alloc, self.text.as_bytes(), self.segments as usize)
     }
+
+    /// The canonical text of the text's mappings, which is what `encode` makes of them. A text that is canonical as it
+    /// stands, save for `;` at its end, is copied; any other is decoded and encoded in one pass.
+    pub fn canonical_text(&self, alloc: Global) -> Result<String, AllocError>
+        ensures text { IfOk result
+            (λ text. string_bytes text ≡ canonical_text (mappings_of self.now)) }
+        ensures few { length (canonical_text (mappings_of self.now)) ≤ length self.now }
+        ensures short { length self.now ≤ most_text_bytes }
+        ensures decodes { mappings_of (canonical_text (mappings_of self.now))
+            ≡ mappings_of self.now }
+        ensures accepted { (sources names : ℕ) →
+            All (IsWithin sources names) (mappings_of self.now) →
+            IsAccepted (canonical_text (mappings_of self.now)) sources names }
+    {
+        canonical_copy(alloc, self.text.as_bytes())
+    }
 }
 
 // The mappings of a checked text, which are expected to be this many.
@@ -216,5 +234,16 @@ fn a_walk_ends_at_the_column_or_with_the_line(rt: HostRuntime) -> Result<(), std
     let mut meter = Meter::new(rt.alloc());
     let whole = packed.walk_line(&packed.start(), 9, 9, &mut meter);
     assert!(&rt; whole.passed == 3 && whole.next.is_none() && meter.segments() == 3);
+    Ok(())
+}
+
+#[test]
+fn a_canonical_text_is_copied_and_another_written_anew(
+    rt: HostRuntime,
+) -> Result<(), std::test::Fail> {
+    let copied = PackedText::check(String::from_str(rt.alloc(), ";AAgBA,gC;;A;;")?, 9, 0)?;
+    assert!(&rt; copied.canonical_text(rt.alloc())?.as_str() == ";AAgBA,gC;;A");
+    let anew = PackedText::check(String::from_str(rt.alloc(), ";,AAgBA,,giA;;A,;")?, 9, 0)?;
+    assert!(&rt; anew.canonical_text(rt.alloc())?.as_str() == ";AAgBA,gC;;A");
     Ok(())
 }
