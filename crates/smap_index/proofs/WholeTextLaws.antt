@@ -1,5 +1,5 @@
 -- A text that is the only part of a map, and begins at its start.
-use Rattle.std.proofs.Common.{◌≡◌, ℕ, ◌+◌, ◌≤◌, Bool, true, false, cond, eqb, List, [], ◌∷◌, map, Option, Some, None, refl, ap, ◌∙◌, le-ltb, zero-add}
+use Rattle.std.proofs.Common.{◌≡◌, ℕ, ◌+◌, ◌≤◌, Bool, true, false, cond, eqb, List, [], ◌∷◌, map, Option, Some, None, refl, sym, ap, ◌∙◌, le-ltb, zero-add}
 use Rattle.std.specs.Prelude.{IfSome}
 use Rattle.std.specs.List.{All, AllByRecursion, list_any}
 use Rattle.std.specs.Option.{option_map}
@@ -83,3 +83,8 @@ pub unmoved_in_range : (part : Part) (sources names : ℕ) → part ≡ whole_te
 unmoved_in_range part sources names same within =
     ap (λ part. list_any is_mapping_past_limit (placed part)) same ∙ ap (list_any is_mapping_past_limit) (placed_whole part.text)
     ∙ mappings_within sources names (mappings_of part.text) (recursion_from_All (IsWithin sources names) (mappings_of part.text) within)
+
+-- ---- the parts that are it alone
+
+pub joined_only : (parts : List Part) (text : List ℕ) → parts ≡ whole_text text ∷ [] → mappings_of text ≡ joined parts
+joined_only parts text is = sym (ap joined is ∙ joined_whole text)

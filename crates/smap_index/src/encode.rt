@@ -1,14 +1,21 @@
 //! The mappings of all parts as one canonical text.
 
-ghost use Rattle.std.specs.Prelude.{◌≡◌, false, IfOk};
-ghost use Rattle.std.specs.List.{list_any};
+ghost use Rattle.std.specs.Prelude.{◌≡◌, ℕ, [], ◌∷◌, false, IfOk, IfSome, IsTrue, string_bytes};
+ghost use Rattle.std.specs.List.{All, list_any};
+ghost use Rattle.smap_mappings.specs.Accepted.{IsAccepted};
+ghost use Rattle.smap_mappings.specs.Within.{IsWithin};
+ghost use Rattle.smap_mappings.specs.Canonical.{canonical_text};
+ghost use Rattle.smap_mappings.specs.Exact.{IsExactOr};
+ghost use Rattle.smap_mappings.specs.Mappings.{mappings_of};
 ghost use Rattle.smap_mappings.specs.Range.{is_mapping_past_limit};
 ghost use Rattle.smap_mappings.specs.Writing.{IsLengthOf, IsWritten};
-ghost use Rattle.smap_index.specs.Parts.{joined};
+ghost use Rattle.smap_index.specs.Faults.{encode_all_fault};
+ghost use Rattle.smap_index.specs.Parts.{joined, whole_text};
 
 use crate::joined::joined;
 use crate::part::Part;
-use smap_mappings::{TextLength, TextWriter};
+use crate::refusal::EncodeAllRefusal;
+use smap_mappings::{PackedText, TextLength, TextWriter};
 use std::alloc::{AllocError, Global};
 
 // The length of the canonical text of all mappings.
@@ -33,4 +40,37 @@ pub fn write_parts(alloc: Global, parts: &[Part], bytes: usize) -> Result<TextWr
         writer.push(&mapping)?;
     }
     Ok(writer)
+}
+
+// The text of the only part, where it begins at the start and moves no index.
+pub fn only_text(parts: &[Part]) -> Option<&PackedText>
+    ensures { IfSome result (λ text. parts.now ≡ whole_text text.now ∷ []) }
+{
+    if parts.len() == 1 && is_unmoved(&parts[0]) {
+        Some(&parts[0].text)
+    } else {
+        None
+    }
+}
+
+fn is_unmoved(part: &Part) -> bool
+    ensures { IsTrue result → part.now ≡ whole_text part.now.text }
+{
+    part.line == 0 && part.column == 0 && part.source_base == 0 && part.name_base == 0
+}
+
+// The canonical text of such a part, of which nothing is written anew where it is canonical as it stands.
+pub fn encode_only(alloc: Global, text: &PackedText) -> Result<String, EncodeAllRefusal>
+    ensures text { IsExactOr EncodeAllRefusal.Memory result
+        (encode_all_fault (mappings_of text.now))
+        (λ written. string_bytes written ≡ canonical_text (mappings_of text.now)) }
+    ensures decodes { mappings_of (canonical_text (mappings_of text.now)) ≡ mappings_of text.now }
+    ensures accepted { (sources names : ℕ) →
+        All (IsWithin sources names) (mappings_of text.now) →
+        IsAccepted (canonical_text (mappings_of text.now)) sources names }
+{
+    match text.canonical_text(alloc) {
+        Ok(written) => Ok(written),
+        Err(_) => Err(EncodeAllRefusal::Memory),
+    }
 }

@@ -22,7 +22,7 @@ use crate::answer::{Answer, Neighbours, answer_on};
 use crate::bound::{Bound, Side};
 use crate::checkpoint::Checkpoint;
 use crate::checkpoints::Checkpoints;
-use crate::encode::{length_of_parts, write_parts};
+use crate::encode::{encode_only, length_of_parts, only_text, write_parts};
 use crate::interval::is_interval;
 use crate::joined::{JoinedMappings, joined};
 use crate::mark::mark_parts;
@@ -239,7 +239,8 @@ impl Index {
 
     /// All mappings as one canonical text (ECMA-426, Mappings structure), which decodes to them: each difference in its
     /// shortest spelling, `,` between the segments of a line, one `;` for each line passed, nothing at the end. No list
-    /// is made: the texts are gone through twice, and room is made once. A text past 67,108,864 bytes is refused.
+    /// is made: the texts are gone through twice, and room is made once. The text of an only part that begins at the
+    /// start is copied where it is canonical as it stands. A text past 67,108,864 bytes is refused.
     pub fn encode_all(&self, alloc: Global) -> Result<String, EncodeAllRefusal>
         ensures text { IsExactOr EncodeAllRefusal.Memory result
             (encode_all_fault (joined self.now.parts))
@@ -250,11 +251,14 @@ impl Index {
             All (IsWithin sources names) (joined self.now.parts) →
             IsAccepted (canonical_text (joined self.now.parts)) sources names) }
     {
+        lists_in_order_have_no_fault();
+        if let Some(text) = only_text(&self.parts) {
+            return encode_only(alloc, text);
+        }
         let length = length_of_parts(alloc, &self.parts);
         let Some(bytes) = length.bytes() else {
             return Err(EncodeAllRefusal::TooLong);
         };
-        lists_in_order_have_no_fault();
         match write_parts(alloc, &self.parts, bytes) {
             Ok(writer) => Ok(writer.into_text()),
             Err(_) => Err(EncodeAllRefusal::Memory),
