@@ -12,6 +12,7 @@ use Rattle.smap_record.specs.Sources.{StatedSource}
 use Rattle.smap_compose.specs.Follow.{CountedMappings, followed}
 use Rattle.smap_compose.specs.FollowAll.{followed_all}
 use Rattle.smap_resolve.specs.InnerNames.{name_from_outer}
+use Rattle.smap_resolve.specs.SourceName.{Name}
 use Rattle.smap_compose.specs.declared.refusal.ComposeRefusal.{ComposeRefusal}
 use Rattle.smap_compose.specs.declared.refusal.ComposeRefusal.TheVariants.{SourceIndex, TooLarge}
 

@@ -4,7 +4,7 @@ use Rattle.std.proofs.Common.{◌≡◌, ℕ, ◌+◌, ◌-◌, ◌%◌, ◌<◌
 use Rattle.std.proofs.Common.{refl, ap, sym, subst, ◌∙◌, arith, eqb, ltb, ⊎_elim}
 use Rattle.std.specs.List.{AllZip, slice_get}
 use Rattle.std.proofs.Math.Nat.{zero-mod}
-use Rattle.std.proofs.lemmas.Bool.{cases_Bool, cond-true, cond-false, lt-ltb, le-ltb, eq-eqb, ne_eqb, eqb-true, eqb-false}
+use Rattle.std.proofs.lemmas.Bool.{cases_Bool, and_parts, cond-true, cond-false, ltb-true, lt-ltb, le-ltb, eq-eqb, ne_eqb, eqb-true, eqb-false}
 use Rattle.std.proofs.lemmas.List.{append-nil, append_assoc, take-append-drop, length-take-le, take-map}
 use Rattle.smap_mappings.specs.Mappings.{mappings_of}
 use Rattle.smap_mappings.specs.Order.{IsInOrder}
@@ -34,6 +34,15 @@ one_more interval n number some is =
 not_both : (b : Bool) (n : ℕ) → cond (b && false) n 0 ≡ 0
 not_both true n = refl
 not_both false n = refl
+
+-- a number so counted is below the interval
+pub number_few : (interval line number next : ℕ) → 0 < interval → number_after interval line number next < interval
+number_few interval line number next some =
+    ⊎_elim
+    (λ yes. subst (λ n. n < interval) (sym (cond-true (eqb line next && ltb (number + 1) interval) (number + 1) 0 yes))
+    (ltb-true (number + 1) interval (and_parts _ _ yes).1))
+    (λ no. subst (λ n. n < interval) (sym (cond-false (eqb line next && ltb (number + 1) interval) (number + 1) 0 no)) some)
+    (cases_Bool (eqb line next && ltb (number + 1) interval))
 
 -- ---- the count of a walk
 
@@ -113,6 +122,13 @@ pub marked_none : (part : Part) (number interval : ℕ) (list : List Mapping) (c
     → IsMarked part number interval (take j list) checkpoints checkpoints
 marked_none part number interval list checkpoints j none =
     subst (λ j. IsMarked part number interval (take j list) checkpoints checkpoints) (sym none) ([], sym (append-nil checkpoints), tt)
+
+-- where its start is empty, it is those checkpoints
+pub filled_none : (part : Part) (interval : ℕ) (start table : List Checkpoint) → start ≡ []
+    → IsMarked part 0 interval (placed part) start table
+    → AllZip (IsCheckpointIn part 0) (marked_segments interval [] (placed part)) table
+filled_none part interval start table empty (added, is, zip) =
+    subst (λ list. AllZip (IsCheckpointIn part 0) (marked_segments interval [] (placed part)) list) (sym (is ∙ ap (λ start. start ++ added) empty)) zip
 
 pub ordered_at : (list : List Mapping) (j : ℕ) (m : Mapping) → slice_get list j ≡ Some m → IsInOrder list → IsInOrder (take j list ++ m ∷ [])
 ordered_at list j m there ordered =

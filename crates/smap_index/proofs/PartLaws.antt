@@ -1,5 +1,5 @@
 -- A walk over the parts adds one part more at each step.
-use Rattle.std.proofs.Common.{◌≡◌, ℕ, ◌+◌, ◌<◌, ◌≤◌, List, [], ◌∷◌, ◌++◌, Some, cond, length, take, map, sym, ap, subst, eqb, ◌∙◌, get_or, arith}
+use Rattle.std.proofs.Common.{◌≡◌, ℕ, ◌+◌, ◌<◌, ◌≤◌, List, [], ◌∷◌, ◌++◌, Some, cond, length, take, map, refl, sym, ap, subst, eqb, ◌∙◌, get_or, arith}
 use Rattle.std.specs.List.{AllByRecursion, AllZip, list_any, slice_get}
 use Rattle.std.proofs.lemmas.List.{append-nil, append_assoc, take_more, length-map, length-take-le, flat_map_more}
 use Rattle.std.proofs.lemmas.List.Sums.{sum_by_push}
@@ -9,7 +9,7 @@ use Rattle.smap_mappings.specs.Mappings.{Delta, delta_of, deltas_of}
 use Rattle.smap_mappings.specs.Segments.{segments_of}
 use Rattle.std.proofs.lemmas.Bool.{cond_both}
 use Rattle.smap_index.specs.Parts.{placed, joined, bytes_in}
-use Rattle.smap_index.specs.Marks.{Mark, mark_in, marked_segments, marks_from, marks, IsCheckpointIn, IsCheckpointOf, used_lines_in}
+use Rattle.smap_index.specs.Marks.{Mark, mark_in, marked_segments, marks_from, marks, IsCheckpointIn, IsCheckpointOf, AreCheckpointsOf, used_lines_in}
 use Rattle.smap_index.specs.declared.part.Part.{Part}
 use Rattle.smap_index.specs.declared.checkpoint.Checkpoint.{Checkpoint}
 use Rattle.smap_index.proofs.CountingLaws.{IsMarked}
@@ -87,3 +87,13 @@ few_new_lines earlier (delta ∷ deltas) =
 pub few_used_lines : (text : List ℕ) → used_lines_of text ≤ segment_count text
 unfolding used_lines_of deltas_of
 few_used_lines text = omega (arith, few_new_lines [] (deltas_of text), length-map (segments_of text) delta_of)
+
+-- a table with a checkpoint for each mark of the one part
+one_filled : (parts : List Part) (interval : ℕ) (table : List Checkpoint) → IsFilled parts (marks parts interval) [] table
+    → AreCheckpointsOf parts interval table
+one_filled parts interval table (added, is, zip) = subst (λ list. AreCheckpointsOf parts interval list) (sym is) zip
+
+pub marks_of_one : (part : Part) (interval : ℕ) (table : List Checkpoint)
+    → AllZip (IsCheckpointIn part 0) (marked_segments interval [] (placed part)) table → AreCheckpointsOf (part ∷ []) interval table
+marks_of_one part interval table zip = one_filled (part ∷ []) interval table
+    (marks_next (part ∷ []) 0 part (omega arith) refl interval [] [] table ([], refl, tt) (table, refl, zip))

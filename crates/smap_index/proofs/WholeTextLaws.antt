@@ -3,7 +3,7 @@ use Rattle.std.proofs.Common.{◌≡◌, ℕ, ◌+◌, ◌≤◌, Bool, true, fa
 use Rattle.std.specs.Prelude.{IfSome}
 use Rattle.std.specs.List.{All, AllByRecursion, list_any}
 use Rattle.std.specs.Option.{option_map}
-use Rattle.std.proofs.lemmas.Bool.{or_from}
+use Rattle.std.proofs.lemmas.Bool.{or_from, cond-true}
 use Rattle.std.proofs.lemmas.List.{append-nil}
 use Rattle.std.proofs.lemmas.List.Elements.{recursion_from_All}
 use Rattle.smap_mappings.specs.Limits.{limit}
@@ -13,9 +13,14 @@ use Rattle.smap_mappings.specs.Within.{IsIndexWithin, IsOriginWithin, IsWithin}
 use Rattle.smap_mappings.specs.declared.mapping.Mapping.{Mapping}
 use Rattle.smap_mappings.specs.declared.mapping.Origin.{Origin}
 use Rattle.smap_index.specs.Parts.{placed_origin, placed_mapping, placed, joined, whole_text}
+use Rattle.smap_mappings.specs.State.{mapping_at, origin_of_kind}
+use Rattle.smap_mappings.specs.declared.cursor.Cursor.{Cursor}
+use Rattle.smap_mappings.specs.declared.kind.Kind.{Kind}
+use Rattle.smap_mappings.specs.declared.kind.Kind.TheVariants.{Unmapped, Mapped, Named}
+use Rattle.smap_index.specs.Private.Walk.{checkpoint_at, kind_of}
 use Rattle.smap_index.specs.declared.part.Part.{Part}
 use Rattle.smap_index.specs.declared.refusal.BuildRefusal.TheVariants.{PositionRange}
-use Rattle.smap_index.specs.Faults.{is_part_past_limit, order_fault, overlap_fault, range_fault, part_fault}
+use Rattle.smap_index.specs.Faults.{is_part_past_limit, order_fault, overlap_fault, range_fault, part_fault, is_interval, build_fault}
 
 -- ---- its mappings stay
 
@@ -44,6 +49,37 @@ placed_whole text = mappings_stay text (mappings_of text)
 
 pub joined_whole : (text : List ℕ) → joined (whole_text text ∷ []) ≡ mappings_of text
 joined_whole text = append-nil _ ∙ placed_whole text
+
+-- ---- its checkpoints
+
+kind_shown : (kind : Kind) (after : Cursor) → kind_of (origin_of_kind kind after) ≡ kind
+kind_shown Unmapped after = refl
+kind_shown Mapped after = refl
+kind_shown Named after = refl
+
+-- the checkpoint of a segment has what it has, and the values after it
+pub text_checkpoint : (kind : Kind) (after : Cursor) → checkpoint_at 0 (whole_text []) (mapping_at kind after) after ≡ record {
+  part = 0;
+  kind = kind;
+  place = after.place;
+  column = after.column;
+  line = after.line;
+  source = after.source;
+  original_line = after.original_line;
+  original_column = after.original_column;
+  name = after.name;
+}
+text_checkpoint kind after = λ i. record {
+  part = 0;
+  kind = kind_shown kind after i;
+  place = after.place;
+  column = column_stays (eqb after.line 0) after.column i;
+  line = zero-add after.line i;
+  source = zero-add after.source i;
+  original_line = after.original_line;
+  original_column = after.original_column;
+  name = zero-add after.name i;
+}
 
 -- ---- it has no fault
 
@@ -88,3 +124,14 @@ unmoved_in_range part sources names same within =
 
 pub joined_only : (parts : List Part) (text : List ℕ) → parts ≡ whole_text text ∷ [] → mappings_of text ≡ joined parts
 joined_only parts text is = sym (ap joined is ∙ joined_whole text)
+
+-- at an interval at which checkpoints may stand, an index of it is not refused
+pub build_whole : (text : List ℕ) (sources names interval : ℕ) → is_interval interval ≡ true → All (IsWithin sources names) (mappings_of text)
+    → build_fault (whole_text text ∷ []) interval ≡ None
+unfolding build_fault
+build_whole text sources names interval in_range within = cond-true _ _ _ in_range ∙ whole_has_no_fault text sources names within
+
+pub joined_unmoved : (text : List ℕ) (sources names : ℕ) → All (IsWithin sources names) (mappings_of text)
+    → list_any is_mapping_past_limit (joined (whole_text text ∷ [])) ≡ false
+joined_unmoved text sources names within =
+    ap (list_any is_mapping_past_limit) (append-nil (placed (whole_text text))) ∙ unmoved_in_range (whole_text text) sources names refl within

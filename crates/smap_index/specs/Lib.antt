@@ -2,6 +2,7 @@ pub mod Position
 pub mod Parts
 pub mod Checkpoint
 pub mod Marks
+pub mod Marked
 pub mod Answer
 pub mod Faults
 pub mod Index

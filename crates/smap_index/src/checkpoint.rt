@@ -1,9 +1,10 @@
 //! A checkpoint: a mapping and the state after its segment, in which no number stands twice.
 
-ghost use Rattle.std.specs.Prelude.{◌≡◌, false};
+ghost use Rattle.std.specs.Prelude.{◌≡◌, ◌≤◌, [], false};
 ghost use Rattle.smap_mappings.specs.Range.{is_mapping_past_limit};
-ghost use Rattle.smap_mappings.specs.State.{IsBetween, IsMappingAt};
-ghost use Rattle.smap_index.specs.Parts.{placed_mapping};
+ghost use Rattle.smap_mappings.specs.Limits.{most_text_bytes};
+ghost use Rattle.smap_mappings.specs.State.{mapping_at, IsBetween, IsMappingAt};
+ghost use Rattle.smap_index.specs.Parts.{placed_mapping, whole_text};
 ghost use Rattle.smap_index.specs.Checkpoint.{origin_with, mapping_of, state_of};
 ghost use Rattle.smap_index.specs.Private.Walk.{checkpoint_at, kind_of, IsFitting};
 
@@ -52,6 +53,26 @@ impl Checkpoint {
             original_line: after.original_line,
             original_column: after.original_column,
             name: part.name_base + after.name,
+        }
+    }
+
+    // The checkpoint of a segment of a text that is the one part, and begins at the start: what the segment has, and the
+    // state after it.
+    #[inline(always)]
+    pub fn of_text(kind: Kind, after: Cursor) -> Self
+        requires short { after.place ≤ most_text_bytes }
+        ensures { result ≡ checkpoint_at 0 (whole_text []) (mapping_at kind after) after }
+    {
+        Checkpoint {
+            part: 0,
+            kind,
+            place: after.place as u32,
+            line: after.line,
+            column: after.column,
+            source: after.source,
+            original_line: after.original_line,
+            original_column: after.original_column,
+            name: after.name,
         }
     }
 

@@ -185,7 +185,7 @@ fn walk_after(
 
 // The number on its line of a mapping on the next line, counted from 0 anew at each checkpoint of the line, where one
 // with this number on this line stands before it.
-fn number_after(interval: u32, line: u32, number: u32, next: u32) -> u32
+pub fn number_after(interval: u32, line: u32, number: u32, next: u32) -> u32
     requires interval { is_interval interval ≡ true }
     ensures { result ≡ number_after interval line number next }
 {

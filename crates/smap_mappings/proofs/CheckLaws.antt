@@ -1,7 +1,6 @@
 -- A check's way through a text: the first fault is that of the segments from here on, until none is left.
 use Rattle.std.proofs.Common.{◌≡◌, ℕ, ◌+◌, ◌<◌, ◌≤◌, suc, zero, Bool, true, false, not, ◌||◌, cond, eqb, List, [], ◌∷◌, ◌++◌, length, take, drop, map}
-use Rattle.std.proofs.Common.{Option, Some, None, refl, sym, ap, subst, ◌∙◌, arith, ⊎_elim, length-drop, eq-eqb, ne_eqb}
-use Rattle.std.specs.Prelude.{IfSome, unwrap_or}
+use Rattle.std.proofs.Common.{Option, Some, None, is_some, slice_get, refl, sym, ap, subst, ◌∙◌, arith, ⊎_elim, length-drop, eq-eqb, ne_eqb}
 use Rattle.std.specs.Int.{from_bool}
 use Rattle.std.specs.List.{AllByRecursion, list_any}
 use Rattle.std.specs.Option.{option_map}
@@ -9,11 +8,12 @@ use Rattle.std.proofs.lemmas.Bool.{and_from, and_parts, cond-true, cond-false, o
 use Rattle.std.proofs.lemmas.List.{append-nil, append_assoc, length-map, drop_all, take_all}
 use Rattle.smap_mappings.specs.Limits.{most_indices}
 use Rattle.smap_mappings.specs.Segments.{TextSegment, segments_of}
-use Rattle.smap_mappings.specs.Mappings.{Delta, delta_of, deltas_of, values_on}
+use Rattle.smap_mappings.specs.Mappings.{Delta, delta_of, deltas_of, mappings_of, values_on}
 use Rattle.smap_mappings.specs.Accepted.{are_accepted_after, is_accepted, IsAccepted}
 use Rattle.smap_mappings.specs.Faults.{spelling_fault, delta_fault, first_kind, segment_fault, FaultyPlace, fault_of, faulty_or, first_faulty_after, first_faulty, first_fault}
 use Rattle.smap_mappings.specs.Counts.{new_lines, used_lines_of, segment_count}
 use Rattle.smap_mappings.specs.State.{IsAfter}
+use Rattle.smap_mappings.specs.TextCheck.{AreOnLine}
 use Rattle.smap_mappings.specs.Private.Step.{faulty_from, IsStep}
 use Rattle.smap_mappings.specs.Private.Walk.{ChecksUpTo, WalksUpTo}
 use Rattle.smap_mappings.specs.declared.cursor.Cursor.{Cursor}
@@ -90,6 +90,11 @@ none_mapped (Some faulty) is = absurd (cc)
 pub no_fault_is_accepted : (text : List ℕ) (sources names : ℕ) → first_fault text sources names ≡ None → IsAccepted text sources names
 unfolding is_accepted first_fault first_faulty deltas_of
 no_fault_is_accepted text sources names none = no_fault_accepted sources names [] (segments_of text) (none_mapped _ none)
+
+-- a text without a fault has no faulty segment
+pub none_faulty : (text : List ℕ) (sources names : ℕ) → first_fault text sources names ≡ None → first_faulty text sources names ≡ None
+unfolding first_fault
+none_faulty text sources names none = none_mapped _ none
 
 accepted_has_none_faulty : (text : List ℕ) (sources names : ℕ) → IsAccepted text sources names → first_faulty text sources names ≡ None
 unfolding is_accepted first_faulty deltas_of
@@ -225,7 +230,17 @@ checks_on_line text sources names cursor next after mapping segments used_lines 
 pub walks_start : (text : List ℕ) (sources names : ℕ) → WalksUpTo text sources names NO_SEGMENT
 walks_start text sources names = record { checks = checks_start text sources names; in_range = refl }
 
-pub walk_or_start : (text : List ℕ) (sources names : ℕ) (walk : Option Walk) → IfSome walk (WalksUpTo text sources names)
-    → WalksUpTo text sources names (unwrap_or walk NO_SEGMENT)
-walk_or_start text sources names None walks = walks_start text sources names
-walk_or_start text sources names (Some walk) walks = walks
+-- where a segment has a fault, the text has
+pub is_faulty_from : (text : List ℕ) (sources names j : ℕ) → first_faulty text sources names ≡ faulty_from text sources names j
+    → is_some (faulty_from text sources names j) ≡ true → first_faulty text sources names ≡ None → ⊥
+is_faulty_from text sources names j passed some none = let e = ap is_some (sym passed ∙ none) in absurd (cc (some, e))
+
+-- the segments that stand on a line, and one more
+pub on_line_more : (text : List ℕ) (line j n : ℕ) (m : Mapping) → AreOnLine text line j n → slice_get (mappings_of text) n ≡ Some m
+    → m.line ≡ line → AreOnLine text line j (n + 1)
+on_line_more text line j n m so_far there is i other from to at =
+    ⊎_elim
+    (λ (same : i ≡ n). let e : Some other ≡ Some m = sym at ∙ ap (slice_get (mappings_of text)) same ∙ there in
+    let e2 : other ≡ m = cc in ap (λ (m : Mapping). m.line) e2 ∙ is)
+    (λ (less : i ≡ n → ⊥). so_far i other from (omega (arith, less)) at)
+    (cases_eq i n)

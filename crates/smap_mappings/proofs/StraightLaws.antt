@@ -11,7 +11,7 @@ use Rattle.smap_mappings.specs.Private.Reading.{is_inside, segment_at, origin_fi
 use Rattle.smap_mappings.specs.Private.Advance.{values_after, sums_fault, IsAdvanced}
 use Rattle.smap_mappings.specs.Private.Step.{cursor_origin, mapping_in}
 use Rattle.smap_mappings.specs.Private.Straight.{IsMoved, IsMovedBy, kind_named, kind_with, IsReadAfter, are_listed, is_fitting}
-use Rattle.smap_mappings.specs.Private.Walk.{IsStraightStep}
+use Rattle.smap_mappings.specs.Private.Walk.{IsCleanStep}
 use Rattle.smap_mappings.specs.declared.cursor.Cursor.{Cursor}
 use Rattle.smap_mappings.specs.declared.segment.OriginFields.{OriginFields}
 use Rattle.smap_mappings.specs.declared.kind.Kind.TheVariants.{Unmapped, Mapped, Named}
@@ -176,7 +176,8 @@ module _ (text : List ℕ) (sources names : ℕ) (cursor : Cursor) (straight : S
       })
 
   -- so it leads to the state after it
-  pub sound_steps : cursor.place < length text → are_in_range (values_at cursor) ≡ true → IsStraightStep text sources names cursor straight.after
+  pub sound_steps : cursor.place < length text → are_in_range (values_at cursor) ≡ true
+      → IsCleanStep text sources names cursor straight.kind straight.after
   sound_steps within range =
       let inside = read_inside text cursor straight read within in
       let fitting = (and_parts _ _ fits).1 in
@@ -188,6 +189,7 @@ module _ (text : List ℕ) (sources names : ℕ) (cursor : Cursor) (straight : S
         inside = read.reads.inside;
         line = read.line;
         in_range = fitting;
-        mapping = mapping_in read.segment straight.after;
-        steps = λ j after. steps_to text j cursor read.segment straight.after.place after within inside read.reads sources names straight.after advances;
+        steps = λ j after.
+            let steps = steps_to text j cursor read.segment straight.after.place after within inside read.reads sources names straight.after advances in
+            rw (mapping_same text cursor straight read) steps;
       }

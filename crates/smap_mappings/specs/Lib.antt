@@ -2,6 +2,7 @@ pub mod Limits
 pub mod LineWalk
 pub mod Exact
 pub mod Base64
+pub mod TextCheck
 pub mod Vlq
 pub mod Segment
 pub mod Segments

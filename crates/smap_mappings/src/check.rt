@@ -3,12 +3,13 @@ ghost use Rattle.std.specs.Prelude.{◌≡◌, ◌≤◌, ◌==◌, ◌||◌, no
 ghost use Rattle.smap_mappings.specs.Limits.{most_text_bytes};
 ghost use Rattle.smap_mappings.specs.Faults.{first_fault, first_faulty};
 ghost use Rattle.smap_mappings.specs.Private.Found.{IsFoundIn, fault_at};
+ghost use Rattle.smap_mappings.specs.Private.Walk.{WalksUpTo};
 ghost use Rattle.smap_mappings.specs.Counts.{segment_count, used_lines_of};
 
 use crate::cursor::Cursor;
 use crate::fault::{Fault, FaultKind};
 use crate::step::{skip_separators, step};
-use crate::walk::{Walk, walk_straight};
+use crate::walk::{Walk, walk_whole};
 
 // How many segments a text has, and how many of its lines hold one.
 #[derive(Clone, Copy)]
@@ -36,16 +37,17 @@ impl FoundFault {
     }
 }
 
-// The counts of a text, or its first faulty segment for this many sources and names.
-pub fn check_segments(bytes: &[u8], sources: u32, names: u32) -> Result<TextCounts, Fault>
-    requires { length bytes.now ≤ most_text_bytes }
+// The counts of a text through which a walk has come so far, or its first faulty segment for this many sources and names.
+pub fn check_after(bytes: &[u8], sources: u32, names: u32, walk: &Walk) -> Result<TextCounts, Fault>
+    requires short { length bytes.now ≤ most_text_bytes }
+    requires walked { WalksUpTo bytes.now sources names walk.now }
     ensures fault { MatchResult result
         (λ _. first_fault bytes.now sources names ≡ None)
         (λ fault. first_fault bytes.now sources names ≡ Some fault) }
     ensures segments { IfOk result (λ counts. counts.segments ≡ segment_count bytes.now) }
     ensures used_lines { IfOk result (λ counts. counts.used_lines ≡ used_lines_of bytes.now) }
 {
-    match count_segments(bytes, sources, names) {
+    match count_after(bytes, sources, names, walk) {
         Ok(counts) => Ok(counts),
         Err(found) => Err(found.fault()),
     }
@@ -60,8 +62,24 @@ pub fn count_segments(bytes: &[u8], sources: u32, names: u32) -> Result<TextCoun
     ensures segments { IfOk result (λ counts. counts.segments ≡ segment_count bytes.now) }
     ensures used_lines { IfOk result (λ counts. counts.used_lines ≡ used_lines_of bytes.now) }
 {
-    // Most texts have no fault. Where this one has, or may have, it is gone through from its start.
-    let walk = walk_straight(bytes, sources, names).unwrap_or(Walk::START);
+    count_after(bytes, sources, names, &walk_whole(bytes, sources, names))
+}
+
+// The same of a text through which a walk has come so far.
+fn count_after(
+    bytes: &[u8],
+    sources: u32,
+    names: u32,
+    walk: &Walk,
+) -> Result<TextCounts, FoundFault>
+    requires short { length bytes.now ≤ most_text_bytes }
+    requires walked { WalksUpTo bytes.now sources names walk.now }
+    ensures faulty { MatchResult result
+        (λ _. first_faulty bytes.now sources names ≡ None)
+        (IsFoundIn bytes.now sources names) }
+    ensures segments { IfOk result (λ counts. counts.segments ≡ segment_count bytes.now) }
+    ensures used_lines { IfOk result (λ counts. counts.used_lines ≡ used_lines_of bytes.now) }
+{
     let mut at = walk.at;
     let mut segments = walk.segments;
     let mut used_lines = walk.used_lines;

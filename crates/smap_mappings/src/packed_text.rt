@@ -12,8 +12,9 @@ ghost use Rattle.smap_mappings.specs.Within.{IsWithin};
 ghost use Rattle.smap_mappings.specs.State.{mapping_at, IsAfter, IsBetween, IsMappingAt, IsNext};
 ghost use Rattle.smap_mappings.specs.LineWalk.{decoded_in, IsWalked};
 ghost use Rattle.smap_mappings.specs.PackedText.{IsPacked};
+ghost use Rattle.smap_mappings.specs.Private.Walk.{WalksUpTo};
 
-use crate::check::check_segments;
+use crate::check::check_after;
 use crate::copied::canonical_copy;
 use crate::cursor::Cursor;
 use crate::fault::Fault;
@@ -23,6 +24,7 @@ use crate::mapping::Mapping;
 use crate::meter::Meter;
 use crate::next::next_segment;
 use crate::state::State;
+use crate::walk::{Walk, walk_whole};
 use std::alloc::{AllocError, Global};
 use std::marker::Model;
 
@@ -80,13 +82,38 @@ impl PackedText {
         if text.len() > MOST_BYTES {
             return Err((TextRefusal::TextTooLong, text));
         }
-        match check_segments(text.as_bytes(), sources, names) {
+        let walk = walk_whole(text.as_bytes(), sources, names);
+        match PackedText::after(text, sources, names, &walk) {
+            Ok(packed) => Ok(packed),
+            Err((fault, text)) => Err((TextRefusal::Fault(fault), text)),
+        }
+    }
+
+    // The text through which a walk has come so far, or its first fault.
+    pub(crate) fn after(
+        text: String,
+        sources: u32,
+        names: u32,
+        walk: &Walk,
+    ) -> Result<PackedText, (Fault, String)>
+        requires short { length (string_bytes text) ≤ most_text_bytes }
+        requires walked { WalksUpTo (string_bytes text) sources names walk.now }
+        ensures accepted { IsOk result ↔ IsAccepted (string_bytes text) sources names }
+        ensures inside { IfOk result (λ packed. packed ≡ string_bytes text) }
+        ensures clean { OnOk result (first_fault (string_bytes text) sources names ≡ None) }
+        ensures within { OnOk result (All (IsWithin sources names)
+            (mappings_of (string_bytes text))) }
+        ensures faulty { IfErr result (λ e.
+            first_fault (string_bytes text) sources names ≡ Some e.0) }
+        ensures returned { IfErr result (λ e. e.1 ≡ text) }
+    {
+        match check_after(text.as_bytes(), sources, names, walk) {
             Ok(counts) => Ok(PackedText {
                 text,
                 segments: counts.segments,
                 used_lines: counts.used_lines,
             }),
-            Err(fault) => Err((TextRefusal::Fault(fault), text)),
+            Err(fault) => Err((fault, text)),
         }
     }
 

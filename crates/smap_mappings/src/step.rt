@@ -4,17 +4,16 @@ ghost use Rattle.smap_mappings.specs.Limits.{most_text_bytes};
 ghost use Rattle.smap_mappings.specs.Segment.{has_known_length};
 ghost use Rattle.smap_mappings.specs.Accepted.{are_in_range};
 ghost use Rattle.smap_mappings.specs.Faults.{spelling_fault};
-ghost use Rattle.smap_mappings.specs.State.{values_at, IsAfter, IsBetween};
+ghost use Rattle.smap_mappings.specs.State.{mapping_at, values_at, IsAfter, IsBetween};
 ghost use Rattle.smap_mappings.specs.PackedText.{IsPacked};
 ghost use Rattle.smap_mappings.specs.Private.Reading.{is_inside, segment_at, known_fields};
-ghost use Rattle.smap_mappings.specs.Private.Step.{IsStep, IsSteppedTo, faulty_at, faulty_from, mapping_in};
+ghost use Rattle.smap_mappings.specs.Private.Step.{IsStep, IsSteppedTo, faulty_at, faulty_from};
 ghost use Rattle.smap_mappings.specs.Private.Straight.{kind_with, most_segment_digits};
 
 use crate::advance::{advance, advance_checked};
 use crate::cursor::Cursor;
 use crate::fault::FaultKind;
 use crate::kind::Kind;
-use crate::mapping::{Mapping, Origin};
 use crate::segment::{Segment, is_inside, read_segment};
 use crate::spelling::spelling_fault;
 use crate::straight::{has_room, read_straight};
@@ -54,7 +53,7 @@ pub fn skip_separators(bytes: &[u8], cursor: &Cursor) -> Cursor
     at
 }
 
-// Reads the segment at the state's place: its mapping and the state after it, or the least kind of fault that holds
+// Reads the segment at the state's place: what it has and the state after it, or the least kind of fault that holds
 // of it.
 #[inline(always)]
 pub fn step(
@@ -62,13 +61,14 @@ pub fn step(
     cursor: &Cursor,
     sources: u32,
     names: u32,
-) -> Result<(Mapping, Cursor), FaultKind>
+) -> Result<(Kind, Cursor), FaultKind>
     requires within { cursor.now.place < length bytes.now }
     requires inside { is_inside (slice_index bytes.now cursor.now.place) ≡ true }
     ensures ahead { IfOk result (λ r. (cursor.now.place < r.1.place)
         × (r.1.place ≤ length bytes.now) × (r.1.line ≡ cursor.now.line)) }
     ensures ok { IfOk result (λ r. (j : ℕ) → IsAfter bytes.now j cursor.now
-        → IsStep bytes.now j sources names r.0 r.1) }
+        → IsStep bytes.now j sources names (mapping_at r.0 r.1) r.1) }
+    ensures in_range { IfOk result (λ r. are_in_range (values_at r.1) ≡ true) }
     ensures err { IfErr result (λ kind. (j : ℕ) → IsAfter bytes.now j cursor.now
         → faulty_from bytes.now sources names j ≡ Some (faulty_at bytes.now j cursor.now kind)) }
 {
@@ -76,7 +76,7 @@ pub fn step(
         return Err(unread_fault(bytes, cursor.place));
     };
     match advance(cursor, &segment, end, sources, names) {
-        Ok(after) => Ok((mapping_in(&segment, &after), after)),
+        Ok(after) => Ok((kind_of(&segment), after)),
         Err(kind) => Err(kind),
     }
 }
@@ -153,20 +153,4 @@ pub fn segment_end(bytes: &[u8], place: usize) -> usize
         end += 1;
     }
     end
-}
-
-#[inline(always)]
-fn mapping_in(segment: &Segment, after: &Cursor) -> Mapping
-    ensures { result ≡ mapping_in segment.now after.now }
-{
-    Mapping {
-        line: after.line,
-        column: after.column,
-        origin: segment.origin.map(|origin| Origin {
-            source: after.source,
-            line: after.original_line,
-            column: after.original_column,
-            name: origin.name.map(|_| after.name),
-        }),
-    }
 }

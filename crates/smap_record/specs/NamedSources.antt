@@ -1,6 +1,6 @@
 -- What the sources of a map are called whose URL is the path of its generated file (this project's own).
 use Rattle.std.specs.Prelude.{ℕ, List, map, option_map}
-use Rattle.smap_names.specs.ByPath.{name_from_path}
+use Rattle.smap_resolve.specs.ByPath.{name_from_path}
 use Rattle.smap_record.specs.MapFile.{Map}
 use Rattle.smap_record.specs.Record.{MapRecord}
 use Rattle.smap_record.specs.Sources.{StatedSource}

@@ -1,24 +1,23 @@
 -- How far a check has come.
-use Rattle.std.specs.Prelude.{◌≡◌, ℕ, ◌<◌, ◌≤◌, ◌==◌, List, [], true, length, take}
+use Rattle.std.specs.Prelude.{◌≡◌, ℕ, ◌+◌, ◌<◌, ◌≤◌, ◌==◌, List, [], true, length, take}
 use Rattle.std.specs.List.{list_any}
 use Rattle.smap_mappings.specs.Mappings.{deltas_of}
 use Rattle.smap_mappings.specs.Accepted.{are_in_range}
 use Rattle.smap_mappings.specs.Faults.{first_faulty}
 use Rattle.smap_mappings.specs.Counts.{new_lines}
-use Rattle.smap_mappings.specs.State.{values_at, IsAfter}
+use Rattle.smap_mappings.specs.State.{mapping_at, values_at, IsAfter, IsNext}
 use Rattle.smap_mappings.specs.Private.Step.{faulty_from, IsStep}
 use Rattle.smap_mappings.specs.declared.cursor.Cursor.{Cursor}
-use Rattle.smap_mappings.specs.declared.mapping.Mapping.{Mapping}
+use Rattle.smap_mappings.specs.declared.kind.Kind.{Kind}
 use Rattle.smap_mappings.specs.declared.walk.Walk.{Walk}
 
--- the segment at the state's place has no fault, and this is the state after it
-pub record IsStraightStep (text : List ℕ) (sources names : ℕ) (cursor after : Cursor) : Type 0 where
+-- the segment at the state's place has no fault and has this much, and this is the state after it
+pub record IsCleanStep (text : List ℕ) (sources names : ℕ) (cursor : Cursor) (kind : Kind) (after : Cursor) : Type 0 where
   pub ahead : cursor.place < after.place
   pub inside : after.place ≤ length text
   pub line : after.line ≡ cursor.line
   pub in_range : are_in_range (values_at after) ≡ true
-  pub mapping : Mapping
-  pub steps : (j : ℕ) → IsAfter text j cursor → IsStep text j sources names mapping after
+  pub steps : (j : ℕ) → IsAfter text j cursor → IsStep text j sources names (mapping_at kind after) after
 
 -- the state is after this many segments, none of which is faulty, on as many lines
 pub record ChecksUpTo (text : List ℕ) (sources names : ℕ) (cursor : Cursor) (segments used_lines : ℕ) : Type 0 where
@@ -33,3 +32,10 @@ pub record ChecksUpTo (text : List ℕ) (sources names : ℕ) (cursor : Cursor) 
 pub record WalksUpTo (text : List ℕ) (sources names : ℕ) (walk : Walk) : Type 0 where
   pub checks : ChecksUpTo text sources names walk.at walk.segments walk.used_lines
   pub in_range : are_in_range (values_at walk.at) ≡ true
+
+-- the walk has come one segment further, which has this much
+pub record IsWalkedOn (text : List ℕ) (sources names : ℕ) (walk : Walk) (kind : Kind) (after : Walk) : Type 0 where
+  pub walks : WalksUpTo text sources names after
+  pub next : IsNext text walk.segments (mapping_at kind after.at) after.at
+  pub one : after.segments ≡ walk.segments + 1
+  pub onward : walk.at.place < after.at.place

@@ -12,8 +12,7 @@ ghost use Rattle.smap_record.specs.Sources.{source_of};
 use super::MapFile;
 use crate::entry::SourceEntry;
 use smap_index::laws::one_text_is_its_mappings;
-use smap_index::{BuildRefusal, Index, Part};
-use smap_mappings::PackedText;
+use smap_index::{BuildRefusal, Index, MarkedText};
 use std::alloc::{AllocError, Global};
 
 impl MapFile {
@@ -34,10 +33,10 @@ impl MapFile {
             ≡ regular_map (map source_of sources.items) (map string_bytes names.items)
             (option_map string_bytes file) (string_bytes mappings) k) }
     {
-        let text = checked(mappings, sources.len() as u32, names.len() as u32);
+        let text = checked(alloc, mappings, sources.len() as u32, names.len() as u32, k);
         one_text_is_its_mappings();
         Ok(MapFile {
-            index: index_of(alloc, text, k)?,
+            index: index_of(alloc, text)?,
             sources,
             names,
             file,
@@ -46,34 +45,27 @@ impl MapFile {
     }
 }
 
-// A text that a map with so many sources and names may have.
-fn checked(text: String, sources: u32, names: u32) -> PackedText
+// A text that a map with so many sources and names may have, with its checkpoints at this interval.
+fn checked(alloc: Global, text: String, sources: u32, names: u32, k: u32) -> MarkedText
     requires { IsRegularMap sources names (string_bytes text) }
-    ensures text { result ≡ string_bytes text }
-    ensures within { All (IsWithin sources names) (mappings_of result) }
+    ensures text { result.text ≡ string_bytes text }
+    ensures interval { result.k ≡ k }
+    ensures within { All (IsWithin sources names) (mappings_of result.text) }
 {
-    match PackedText::check(text, sources, names) {
-        Ok(packed) => packed,
+    match MarkedText::check(alloc, text, sources, names, k) {
+        Ok(marked) => marked,
         Err(_) => unreachable!("a regular map may have the text"),
     }
 }
 
 // The index of a text that is the one part.
-fn index_of(alloc: Global, text: PackedText, k: u32) -> Result<Index, AllocError>
-    requires sound { part_fault (whole_text text ∷ []) ≡ None }
-    requires interval { is_interval k ≡ true }
-    ensures parts { IfOk result (λ index. index.parts ≡ whole_text text ∷ []) }
-    ensures interval { IfOk result (λ index. index.k ≡ k) }
+fn index_of(alloc: Global, text: MarkedText) -> Result<Index, AllocError>
+    requires sound { part_fault (whole_text text.text ∷ []) ≡ None }
+    requires interval { is_interval text.k ≡ true }
+    ensures parts { IfOk result (λ index. index.parts ≡ whole_text text.text ∷ []) }
+    ensures interval { IfOk result (λ index. index.k ≡ text.k) }
 {
-    let mut parts = Vec::new(alloc);
-    parts.push(Part {
-        line: 0,
-        column: 0,
-        text,
-        source_base: 0,
-        name_base: 0,
-    })?;
-    match Index::build(alloc, parts, k) {
+    match Index::of_text(alloc, text) {
         Ok(index) => Ok(index),
         Err(refusal) => Err(no_memory(refusal)),
     }

@@ -1,6 +1,6 @@
 use Rattle.std.proofs.Common.{◌-◌, length}
 use Rattle.smap_mappings.specs.Private.Walk.{ChecksUpTo}
-use Rattle.smap_mappings.proofs.check.count_segments.Given as goal
+use Rattle.smap_mappings.proofs.check.count_after.Given as goal
 
 -- no segment so far is faulty
 abbrev pub invariant-loop-at : goal.invariant-loop-at

@@ -1,7 +1,7 @@
 use Rattle.std.proofs.Common.{ap}
 use Rattle.std.specs.Option.{option_map}
 use Rattle.smap_mappings.specs.Faults.{first_fault, fault_of}
-use Rattle.smap_mappings.proofs.check.check_segments.Goals as goal
+use Rattle.smap_mappings.proofs.check.check_after.Goals as goal
 
 pub returns-in-Ok-clause-fault : goal.returns-in-Ok-clause-fault
 unfolding first_fault

@@ -6,11 +6,11 @@ use Rattle.smap_mappings.specs.Faults.{first_fault}
 use Rattle.smap_mappings.specs.Counts.{segment_count, used_lines_of}
 use Rattle.smap_mappings.proofs.CheckLaws.{widest, no_fault_is_accepted, accepted_has_no_fault}
 use Rattle.smap_mappings.proofs.WithinLaws.{mappings_within}
-use Rattle.smap_mappings.proofs.packed_text.PackedText.check.Goals as goal
-use Rattle.smap_mappings.proofs.packed_text.PackedText.check.Goals.{In-Ok, After-as_bytes}
+use Rattle.smap_mappings.proofs.packed_text.PackedText.after.Goals as goal
+use Rattle.smap_mappings.proofs.packed_text.PackedText.after.Goals.{In-Ok, After-as_bytes}
 
 short : (c : After-as_bytes) → length (string_bytes c.args.text) ≤ most_text_bytes
-short c = omega (arith, c.len.ensures)
+short c = c.requires.short
 
 accepted : (c : In-Ok) → IsAccepted (string_bytes c.args.text) c.args.sources c.args.names
 accepted c = subst (λ text. IsAccepted text c.args.sources c.args.names) c.as_bytes.ensures.value
@@ -31,17 +31,14 @@ returns-in-Err-clause-accepted c = (
   λ e. absurd (cc),
   λ both.
       let none = ap (λ text. first_fault text c.args.sources c.args.names) c.as_bytes.ensures.value
-      ∙ accepted_has_no_fault (string_bytes c.args.text) c.args.sources c.args.names both.1 in
+      ∙ accepted_has_no_fault (string_bytes c.args.text) c.args.sources c.args.names both in
       let clash = sym c.in-Err.ensures.fault ∙ none in
       absurd (cc),
 )
 
 pub returns-in-Ok-clause-accepted : goal.returns-in-Ok-clause-accepted
 returns-in-Ok-clause-accepted c = (
-  λ e. (
-    short (goal.at.returns-in-Ok-clause-accepted c).After-as_bytes,
-    accepted (goal.at.returns-in-Ok-clause-accepted c).In-Ok,
-  ),
+  λ e. accepted (goal.at.returns-in-Ok-clause-accepted c).In-Ok,
   λ both. refl,
 )
 

@@ -1,10 +1,9 @@
 use Rattle.std.proofs.Common.{arith, sym, ◌∙◌}
-use Rattle.smap_mappings.proofs.CheckLaws.{walk_or_start, none_at_end, lines_at_end, all_after, is_new, checks_more, from_bool_most}
-use Rattle.smap_mappings.proofs.check.count_segments.Goals as goal
+use Rattle.smap_mappings.proofs.CheckLaws.{none_at_end, lines_at_end, all_after, is_new, checks_more, from_bool_most}
+use Rattle.smap_mappings.proofs.check.count_after.Goals as goal
 
 pub loop-at-init : goal.loop-at-init
-loop-at-init c = rw c.unwrap_or-walk.ensures
-    ((walk_or_start c.args.bytes.now c.args.sources c.args.names c.walk_straight.result c.walk_straight.ensures).checks)
+loop-at-init c = c.requires.walked.checks
 
 pub returns-then-next-bytes-clause-faulty : goal.returns-then-next-bytes-clause-faulty
 returns-then-next-bytes-clause-faulty c =
