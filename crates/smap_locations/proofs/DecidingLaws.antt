@@ -16,11 +16,11 @@ use Rattle.smap_locations.specs.Patterns.{path_in, path_of, rest_behind, rest_fr
 -- ---- one before another
 
 -- as a number: twice the length, and one more where it is a file's
-abbrev weight : (length : ℕ) → (folder : Bool) → ℕ
+abbrev pub weight : (length : ℕ) → (folder : Bool) → ℕ
 weight n true = 2 * n
 weight n false = 2 * n + 1
 
-abbrev rank : List ℕ × List ℕ → ℕ
+abbrev pub rank : List ℕ × List ℕ → ℕ
 rank pattern = weight (length pattern.0) (is_folder pattern.1)
 
 shorter : (m n : ℕ) (f g : Bool) → m < n → weight m g < weight n f
@@ -49,11 +49,11 @@ by_weight m n f g = go (nat_lt m n) refl
     go true is = ap (λ b. b || n == m && g && not f) is ∙ sym (lt-ltb (weight m g) (weight n f) (shorter m n f g (ltb-true m n is)))
     go false is = ap (λ b. b || n == m && g && not f) is ∙ equal (n == m) refl (ltb-false m n is)
 
-by_rank : (pattern other : List ℕ × List ℕ) → comes_before pattern other ≡ ltb (rank other) (rank pattern)
+pub by_rank : (pattern other : List ℕ × List ℕ) → comes_before pattern other ≡ ltb (rank other) (rank pattern)
 by_rank pattern other = by_weight (length other.0) (length pattern.0) (is_folder pattern.1) (is_folder other.1)
 
 -- none comes before what comes before one that none comes before
-not_before : (one two three : List ℕ × List ℕ) → comes_before one two ≡ false → comes_before two three ≡ false → comes_before one three ≡ false
+pub not_before : (one two three : List ℕ × List ℕ) → comes_before one two ≡ false → comes_before two three ≡ false → comes_before one three ≡ false
 not_before one two three first second =
     let few : rank one ≤ rank two = ltb-false (rank two) (rank one) (sym (by_rank one two) ∙ first) in
     let more : rank two ≤ rank three = ltb-false (rank three) (rank two) (sym (by_rank two three) ∙ second) in

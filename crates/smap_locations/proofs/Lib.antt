@@ -9,3 +9,5 @@ mod SlashLaws
 mod Examples
 mod CommonLaws
 mod EntryLaws
+mod PlaceLaws
+mod BestLaws

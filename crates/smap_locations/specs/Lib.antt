@@ -10,3 +10,4 @@ pub mod InFolder
 pub mod ByPattern
 pub mod ByText
 pub mod Common
+pub mod Private

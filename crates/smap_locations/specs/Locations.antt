@@ -6,7 +6,7 @@ use Rattle.smap_locations.specs.ListLine.{is_folder}
 use Rattle.smap_locations.specs.ByText.{value_under}
 use Rattle.smap_locations.specs.Named.{Named, twice}
 use Rattle.smap_locations.specs.Paths.{map_path, without_query}
-use Rattle.smap_locations.specs.Patterns.{has_in_text, has_path_in_text, needs_query, path_by_patterns, text_by_patterns}
+use Rattle.smap_locations.specs.Patterns.{has_path_in_text, needs_query, path_by_patterns, text_by_patterns}
 use Rattle.smap_locations.specs.declared.refusal.LocationRefusal.{LocationRefusal}
 use Rattle.smap_locations.specs.declared.refusal.LocationRefusal.TheVariants.{NoFolder}
 
@@ -44,10 +44,6 @@ path_for locations url =
 -- the text of the pattern that decides for a URL, where one does
 abbrev pub pattern_for : LocationsSeen → (url : List ℕ) → Option (List ℕ)
 pattern_for locations url = text_by_patterns locations.patterns url (without_query url)
-
--- a pattern has the URL, and not by an empty text
-abbrev pub has_pattern_in_text : LocationsSeen → (url : List ℕ) → Bool
-has_pattern_in_text locations url = list_any (has_in_text url (without_query url)) locations.patterns
 
 -- what is named for the URL has a path, but for patterns
 abbrev pub has_path_as_named : LocationsSeen → (url : List ℕ) → Bool

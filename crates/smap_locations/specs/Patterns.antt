@@ -122,9 +122,6 @@ needs_query url short (text, path) = not (is_folder path) && has_ending text url
 abbrev pub is_for_texts : (pattern : List ℕ × List ℕ) → Bool
 is_for_texts pattern = not (length pattern.0 == 0)
 
-abbrev pub has_in_text : (url short : List ℕ) → (pattern : List ℕ × List ℕ) → Bool
-has_in_text url short pattern = is_for_texts pattern && has_url pattern url short
-
 -- the pattern that decides there for a URL gives a path
 abbrev pub has_path_in_text : (patterns : Named) → (url short : List ℕ) → Bool
 has_path_in_text patterns url short = is_some (path_by_patterns (filter is_for_texts patterns) url short)

@@ -19,6 +19,7 @@ mod pattern;
 mod patterns;
 mod pieces;
 mod refusal;
+mod text_places;
 
 pub use by_text::ByText;
 pub use common::common_front;

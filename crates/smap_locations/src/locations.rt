@@ -1,10 +1,11 @@
 //! The files and the folders that maps are in.
-ghost use Rattle.std.specs.Prelude.{◌≡◌, ◌≤◌, ◌==◌, ◌++◌, ◌∷◌, [], is_some, not, string_bytes, option_map, MatchOption};
+ghost use Rattle.std.specs.Prelude.{◌≡◌, ◌<◌, ◌≤◌, ◌==◌, ◌++◌, ◌∷◌, [], is_some, not, string_bytes, option_map, MatchOption};
 ghost use Rattle.std.specs.Prelude.{OnErr, OnOk, IfErr, IfOk, IsErrAnd, length, map};
 ghost use Rattle.smap_locations.specs.Deciding.{decided_by, longest_prefix};
-ghost use Rattle.smap_locations.specs.Locations.{has_path_as_named, has_pattern_in_text, has_pattern_path_in_text, key_for, path_for, path_in_folders, pattern_for, prefix_refusal};
+ghost use Rattle.smap_locations.specs.Locations.{has_path_as_named, has_pattern_path_in_text, key_for, path_for, path_in_folders, pattern_for, prefix_refusal};
 ghost use Rattle.smap_locations.specs.Patterns.{has_text, pattern_refusal};
-ghost use Rattle.std.specs.List.{list_any};
+ghost use Rattle.std.specs.List.{list_any, position_or_len};
+ghost use Rattle.std.specs.Option.{ForSome};
 ghost use Rattle.smap_locations.specs.ByText.{IsWith, value_under};
 ghost use Rattle.smap_locations.specs.Common.{common_of};
 ghost use Rattle.smap_locations.specs.Named.{twice};
@@ -163,13 +164,6 @@ impl Locations {
         !self.patterns.is_empty()
     }
 
-    /// Whether a pattern is for a URL that stands in a text, where none has it by an empty text.
-    pub fn has_pattern_in_text(&self, url: &[u8]) -> bool
-        ensures { result ≡ has_pattern_in_text self.now url.now }
-    {
-        self.patterns.has_in_text(url, without_query(url))
-    }
-
     /// Whether what is named for a URL, but for patterns, has a path: a file that is named for the URL, or for it without
     /// its query and its fragment; or the folder of the longest prefix. The call takes no memory.
     pub fn has_path_as_named(&self, url: &[u8]) -> bool
@@ -187,11 +181,14 @@ impl Locations {
         self.patterns.has_path_in_text(url, without_query(url))
     }
 
-    /// The text of the pattern that decides for a URL, where one does. The call takes no memory.
-    pub fn pattern_for(&self, url: &[u8]) -> Option<&[u8]>
-        ensures { option_map (λ text. text.now) result ≡ pattern_for self.now url.now }
+    /// The place of the pattern that decides for a URL, from 0 in the order in which they were added, where one does. The
+    /// call takes no memory.
+    pub fn pattern_place(&self, url: &[u8]) -> Option<usize>
+        ensures place { result ≡ option_map (λ text.
+            position_or_len (has_text text) self.now.patterns) (pattern_for self.now url.now) }
+        ensures within { ForSome result (λ place. place < length self.now.patterns) }
     {
-        self.patterns.text_for(url, without_query(url))
+        self.patterns.place_for(url, without_query(url))
     }
 
     /// The path of the file that has a URL's map, where there is one: what is named for the URL, or for it without its query

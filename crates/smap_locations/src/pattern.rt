@@ -3,7 +3,7 @@ ghost use Rattle.std.specs.Prelude.{◌≡◌, Some, is_some, option_map, string
 ghost use Rattle.smap_locations.specs.Deciding.{pattern_name};
 ghost use Rattle.smap_locations.specs.ListLine.{is_folder};
 ghost use Rattle.smap_locations.specs.PatternSeen.{pattern_seen};
-ghost use Rattle.smap_locations.specs.Patterns.{comes_before, has_in_text, has_text, has_url, is_for_texts, needs_query, path_by, with_slashes};
+ghost use Rattle.smap_locations.specs.Patterns.{comes_before, has_url, is_for_texts, needs_query, path_by, with_slashes};
 
 use crate::list_line::is_folder;
 use crate::paths::{has_map_path, map_path};
@@ -27,13 +27,6 @@ impl Pattern {
         } else {
             has_ending(&self.text, url) || has_ending(&self.text, short)
         }
-    }
-
-    /// Whether it is for a URL, which is `short` without its query and its fragment, and has a text that is not empty.
-    pub fn has_in_text(&self, url: &[u8], short: &[u8]) -> bool
-        ensures { result ≡ has_in_text url.now short.now (pattern_seen self.now) }
-    {
-        self.is_for_texts() && self.has_url(url, short)
     }
 
     /// Whether its text is not empty.
@@ -99,13 +92,6 @@ impl Pattern {
     {
         let (text, other_text) = (self.text.len(), other.text.len());
         other_text < text || text == other_text && other.is_folder() && !self.is_folder()
-    }
-
-    /// Whether it has this text.
-    pub fn has_text(&self, text: &[u8]) -> bool
-        ensures { result ≡ has_text text.now (pattern_seen self.now) }
-    {
-        text == self.text.as_slice()
     }
 
     // Whether it is for a folder.

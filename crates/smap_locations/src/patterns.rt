@@ -1,33 +1,46 @@
 //! The patterns of URLs.
-ghost use Rattle.std.specs.Prelude.{◌≡◌, ◌==◌, ◌++◌, ◌∷◌, [], None, length, map, option_map, string_bytes, MatchOption};
+ghost use Rattle.std.specs.Prelude.{◌≡◌, ◌==◌, ◌<◌, ◌++◌, ◌∷◌, ℕ, List, [], None, Some, true, false, is_some, length, option_map, string_bytes, take, MatchBool, MatchOption};
 ghost use Rattle.std.specs.Prelude.{OnErr, OnOk, IfErr, IfOk, IsErrAnd};
-ghost use Rattle.std.specs.List.{list_any};
-ghost use Rattle.smap_locations.specs.PatternSeen.{pattern_seen};
+ghost use Rattle.std.specs.List.{list_any, position_or_len, slice_get};
+ghost use Rattle.std.specs.Option.{ForSome};
+ghost use Rattle.std.specs.Str.{bytes_eq};
+ghost use Rattle.smap_locations.specs.ByText.{IsWith, value_under};
 ghost use Rattle.smap_locations.specs.Deciding.{pattern_name};
-ghost use Rattle.smap_locations.specs.Patterns.{deciding, has_in_text, has_path_in_text, has_text, is_better, needs_query, path_by_patterns, pattern_refusal, text_by_patterns};
+ghost use Rattle.smap_locations.specs.ListLine.{is_folder};
+ghost use Rattle.smap_locations.specs.PatternSeen.{pattern_seen};
+ghost use Rattle.smap_locations.specs.Patterns.{deciding, has_ending, has_path_in_text, has_text, needs_query, path_by_patterns, pattern_refusal, rest_here, text_by_patterns};
+ghost use Rattle.smap_locations.specs.Private.Best.{Comes, IsCovered, IsFor, at_place};
 ghost use Rattle.smap_locations.specs.declared.refusal.LocationRefusal.TheVariants.{Memory};
 
 use crate::list_line::is_folder;
 use crate::pattern::Pattern;
-use crate::pieces::ends_in_separator;
+use crate::pieces::{begins_with_separator, ends_in_separator, has_ending, is_separator};
 use crate::refusal::LocationRefusal;
+use crate::text_places::TextPlaces;
 use std::alloc::{AllocError, Global};
 use std::marker::Model;
 
-/// Patterns, in the order in which they were added. There are few: to ask for a URL is a walk over them.
+/// Patterns, in the order in which they were added. A URL's are found by their texts: in the time of a look-up for each length
+/// that they have, and, of those of folders, for each piece of the URL.
 #[derive(Drop)]
 pub struct Patterns {
     all: Vec<Pattern>,
+    // Where those of files stand among all, and those of folders.
+    files: TextPlaces,
+    folders: TextPlaces,
 }
 
 impl Model for Patterns {
     ghost use Rattle.std.specs.Prelude.{map};
     ghost use Rattle.smap_locations.specs.Named.{Named};
     ghost use Rattle.smap_locations.specs.PatternSeen.{pattern_seen};
+    ghost use Rattle.smap_locations.specs.Private.Places.{ArePlaced};
 
     ghost Value = { Named };
 
     ghost view = { λ patterns. map pattern_seen patterns.all.items };
+
+    ghost invariant = { λ patterns. ArePlaced (map pattern_seen patterns.all.items) patterns.files patterns.folders };
 }
 
 impl Patterns {
@@ -37,6 +50,8 @@ impl Patterns {
     {
         Patterns {
             all: Vec::new(alloc),
+            files: TextPlaces::new(alloc),
+            folders: TextPlaces::new(alloc),
         }
     }
 
@@ -55,9 +70,28 @@ impl Patterns {
         if self.has_text(&text) {
             return Err(LocationRefusal::Twice);
         }
-        match self.all.push(Pattern { text, path }) {
+        match self.put(text, path) {
             Ok(()) => Ok(()),
             Err(_) => Err(LocationRefusal::Memory),
+        }
+    }
+
+    // Adds a pattern that is not refused. Where memory runs out, nothing is changed.
+    fn put(&mut self, text: Vec<u8>, path: String) -> Result<(), AllocError>
+        requires { pattern_refusal self.old text.items (string_bytes path) ≡ None }
+        ensures added { OnOk result
+            (self.new ≡ self.old ++ (text.items, string_bytes path) ∷ []) }
+        ensures kept { OnErr result (self.new ≡ self.old) }
+    {
+        let named = copy_of(&text)?;
+        // Then the last step does not fail.
+        self.all.reserve(1)?;
+        let place = self.all.len();
+        let for_folder = is_folder(path.as_bytes());
+        add_place(&mut self.files, &mut self.folders, for_folder, named, place)?;
+        match self.all.push(Pattern { text, path }) {
+            Ok(()) => Ok(()),
+            Err(_) => unreachable!("there is room for one more"),
         }
     }
 
@@ -65,7 +99,7 @@ impl Patterns {
     pub fn has_text(&self, text: &[u8]) -> bool
         ensures { result ≡ list_any (has_text text.now) self.now }
     {
-        self.all.iter().any(|pattern| pattern.has_text(text))
+        self.files.get(text).is_some() || self.folders.get(text).is_some()
     }
 
     /// Whether there is none.
@@ -75,21 +109,12 @@ impl Patterns {
         self.all.is_empty()
     }
 
-    /// Whether one whose text is not empty is for a URL, which is `short` without its query and its fragment.
-    pub fn has_in_text(&self, url: &[u8], short: &[u8]) -> bool
-        ensures { result ≡ list_any (has_in_text url.now short.now) self.now }
-    {
-        self.all
-            .iter()
-            .any(|pattern| pattern.has_in_text(url, short))
-    }
-
     /// Whether the one that decides for a URL gives a path, where those with an empty text decide for none. The URL is
     /// `short` without its query and its fragment.
     pub fn has_path_in_text(&self, url: &[u8], short: &[u8]) -> bool
         ensures { result ≡ has_path_in_text self.now url.now short.now }
     {
-        match deciding(&self.all, url, short) {
+        match self.deciding(url, short) {
             Some(pattern) => pattern.is_for_texts() && pattern.has_path(short),
             None => false,
         }
@@ -99,21 +124,45 @@ impl Patterns {
     pub fn needs_query(&self, url: &[u8], short: &[u8]) -> bool
         ensures { result ≡ list_any (needs_query url.now short.now) self.now }
     {
-        self.all
-            .iter()
-            .any(|pattern| pattern.needs_query(url, short))
+        let all = self.files.lengths();
+        for length in all {
+            if self.end_needs_query(*length, url, short) {
+                return true;
+            }
+        }
+        false
     }
 
-    /// The text of the pattern that decides for a URL, where one does. The URL is `short` without its query and its
-    /// fragment.
-    pub fn text_for(&self, url: &[u8], short: &[u8]) -> Option<&[u8]>
-        ensures { option_map (λ text. text.now) result
-            ≡ text_by_patterns self.now url.now short.now }
+    // The same of one whose text has so many bytes.
+    fn end_needs_query(&self, bytes: usize, url: &[u8], short: &[u8]) -> bool
+        ensures one { result ≡ true → list_any (needs_query url.now short.now) self.now ≡ true }
+        ensures all { (place : ℕ) (pattern : List ℕ × List ℕ) →
+            slice_get self.now place ≡ Some pattern → length pattern.0 ≡ bytes →
+            needs_query url.now short.now pattern ≡ true → result ≡ true }
     {
-        match deciding(&self.all, url, short) {
-            Some(pattern) => Some(&pattern.text),
-            None => None,
+        if bytes > url.len() {
+            return false;
         }
+        let (_, text) = url.split_at(url.len() - bytes);
+        match self.files.get(text) {
+            Some(place) => self.all[place].needs_query(url, short),
+            None => false,
+        }
+    }
+
+    /// The place of the pattern that decides for a URL, from 0, where one does. The URL is `short` without its query and its
+    /// fragment.
+    pub fn place_for(&self, url: &[u8], short: &[u8]) -> Option<usize>
+        ensures place { result ≡ option_map (λ text. position_or_len (has_text text) self.now)
+            (text_by_patterns self.now url.now short.now) }
+        ensures decides { at_place self.now result ≡ deciding url.now short.now None self.now }
+        ensures within { ForSome result (λ place. place < length self.now) }
+    {
+        if self.all.is_empty() {
+            return None;
+        }
+        let best = self.best_of_files(url, short);
+        self.better_of_folders(best, url, short)
     }
 
     /// The path that the pattern gives which decides for a URL, where one does. The URL is `short` without its query and
@@ -127,7 +176,7 @@ impl Patterns {
         ensures { IfOk result (λ path.
             option_map string_bytes path ≡ path_by_patterns self.now url.now short.now) }
     {
-        match deciding(&self.all, url, short) {
+        match self.deciding(url, short) {
             Some(pattern) => pattern.path_by(alloc, short),
             None => Ok(None),
         }
@@ -144,34 +193,241 @@ impl Patterns {
         ensures { IfOk result (λ name. option_map (λ text. text.items) name
             ≡ pattern_name short.now (deciding url.now short.now None self.now)) }
     {
-        match deciding(&self.all, url, short) {
+        match self.deciding(url, short) {
             Some(pattern) => pattern.name_for(alloc, short),
             None => Ok(None),
         }
     }
-}
 
-// The pattern that decides for a URL.
-fn deciding<'p>(patterns: &'p [Pattern], url: &[u8], short: &[u8]) -> Option<&'p Pattern>
-    ensures { option_map (λ pattern. pattern_seen pattern.now) result
-        ≡ deciding url.now short.now None (map pattern_seen patterns.now) }
-{
-    let mut best = None;
-    for pattern in patterns {
-        if is_better(best, pattern) && pattern.has_url(url, short) {
-            best = Some(pattern);
+    // The pattern that decides for a URL.
+    fn deciding(&self, url: &[u8], short: &[u8]) -> Option<&Pattern>
+        ensures { option_map (λ pattern. pattern_seen pattern.now) result
+            ≡ deciding url.now short.now None self.now }
+    {
+        match self.place_for(url, short) {
+            Some(place) => Some(&self.all[place]),
+            None => None,
         }
     }
-    best
+
+    // The place of the best of those of files.
+    fn best_of_files(&self, url: &[u8], short: &[u8]) -> Option<usize>
+        ensures { Comes self.now url.now short.now None result
+            (λ place pattern. is_folder pattern.1 ≡ false) }
+    {
+        let best = self.better_at_end(None, url, url, short);
+        if short == url {
+            best
+        } else {
+            self.better_at_end(best, short, url, short)
+        }
+    }
+
+    // The better one of the best so far and of those of files with which a text ends.
+    fn better_at_end(
+        &self,
+        best: Option<usize>,
+        text: &[u8],
+        url: &[u8],
+        short: &[u8],
+    ) -> Option<usize>
+        requires { IsFor self.now url.now short.now best }
+        ensures { Comes self.now url.now short.now best result (λ place pattern.
+            (is_folder pattern.1 ≡ false) × (has_ending pattern.0 text.now ≡ true)) }
+    {
+        let mut best = best;
+        let all = self.files.lengths();
+        for length in all {
+            best = self.better_end(best, *length, text, url, short);
+        }
+        best
+    }
+
+    // The same of the one whose text has so many bytes.
+    fn better_end(
+        &self,
+        best: Option<usize>,
+        bytes: usize,
+        text: &[u8],
+        url: &[u8],
+        short: &[u8],
+    ) -> Option<usize>
+        requires { IsFor self.now url.now short.now best }
+        ensures { Comes self.now url.now short.now best result (λ place pattern.
+            (is_folder pattern.1 ≡ false) × (has_ending pattern.0 text.now ≡ true) ×
+            (length pattern.0 ≡ bytes)) }
+    {
+        if bytes > text.len() {
+            return best;
+        }
+        let (_, end) = text.split_at(text.len() - bytes);
+        if !has_ending(end, text) {
+            return best;
+        }
+        let place = self.files.get(end);
+        self.better(best, place, url, short)
+    }
+
+    // The better one of the best so far and of those of folders.
+    fn better_of_folders(&self, best: Option<usize>, url: &[u8], short: &[u8]) -> Option<usize>
+        requires { IsFor self.now url.now short.now best }
+        ensures { Comes self.now url.now short.now best result
+            (λ place pattern. is_folder pattern.1 ≡ true) }
+    {
+        let mut best = best;
+        let mut begins = true;
+        let mut left = short;
+        while let Some((byte, behind)) = left.split_first() {
+            best = self.better_here(best, begins, left, url, short);
+            begins = is_separator(*byte);
+            left = behind;
+        }
+        best
+    }
+
+    // The same of those with which a rest of the URL begins; `begins` says whether a piece begins there.
+    fn better_here(
+        &self,
+        best: Option<usize>,
+        begins: bool,
+        left: &[u8],
+        url: &[u8],
+        short: &[u8],
+    ) -> Option<usize>
+        requires { IsFor self.now url.now short.now best }
+        ensures { Comes self.now url.now short.now best result (λ place pattern.
+            (is_folder pattern.1 ≡ true) × (is_some (rest_here pattern.0 begins left.now) ≡ true)) }
+    {
+        if begins || begins_with_separator(left) {
+            self.better_at_front(best, left, url, short)
+        } else {
+            best
+        }
+    }
+
+    // The better one of the best so far and of those of folders with which a text begins.
+    fn better_at_front(
+        &self,
+        best: Option<usize>,
+        text: &[u8],
+        url: &[u8],
+        short: &[u8],
+    ) -> Option<usize>
+        requires { IsFor self.now url.now short.now best }
+        ensures { Comes self.now url.now short.now best result (λ place pattern.
+            (is_folder pattern.1 ≡ true) ×
+            (bytes_eq (take (length pattern.0) text.now) pattern.0 ≡ true)) }
+    {
+        let mut best = best;
+        let all = self.folders.lengths();
+        for length in all {
+            best = self.better_front(best, *length, text, url, short);
+        }
+        best
+    }
+
+    // The same of the one whose text has so many bytes.
+    fn better_front(
+        &self,
+        best: Option<usize>,
+        bytes: usize,
+        text: &[u8],
+        url: &[u8],
+        short: &[u8],
+    ) -> Option<usize>
+        requires { IsFor self.now url.now short.now best }
+        ensures { Comes self.now url.now short.now best result (λ place pattern.
+            (is_folder pattern.1 ≡ true) ×
+            (bytes_eq (take (length pattern.0) text.now) pattern.0 ≡ true) ×
+            (length pattern.0 ≡ bytes)) }
+    {
+        let folders = &self.folders;
+        if bytes > text.len() {
+            return best;
+        }
+        let (front, _) = text.split_at(bytes);
+        // Then none can have this text.
+        if !ends_in_separator(front) {
+            return best;
+        }
+        let place = folders.get(front);
+        self.better(best, place, url, short)
+    }
+
+    // The better one of the best so far and of one that was found, if that has the URL.
+    fn better(
+        &self,
+        best: Option<usize>,
+        found: Option<usize>,
+        url: &[u8],
+        short: &[u8],
+    ) -> Option<usize>
+        requires best { IsFor self.now url.now short.now best }
+        requires found { ForSome found (λ place. place < length self.now) }
+        ensures { Comes self.now url.now short.now best result
+            (λ place pattern. found ≡ Some place) }
+    {
+        let Some(place) = found else {
+            return best;
+        };
+        if self.is_better(best, place) && self.all[place].has_url(url, short) {
+            Some(place)
+        } else {
+            best
+        }
+    }
+
+    // Whether one decides before the best so far.
+    fn is_better(&self, best: Option<usize>, place: usize) -> bool
+        requires best { ForSome best (λ other. other < length self.now) }
+        requires place { place < length self.now }
+        ensures yes { result ≡ true →
+            ForSome best (λ other. IsCovered self.now (Some place) other) }
+        ensures no { result ≡ false → IsCovered self.now best place }
+    {
+        match best {
+            Some(other) => self.precedes(place, other),
+            None => true,
+        }
+    }
+
+    // Whether one decides before another: of two of which neither comes before the other the first.
+    fn precedes(&self, place: usize, other: usize) -> bool
+        requires place { place < length self.now }
+        requires other { other < length self.now }
+        ensures yes { result ≡ true → IsCovered self.now (Some place) other }
+        ensures no { result ≡ false → IsCovered self.now (Some other) place }
+    {
+        let (one, two) = (&self.all[place], &self.all[other]);
+        one.comes_before(two) || place < other && !two.comes_before(one)
+    }
 }
 
-// Whether a pattern decides before the best so far.
-fn is_better(best: Option<&Pattern>, pattern: &Pattern) -> bool
-    ensures { result ≡ is_better (option_map (λ one. pattern_seen one.now) best.entry)
-        (pattern_seen pattern.now) }
+// Puts the place of a pattern among those of its kind. Where memory runs out, nothing is changed.
+fn add_place(
+    files: &mut TextPlaces,
+    folders: &mut TextPlaces,
+    for_folder: bool,
+    text: Vec<u8>,
+    place: usize,
+) -> Result<(), AllocError>
+    requires file { value_under text.items files.old ≡ None }
+    requires folder { value_under text.items folders.old ≡ None }
+    ensures added { OnOk result (MatchBool for_folder
+        (IsWith folders.old text.items place folders.new × (files.new ≡ files.old))
+        (IsWith files.old text.items place files.new × (folders.new ≡ folders.old))) }
+    ensures kept { OnErr result ((files.new ≡ files.old) × (folders.new ≡ folders.old)) }
 {
-    match best {
-        Some(best) => pattern.comes_before(best),
-        None => true,
+    if for_folder {
+        folders.add(text, place)
+    } else {
+        files.add(text, place)
     }
+}
+
+// A copy of a text.
+fn copy_of(text: &Vec<u8>) -> Result<Vec<u8>, AllocError>
+    ensures { IfOk result (λ copy. copy.items ≡ text.now.items) }
+{
+    text.clone()
 }

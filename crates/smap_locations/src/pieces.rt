@@ -46,8 +46,8 @@ fn begins_piece(before: &[u8], text: &[u8]) -> bool
     before.is_empty() || ends_in_separator(before) || begins_with_separator(text)
 }
 
-// Whether a text begins with `/` or `\`.
-fn begins_with_separator(text: &[u8]) -> bool
+/// Whether a text begins with `/` or `\`.
+pub fn begins_with_separator(text: &[u8]) -> bool
     ensures { result ≡ begins_with_separator text.now }
 {
     text.starts_with(b"/") || text.starts_with(b"\\")

@@ -1,8 +1,7 @@
 //! The maps that are kept of URLs, as they are known at a time.
 use crate::known::KnownMaps;
 use smap_kept::{Answer, Kept};
-use smap_record::MapFile;
-use smap_record::SharedMap;
+use smap_record::{MapFile, SharedMap};
 
 /// The maps that are kept of URLs, and the time at which they are asked for.
 #[derive(Drop)]

@@ -1,2 +1,3 @@
 mod ListLaws
+mod PatternLaws
 mod Examples

@@ -1,6 +1,3 @@
-pub mod Seen
 pub mod Kept
 pub mod Stored
-pub mod Outcome
-pub mod Same
 pub mod UrlMaps

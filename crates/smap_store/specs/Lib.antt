@@ -3,7 +3,6 @@ pub mod Cache
 pub mod Fileless
 pub mod Stored
 pub mod StoredMaps
-pub mod ByPath
 pub mod MapList
 pub mod Laws
 pub mod UrlTable

@@ -4,11 +4,10 @@ ghost use Rattle.smap_locations.specs.ByText.{value_under};
 ghost use Rattle.smap_trace.specs.Table.{url_refusal as word_refusal};
 ghost use Rattle.smap_store.specs.UrlTable.{IsAdded, IsWithPattern, IsWithWord, entry_map, locations_of, map_by_pattern, map_under, url_refusal};
 
-use crate::pattern_map::{PatternMap, map_of_text};
-use smap_locations::{Locations, pattern_text, without_query};
-use smap_record::MapFile;
-use smap_record::SharedMap;
 use crate::fileless::asks_no_file;
+use crate::pattern_map::PatternMap;
+use smap_locations::{Locations, pattern_text, without_query};
+use smap_record::{MapFile, SharedMap};
 use smap_trace::{Table, TableRefusal, is_bad_url};
 use std::alloc::{AllocError, Global};
 use std::marker::Model;
@@ -77,7 +76,7 @@ impl UrlTable {
     fn has_pattern(&self, text: &[u8]) -> bool
         ensures { result ≡ is_some (value_under text.now self.now.patterns) }
     {
-        map_of_text(&self.patterns, text).is_some()
+        self.locations.has_pattern(text)
     }
 
     /// Whether it has a map for each URL: one under `*` alone.
@@ -152,8 +151,8 @@ impl UrlTable {
         if asks_no_file(&self.locations, url) {
             return None;
         }
-        let text = self.locations.pattern_for(url)?;
-        map_of_text(&self.patterns, text)
+        let place = self.locations.pattern_place(url)?;
+        Some(self.patterns[place].map.map())
     }
 
     /// The maps under URLs.

@@ -2,8 +2,7 @@
 ghost use Rattle.std.specs.Prelude.{◌≡◌};
 ghost use Rattle.smap_trace.specs.Private.EntrySeen.{entry_seen};
 
-use smap_record::MapFile;
-use smap_record::SharedMap;
+use smap_record::{MapFile, SharedMap};
 
 /// A map in a table: one of its own, or one that others may hold, too.
 #[derive(Drop)]

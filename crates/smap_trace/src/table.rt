@@ -9,8 +9,7 @@ ghost use Rattle.smap_trace.specs.declared.refusal.TableRefusal.TheVariants.{Mem
 use crate::entry::Entry;
 use crate::refusal::TableRefusal;
 use smap_locations::ByText;
-use smap_record::MapFile;
-use smap_record::SharedMap;
+use smap_record::{MapFile, SharedMap};
 use std::alloc::{AllocError, AllocFailed, Global};
 use std::marker::Model;
 

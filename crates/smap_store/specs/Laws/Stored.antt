@@ -13,18 +13,18 @@ use Rattle.smap_store.specs.Stored.{Asks, Comes, FindsIn, GivesIn, LoadsMay, Loa
 
 module _ {L : Type 0} (Loads : LoadsStep L) where
   -- nothing came
-  record IsSame (old new : StoredSeen L) : Type 0 where
-    kept : (other : List ℕ) (found : Outcome) → IsKept new.cache other found → IsKept old.cache other found
-    loader : new.loader ≡ old.loader
+  pub record IsSame (old new : StoredSeen L) : Type 0 where
+    pub kept : (other : List ℕ) (found : Outcome) → IsKept new.cache other found → IsKept old.cache other found
+    pub loader : new.loader ≡ old.loader
 
   -- this came for a URL that was not remembered, and it is remembered, where there was memory for it
-  record CameAnew (old : StoredSeen L) (url : List ℕ) (new : StoredSeen L) : Type 0 where
-    came : Came
-    comes : Comes Loads old.loader url (path_for old.locations url) came new.loader
-    kept : (other : List ℕ) (found : Outcome) → IsKept new.cache other found → IsBefore old.cache url came other found
+  pub record CameAnew (old : StoredSeen L) (url : List ℕ) (new : StoredSeen L) : Type 0 where
+    pub came : Came
+    pub comes : Comes Loads old.loader url (path_for old.locations url) came new.loader
+    pub kept : (other : List ℕ) (found : Outcome) → IsKept new.cache other found → IsBefore old.cache url came other found
 
   -- one of these
-  abbrev Moves : (old : StoredSeen L) (url : List ℕ) (new : StoredSeen L) → Type 0
+  abbrev pub Moves : (old : StoredSeen L) (url : List ℕ) (new : StoredSeen L) → Type 0
   Moves old url new = IsSame old new ⊎ CameAnew old url new
 
   same_cache : (old new : StoredSeen L) → new.cache ≡ old.cache → (other : List ℕ) (found : Outcome) → IsKept new.cache other found → IsKept old.cache other found
@@ -44,6 +44,10 @@ module _ {L : Type 0} (Loads : LoadsStep L) where
       → MatchOption known (Recalls Loads old url new) (λ known. Untouched old new) → Moves old url new
   moved old url new (Some known) same = inl (record { kept = same_cache old new same.cache; loader = same.loader })
   moved old url new None recalls = recalled old url new (kept_under url old.cache) recalls
+
+  -- which one it is where the map of a URL was looked for
+  pub found_moves : (old : StoredSeen L) (url : List ℕ) (new : StoredSeen L) → FindsIn Loads old url new → Moves old (key_for old.locations url) new
+  found_moves old url new finds = moved old (key_for old.locations url) new (known_of old.words old.locations url) finds.steps
 
 module _ {L : Type 0} (MayLoad : LoadsMay L) where
   none_may : (loader : L) (url : List ℕ) (path : Option (List ℕ)) (found : Option MapRecord) → found ≡ None → MayCome MayLoad loader url path found
@@ -110,7 +114,7 @@ module _ {L : Type 0} (MayLoad : LoadsMay L) where
         let is : found_in new url ≡ or_other (known_of old.words old.locations url) (map_in (kept_under (key_for old.locations url) new.cache)) =
         λ i. or_other (known_of (finds.words i) (finds.locations i) url) (map_in (kept_under (key_for (finds.locations i) url) new.cache)) in
         given_for old new url (found_in new url) (known_of old.words old.locations url)
-        (moved Loads old (key_for old.locations url) new (known_of old.words old.locations url) finds.steps) is
+        (found_moves Loads old url new finds) is
 
     module _ (same : (loader after : L) (url path other other_path : List ℕ) (came : Came) (more : Option MapRecord)
         → Loads loader url path came after → MayLoad after other other_path more → MayLoad loader other other_path more) where
@@ -158,4 +162,4 @@ module _ {L : Type 0} (MayLoad : LoadsMay L) where
           MatchOption (known_of words locations other) (ByCache new (key_for locations other) (path_for locations other) more) (λ known. more ≡ known) in
           let both : _ ≡ _ = λ i. (finds.words i, finds.locations i) in
           gives_before old new (key_for old.locations url) other more (known_of old.words old.locations other)
-          (moved Loads old (key_for old.locations url) new (known_of old.words old.locations url) finds.steps) (subst P both gives)
+          (found_moves Loads old url new finds) (subst P both gives)
