@@ -9,7 +9,7 @@ use Rattle.smap_map_answers.specs.Fit.{FitsAll}
 use Rattle.smap_map_answers.specs.Compose.{ReportsComposed}
 use Rattle.smap_map_answers.specs.ComposeAll.{ReportsAllComposed}
 use Rattle.smap_map_answers.specs.Show.{shown_result}
-use Rattle.smap_locate_answers.specs.Locate.{RunsLocate}
+use Rattle.smap_text_answers.specs.Locate.{RunsLocate}
 use Rattle.smap_map_answers.specs.Generated.{generated_result}
 use Rattle.smap_map_answers.specs.Lookup.{lookup_print}
 use Rattle.smap_map_answers.specs.Mappings.{MappingsReports}

@@ -6,19 +6,16 @@ ghost use Rattle.smap_answers.specs.Run.{Runs, RunsOver};
 ghost use Rattle.smap_command.specs.Runnable.{IsRunnable, strips_ansi};
 ghost use Rattle.smap_replies.specs.Streams.{streams_seen};
 
-use smap_map_answers::{answer_check, answer_explain, answer_fit};
 use smap_codes::Code;
 use smap_command::{Command, Direction, USUAL_INTERVAL, Url};
-use smap_map_answers::{answer_compose, answer_compose_all, answer_show};
-use smap_io::{ByteSink, ByteSource};
-use smap_locate_answers::answer_locate;
+use smap_io::{ByteSink, ByteSource, WithoutSequences};
 use smap_map_answers::{
-    answer_content, answer_generated, answer_lookup, answer_mappings, answer_positions, answer_raw,
+    answer_check, answer_compose, answer_compose_all, answer_content, answer_explain, answer_fit,
+    answer_generated, answer_lookup, answer_mappings, answer_positions, answer_raw, answer_show,
     answer_sources,
 };
 use smap_replies::{FileReader, Loaded, LoadedFiles, MapReader, report};
-use smap_io::WithoutSequences;
-use smap_text_answers::{TextRequest, answer_rewrite};
+use smap_text_answers::{TextRequest, answer_locate, answer_rewrite};
 use std::alloc::Global;
 
 /// Runs a command over files in memory, of which the caller gives one for each path of the command, in their order; one of

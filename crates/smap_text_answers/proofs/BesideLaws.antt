@@ -1,14 +1,10 @@
 -- What rewriting a text over a store of maps comes to, by its frames or its places.
 use Rattle.std.specs.Prelude.{◌≡◌, ℕ, Bool, true, false, List, Option, MatchBool}
-use Rattle.std.proofs.Common.{ap, sym}
 use Rattle.smap_anywhere.specs.Laws.AnywhereSeen.{anywhere_front_of_none, parts_of_none}
 use Rattle.smap_lines.specs.Editing.{DevicesSeen}
 use Rattle.smap_lines.specs.Laws.RunEnds as unread
 use Rattle.smap_lines.specs.declared.fault.LineFault.TheVariants.{Memory}
 use Rattle.smap_record.specs.Record.{MapRecord}
-use Rattle.smap_store.specs.Cache.{CacheSeen}
-use Rattle.smap_store.specs.StoredMaps.{IsSameStore, stored_seen}
-use Rattle.smap_store.specs.declared.stored.StoredMaps.{StoredMaps}
 use Rattle.smap_trace.specs.Rewriting.{BecomesFrame}
 use Rattle.smap_text_answers.specs.Request.{RequestSeen}
 use Rattle.smap_text_answers.specs.RewriteFrom.{RewritesTextFront, places_asked, urls_of}
@@ -37,11 +33,3 @@ pub text_front_of_none : (request : RequestSeen) (sources : MapSources) (Gives :
 text_front_of_none request sources Gives now =
     when_either request.anywhere _ _ (anywhere_front_of_none Gives (places_asked request sources) now (parts_of_none (urls_of sources)))
     (unread.front_of_none (BecomesFrame Gives request.hide) request.limit_bytes now)
-
--- a store of maps is after others what it was, but for what was kept and loaded
-module _ {L : Type 0} (words : List (List ℕ × MapRecord)) (first : StoredMaps L) where
-  pub store_after : (new : StoredMaps L) → IsSameStore first new → new.words.now ≡ words → (cache : CacheSeen) (loader : L)
-      → cache ≡ new.cache.now → loader ≡ new.loader.now
-      → stored_seen new ≡ record { words = words; locations = first.locations.now; cache = cache; loader = loader }
-  store_after new same words_are cache loader cache_is loader_is =
-      λ i. record { words = words_are i; locations = ap (λ l. l.now) same.locations i; cache = sym cache_is i; loader = sym loader_is i }

@@ -1,10 +1,15 @@
 mod BesideLaws
+mod ByPathLaws
 mod BytesLaws
 mod CauseLaws
 mod Examples
+mod LocatingLaws
 mod NearestLaws
+mod PlaceLaws
+mod RightLaws
+mod SameLaws
 mod SourcesLaws
 mod StandingLaws
-pub mod StoreLaws
+mod StoreLaws
 mod TraceLaws
 mod UrlLinesLaws

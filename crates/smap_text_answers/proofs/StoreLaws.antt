@@ -1,18 +1,25 @@
 -- What reading maps from files when they are named comes to, of which a run shows what it reported.
-use Rattle.std.specs.Prelude.{◌≡◌, ℕ, List, Option, Some, None, Result, Ok, Err, IfErr, IfOk, MatchOption, option_copied}
-use Rattle.std.proofs.Common.{◌∙◌, inl, inr, refl, subst, sym}
+use Rattle.std.specs.Prelude.{◌≡◌, ◌⊎◌, ℕ, List, Option, Some, None, Result, IfErr, Err, MatchOption, option_copied}
+use Rattle.std.specs.Result.{result_ok}
+use Rattle.std.proofs.Common.{ap, ◌∙◌, inl, inr, refl, subst, sym}
 use Rattle.smap_io.specs.Device.{SinkSeen}
-use Rattle.smap_lines.specs.Editing.{DevicesSeen}
+use Rattle.smap_lines.specs.Editing.{DevicesSeen, EditsFrontInto, EditsInto}
+use Rattle.smap_lines.specs.Laws.Step.{edits_front_wider, edits_seen}
+use Rattle.smap_lines.specs.Limits.{most_text_bytes}
+use Rattle.smap_lines.specs.declared.counts.LineCounts.{LineCounts}
 use Rattle.smap_lines.specs.declared.fault.LineFault.{LineFault}
 use Rattle.smap_lines.specs.declared.fault.LineFault.TheVariants.{Memory}
 use Rattle.smap_locations.specs.Locations.{key_for, path_for}
 use Rattle.smap_anywhere.specs.Laws.AnywhereSeen.{anywhere_front_seen, anywhere_seen}
+use Rattle.smap_command.specs.declared.options.AnswerOptions.{AnswerOptions}
 use Rattle.smap_record.specs.Record.{MapRecord}
-use Rattle.smap_store.specs.Cache.{kept_under}
-use Rattle.smap_store.specs.Fileless.{known_of as known_of_url}
+use Rattle.smap_store.specs.Cache.{CacheSeen, IsKept, kept_under}
+use Rattle.smap_store.specs.Fileless.{known_of}
+use Rattle.smap_store.specs.Laws.Stored.{Moves, found_moves}
 use Rattle.smap_store.specs.Loaded.{Came, Outcome}
-use Rattle.smap_store.specs.Laws.Seen.{finds_seen, gives_seen, see_store}
-use Rattle.smap_store.specs.Stored.{Asks, Comes, FindsIn, GivesIn, LoadsMay, LoadsStep, Recalled, Recalls, StoredSeen, Untouched, found_in}
+use Rattle.smap_store.specs.Stored.{Asks, Comes, FindsIn, GivesIn, LoadsMay, LoadsStep, MayCome, Recalled, Recalls, StoredSeen, Untouched, found_in}
+use Rattle.smap_store.specs.StoredMaps.{IsSameStore, same_store_on, same_store_self, stored_seen}
+use Rattle.smap_store.specs.declared.stored.StoredMaps.{StoredMaps}
 use Rattle.smap_trace.specs.Noted.{nothing_noted}
 use Rattle.smap_trace.specs.Rewriting.{Looked, RewritesOver}
 use Rattle.smap_trace.specs.UrlNotes.{NotesSeen}
@@ -20,11 +27,89 @@ use Rattle.smap_trace.specs.Laws.Seen.{front_seen, looked_seen, rewrites_seen}
 use Rattle.smap_trace.specs.declared.outcome.RewriteCounts.{RewriteCounts}
 use Rattle.smap_replies.specs.Files.{MayRead}
 use Rattle.smap_text_answers.specs.Loader.{IsSameLoader, LoaderSeen, Loads, MayLoad, loader_seen}
+use Rattle.smap_text_answers.specs.Locating.{BecomesAnswer, LocateStep, Locates, MayLocate}
+use Rattle.smap_text_answers.specs.Place.{Place, place_of}
 use Rattle.smap_text_answers.specs.Request.{RequestSeen}
-use Rattle.smap_text_answers.specs.RewriteFrom.{IsStoredRewritten, RewritesPlaces, RewritesText, RewritesTextFront, asked_of, places_asked}
+use Rattle.smap_text_answers.specs.RewriteFrom.{RewritesPlaces, RewritesText, RewritesTextFront, asked_of, places_asked}
+use Rattle.smap_text_answers.specs.StoreRun.{LoadsOf, MayLoadOf}
 use Rattle.smap_text_answers.specs.declared.loader.FileLoader.{FileLoader}
 use Rattle.smap_text_answers.specs.declared.sources.MapSources.{MapSources}
 use Rattle.smap_text_answers.proofs.BesideLaws.{when_both}
+
+-- ---- where only some is seen of what loads maps, what is seen goes the same way
+
+module _ {L N : Type 0} (see : L → N) where
+  abbrev see_store : StoredSeen L → StoredSeen N
+  see_store maps = record { words = maps.words; locations = maps.locations; cache = maps.cache; loader = see maps.loader }
+
+  untouched_seen : (old new : StoredSeen L) → Untouched old new → Untouched (see_store old) (see_store new)
+  untouched_seen old new is = record { cache = is.cache; loader = ap see is.loader }
+
+  recalled_seen : (old new : StoredSeen L) (url : List ℕ) → Recalled old url new → Recalled (see_store old) url (see_store new)
+  recalled_seen old new url is = record { cache = is.cache; loader = ap see is.loader }
+
+  module _ (Steps : LoadsStep L) (Seen : LoadsStep N) where
+    -- what a step of the loader is seen as
+    abbrev StepSeen : (old new : L) → Type 0
+    StepSeen old new = (url path : List ℕ) (came : Came) → Steps old url path came new → Seen (see old) url path came (see new)
+
+    comes_seen : (old new : L) (loads : StepSeen old new) (url : List ℕ) (path : Option (List ℕ)) (came : Came) → Comes Steps old url path came new
+        → Comes Seen (see old) url path came (see new)
+    comes_seen old new loads url None came comes = (comes.0, ap see comes.1)
+    comes_seen old new loads url (Some path) came comes = loads url path came comes
+
+    asks_seen : (old new : StoredSeen L) (loads : StepSeen old.loader new.loader) (url : List ℕ) → Asks Steps old url new → Asks Seen (see_store old) url (see_store new)
+    asks_seen old new loads url (inl asked) = inl (record {
+      came = asked.came;
+      comes = comes_seen old.loader new.loader loads url (path_for old.locations url) asked.came asked.comes;
+      remembered = asked.remembered;
+    })
+    asks_seen old new loads url (inr short) = inr (record { cache = short.cache; loader = ap see short.loader })
+
+    recalls_seen : (old new : StoredSeen L) (loads : StepSeen old.loader new.loader) (url : List ℕ) (found : Option Outcome) → MatchOption found (Asks Steps old url new) (λ _. Recalled old url new)
+        → MatchOption found (Asks Seen (see_store old) url (see_store new)) (λ _. Recalled (see_store old) url (see_store new))
+    recalls_seen old new loads url None asks = asks_seen old new loads url asks
+    recalls_seen old new loads url (Some found) same = recalled_seen old new url same
+
+    steps_seen : (old new : StoredSeen L) (loads : StepSeen old.loader new.loader) (url : List ℕ) (known : Option (Option MapRecord))
+        → MatchOption known (Recalls Steps old url new) (λ _. Untouched old new)
+        → MatchOption known (Recalls Seen (see_store old) url (see_store new)) (λ _. Untouched (see_store old) (see_store new))
+    steps_seen old new loads url None recalls = recalls_seen old new loads url (kept_under url old.cache) recalls
+    steps_seen old new loads url (Some known) same = untouched_seen old new same
+
+    finds_seen : (old new : StoredSeen L) (loads : StepSeen old.loader new.loader) (url : List ℕ) → FindsIn Steps old url new → FindsIn Seen (see_store old) url (see_store new)
+    finds_seen old new loads url is = record {
+      words = is.words;
+      locations = is.locations;
+      steps = steps_seen old new loads (key_for old.locations url) (known_of old.words old.locations url) is.steps;
+    }
+
+  module _ (May : LoadsMay L) (MaySeen : LoadsMay N) (maps : StoredSeen L)
+      (may : (url path : List ℕ) (found : Option MapRecord) → May maps.loader url path found → MaySeen (see maps.loader) url path found) where
+    come_seen : (url : List ℕ) (path : Option (List ℕ)) (found : Option MapRecord) → MayCome May maps.loader url path found
+        → MayCome MaySeen (see maps.loader) url path found
+    come_seen url None found is = is
+    come_seen url (Some path) found (inl none) = inl none
+    come_seen url (Some path) found (inr is) = inr (may url path found is)
+
+    abbrev ByCache : {K : Type 0} → LoadsMay K → (loader : K) → (url key : List ℕ) → (found : Option MapRecord) → Type 0
+    ByCache Gave loader url key found =
+        ((it : Outcome) × IsKept maps.cache key it × (found ≡ result_ok it)) ⊎ MayCome Gave loader key (path_for maps.locations url) found
+
+    by_cache_seen : (url key : List ℕ) (found : Option MapRecord) → ByCache May maps.loader url key found → ByCache MaySeen (see maps.loader) url key found
+    by_cache_seen url key found (inl is) = inl is
+    by_cache_seen url key found (inr is) = inr (come_seen key (path_for maps.locations url) found is)
+
+    gives_for : (url : List ℕ) (found : Option MapRecord) (known : Option (Option MapRecord))
+        → MatchOption known (ByCache May maps.loader url (key_for maps.locations url) found) (λ known. found ≡ known)
+        → MatchOption known (ByCache MaySeen (see maps.loader) url (key_for maps.locations url) found) (λ known. found ≡ known)
+    gives_for url found None is = by_cache_seen url (key_for maps.locations url) found is
+    gives_for url found (Some known) is = is
+
+    gives_seen : (url : List ℕ) (found : Option MapRecord) → GivesIn May maps url found → GivesIn MaySeen (see_store maps) url found
+    gives_seen url found is = gives_for url found (known_of maps.words maps.locations url) is
+
+-- ---- what reads them stays what it is
 
 module _ {F E : Type 0} where
   same_self : (loader : FileLoader F E) → IsSameLoader loader loader
@@ -38,13 +123,13 @@ module _ {F E : Type 0} where
 
 module _ {F E : Type 0} (gives : F → MayRead) (seen : E → SinkSeen) where
   -- what reading a map is, and what may come of it
-  abbrev pub Steps : LoadsStep (FileLoader F E)
+  abbrev Steps : LoadsStep (FileLoader F E)
   Steps loader url path came after =
       Loads (gives loader.maps.now.files.now) loader.paths (option_copied loader.maps.now.base) loader.maps.now.interval loader.number (loader_seen seen loader)
       url path came (loader_seen seen after)
       × IsSameLoader loader after
 
-  abbrev pub May : LoadsMay (FileLoader F E)
+  abbrev May : LoadsMay (FileLoader F E)
   May loader = MayLoad (gives loader.maps.now.files.now) loader.paths (option_copied loader.maps.now.base) loader.maps.now.interval loader.number
 
   -- ---- it stays what it is
@@ -54,37 +139,18 @@ module _ {F E : Type 0} (gives : F → MayRead) (seen : E → SinkSeen) where
   same_comes old new url None came comes = same_of old new comes.1
   same_comes old new url (Some path) came comes = comes.1
 
-  same_asked : (old new : StoredSeen (FileLoader F E)) (url : List ℕ) → Asks Steps old url new → IsSameLoader old.loader new.loader
-  same_asked old new url (inl asked) = same_comes old.loader new.loader url (path_for old.locations url) asked.came asked.comes
-  same_asked old new url (inr short) = same_of old.loader new.loader short.loader
-
-  same_recalled : (old new : StoredSeen (FileLoader F E)) (url : List ℕ) (found : Option Outcome)
-      → MatchOption found (Asks Steps old url new) (λ _. Recalled old url new) → IsSameLoader old.loader new.loader
-  same_recalled old new url None asks = same_asked old new url asks
-  same_recalled old new url (Some found) same = same_of old.loader new.loader same.loader
-
-  same_step : (old new : StoredSeen (FileLoader F E)) (url : List ℕ) (known : Option (Option MapRecord))
-      → MatchOption known (Recalls Steps old url new) (λ _. Untouched old new) → IsSameLoader old.loader new.loader
-  same_step old new url None recalls = same_recalled old new url (kept_under url old.cache) recalls
-  same_step old new url (Some known) same = same_of old.loader new.loader same.loader
-
-  same_found : (old new : StoredSeen (FileLoader F E)) (url : List ℕ) → FindsIn Steps old url new → IsSameLoader old.loader new.loader
-  same_found old new url finds = same_step old new (key_for old.locations url) (known_of_url old.words old.locations url) finds.steps
+  same_moved : (old new : StoredSeen (FileLoader F E)) (key : List ℕ) → Moves Steps old key new → IsSameLoader old.loader new.loader
+  same_moved old new key (inl same) = same_of old.loader new.loader same.loader
+  same_moved old new key (inr one) = same_comes old.loader new.loader key (path_for old.locations key) one.came one.comes
 
   -- ---- what a run shows of it
 
   module _ (first : FileLoader F E) where
-    abbrev pub Seen : LoadsStep LoaderSeen
-    Seen = Loads (gives first.maps.now.files.now) first.paths (option_copied first.maps.now.base) first.maps.now.interval first.number
-
-    abbrev pub MaySeen : LoadsMay LoaderSeen
-    MaySeen loader = MayLoad (gives first.maps.now.files.now) first.paths (option_copied first.maps.now.base) first.maps.now.interval first.number
-
-    abbrev pub see : StoredSeen (FileLoader F E) → StoredSeen LoaderSeen
+    abbrev see : StoredSeen (FileLoader F E) → StoredSeen LoaderSeen
     see = see_store (loader_seen seen)
 
     step_seen : (old new : FileLoader F E) → IsSameLoader first old → (url path : List ℕ) (came : Came) → Steps old url path came new
-        → Seen (loader_seen seen old) url path came (loader_seen seen new)
+        → LoadsOf gives first (loader_seen seen old) url path came (loader_seen seen new)
     step_seen old new same url path came is =
         subst (λ n. Loads (gives first.maps.now.files.now) first.paths (option_copied first.maps.now.base) first.maps.now.interval n (loader_seen seen old)
         url path came (loader_seen seen new)) same.number
@@ -93,34 +159,37 @@ module _ {F E : Type 0} (gives : F → MayRead) (seen : E → SinkSeen) where
         (subst (λ m. Loads (gives m.now.files.now) old.paths (option_copied m.now.base) m.now.interval old.number (loader_seen seen old)
         url path came (loader_seen seen new)) same.maps is.0))
 
-    pub finds_so : (old new : StoredSeen (FileLoader F E)) (url : List ℕ) → IsSameLoader first old.loader → FindsIn Steps old url new
-        → FindsIn Seen (see old) url (see new) × IsSameLoader first new.loader
+    finds_so : (old new : StoredSeen (FileLoader F E)) (url : List ℕ) → IsSameLoader first old.loader → FindsIn Steps old url new
+        → FindsIn (LoadsOf gives first) (see old) url (see new) × IsSameLoader first new.loader
     finds_so old new url same finds = (
-      finds_seen (loader_seen seen) Steps Seen old new (step_seen old.loader new.loader same) url finds,
-      same_on first old.loader new.loader same (same_found old new url finds),
+      finds_seen (loader_seen seen) Steps (LoadsOf gives first) old new (step_seen old.loader new.loader same) url finds,
+      same_on first old.loader new.loader same (same_moved old new (key_for old.locations url) (found_moves Steps old url new finds)),
     )
 
     -- rewriting over it, where it is the first
     module _ (old new : StoredSeen (FileLoader F E)) (is : old.loader ≡ first) where
-      pub at_first : IsSameLoader first old.loader
+      at_first : IsSameLoader first old.loader
       at_first = same_of first old.loader is
 
-      pub looked_from : Looked (FindsIn Steps) old new → Looked (FindsIn Seen) (see old) (see new) × IsSameLoader first new.loader
+      pub looked_from : Looked (FindsIn Steps) old new → Looked (FindsIn (LoadsOf gives first)) (see old) (see new) × IsSameLoader first new.loader
       looked_from looked =
-          looked_seen (FindsIn Steps) found_in (FindsIn Seen) found_in see (λ maps. IsSameLoader first maps.loader) finds_so (λ maps url. refl)
+          looked_seen (FindsIn Steps) found_in (FindsIn (LoadsOf gives first)) found_in see (λ maps. IsSameLoader first maps.loader) finds_so (λ maps url. refl)
           old new at_first looked
 
-      pub may_first : (url path : List ℕ) (found : Option MapRecord) → May old.loader url path found → MaySeen (loader_seen seen old.loader) url path found
+      may_first : (url path : List ℕ) (found : Option MapRecord) → May old.loader url path found → MayLoadOf gives first (loader_seen seen old.loader) url path found
       may_first url path found may = subst (λ l. May l url path found) is may
+
+      gives_first : (url : List ℕ) (found : Option MapRecord) → GivesIn May old url found → GivesIn (MayLoadOf gives first) (see old) url found
+      gives_first = gives_seen (loader_seen seen) May (MayLoadOf gives first) old may_first
 
       module _ (request : RequestSeen) (sources : MapSources) (before after : DevicesSeen) where
         abbrev Is : StoredSeen (FileLoader F E) → Type 0
         Is maps = IsSameLoader first maps.loader
 
         places_from : (counts : RewriteCounts) (notes others : NotesSeen) → RewritesPlaces request sources (FindsIn Steps) before after old new counts notes others
-            → RewritesPlaces request sources (FindsIn Seen) before after (see old) (see new) counts notes others
+            → RewritesPlaces request sources (FindsIn (LoadsOf gives first)) before after (see old) (see new) counts notes others
         places_from counts notes others is = record {
-          over = anywhere_seen (FindsIn Steps) found_in (FindsIn Seen) found_in see Is finds_so (λ maps url same. refl)
+          over = anywhere_seen (FindsIn Steps) found_in (FindsIn (LoadsOf gives first)) found_in see Is finds_so (λ maps url same. refl)
               (places_asked request sources) before after old new counts.summary notes others at_first is.over;
           long = is.long;
           passed = is.passed;
@@ -128,28 +197,75 @@ module _ {F E : Type 0} (gives : F → MayRead) (seen : E → SinkSeen) where
 
         frames_from : (counts : RewriteCounts) (notes others : NotesSeen)
             → RewritesOver (FindsIn Steps) found_in (asked_of request sources) before after old new counts notes × (others ≡ nothing_noted)
-            → RewritesOver (FindsIn Seen) found_in (asked_of request sources) before after (see old) (see new) counts notes × (others ≡ nothing_noted)
+            → RewritesOver (FindsIn (LoadsOf gives first)) found_in (asked_of request sources) before after (see old) (see new) counts notes × (others ≡ nothing_noted)
         frames_from counts notes others is = (
-          rewrites_seen (FindsIn Steps) found_in (FindsIn Seen) found_in see Is finds_so (λ maps url. refl) (asked_of request sources)
+          rewrites_seen (FindsIn Steps) found_in (FindsIn (LoadsOf gives first)) found_in see Is finds_so (λ maps url. refl) (asked_of request sources)
               before after old new counts notes at_first is.0,
           is.1,
         )
 
-        pub rewritten_from : (notes others : NotesSeen) (result : Result RewriteCounts LineFault)
-            → IfOk result (λ counts. RewritesText request sources (FindsIn Steps) before after old new counts notes others)
-            → IfErr result (RewritesTextFront request sources (GivesIn May old) before after) → Looked (FindsIn Steps) old new
-            → IsStoredRewritten Seen MaySeen request sources (see old) (see new) before after notes others result
-        rewritten_from notes others (Ok counts) rewrites front looked =
-            when_both request.anywhere _ _ _ _ (places_from counts notes others) (frames_from counts notes others) rewrites
-        rewritten_from notes others (Err fault) rewrites front looked = (
-          when_both request.anywhere _ _ _ _
-              (anywhere_front_seen (GivesIn May old) (GivesIn MaySeen (see old)) (gives_seen (loader_seen seen) May MaySeen old may_first)
-              (places_asked request sources) before after fault)
-              (front_seen (GivesIn May old) (GivesIn MaySeen (see old)) (gives_seen (loader_seen seen) May MaySeen old may_first)
-              request.hide request.limit_bytes before after fault) front,
-          (looked_from looked).0,
-        )
+        pub text_from : (counts : RewriteCounts) (notes others : NotesSeen) → RewritesText request sources (FindsIn Steps) before after old new counts notes others
+            → RewritesText request sources (FindsIn (LoadsOf gives first)) before after (see old) (see new) counts notes others
+        text_from counts notes others = when_both request.anywhere _ _ _ _ (places_from counts notes others) (frames_from counts notes others)
+
+        pub front_from : (fault : LineFault) → RewritesTextFront request sources (GivesIn May old) before after fault
+            → RewritesTextFront request sources (GivesIn (MayLoadOf gives first) (see old)) before after fault
+        front_from fault =
+            when_both request.anywhere _ _ _ _
+            (anywhere_front_seen (GivesIn May old) (GivesIn (MayLoadOf gives first) (see old)) gives_first (places_asked request sources) before after fault)
+            (front_seen (GivesIn May old) (GivesIn (MayLoadOf gives first) (see old)) gives_first request.hide request.limit_bytes before after fault)
+
+      -- answering over it
+      module _ (options : AnswerOptions) (before after : DevicesSeen) where
+        locates_so : (old new : StoredSeen (FileLoader F E)) (place : Option Place) (text : List ℕ) → IsSameLoader first old.loader
+            → Locates (FindsIn Steps) options old place text new
+            → Locates (FindsIn (LoadsOf gives first)) options (see old) place text (see new) × IsSameLoader first new.loader
+        locates_so old new None text is step = ((step.0, ap see step.1), subst (λ maps. IsSameLoader first maps.loader) (sym step.1) is)
+        locates_so old new (Some place) text is step =
+            let one = finds_so old new place.url is step.0 in
+            ((one.0, step.1), one.1)
+
+        may_more : (place : Option Place) (text : List ℕ) → MayLocate (GivesIn May old) options place text
+            → MayLocate (GivesIn (MayLoadOf gives first) (see old)) options place text
+        may_more None text may = may
+        may_more (Some place) text may = (may.0, gives_first place.url _ may.1, may.2)
+
+        pub answers_from : (counts : LineCounts) → EditsInto (LocateStep (FindsIn Steps) options) most_text_bytes before after old new counts
+            → EditsInto (LocateStep (FindsIn (LoadsOf gives first)) options) most_text_bytes before after (see old) (see new) counts
+        answers_from counts locates =
+            (edits_seen (LocateStep (FindsIn Steps) options) (LocateStep (FindsIn (LoadsOf gives first)) options) see (λ maps. IsSameLoader first maps.loader)
+            (λ old line text new is step. locates_so old new (place_of line.bytes) text is step) most_text_bytes before after old new counts at_first locates).0
+
+        pub answers_front_from : (fault : LineFault) → EditsFrontInto (BecomesAnswer (GivesIn May old) options) most_text_bytes before after fault
+            → EditsFrontInto (BecomesAnswer (GivesIn (MayLoadOf gives first) (see old)) options) most_text_bytes before after fault
+        answers_front_from fault front =
+            edits_front_wider (BecomesAnswer (GivesIn May old) options) (BecomesAnswer (GivesIn (MayLoadOf gives first) (see old)) options)
+            (λ line text may. may_more (place_of line.bytes) text may) most_text_bytes before after fault front
 
 -- where memory ran out, this holds
-pub untouched_by : (result : Result RewriteCounts LineFault) (P : Type 0) → IfErr result (λ fault. fault ≡ Memory → P) → result ≡ Err Memory → P
+pub untouched_by : {C : Type 0} (result : Result C LineFault) (P : Type 0) → IfErr result (λ fault. fault ≡ Memory → P) → result ≡ Err Memory → P
 untouched_by result P untouched is = (subst (λ r. IfErr r (λ fault. fault ≡ Memory → P)) is untouched) refl
+
+-- ---- a store of maps that is lent
+
+module _ {L : Type 0} (Steps : LoadsStep L) (first new : StoredMaps L) (cache : CacheSeen) (loader : L) (cache_is : cache ≡ new.cache.now)
+    (loader_is : loader ≡ new.loader.now) where
+  -- it stays over the same maps
+  abbrev After : StoredSeen L
+  After = record { words = first.words.now; locations = first.locations.now; cache = cache; loader = loader }
+
+  pub store_after : IsSameStore first new → stored_seen new ≡ After
+  store_after same = λ i. record {
+    words = ap (λ w. w.now) same.words i;
+    locations = ap (λ l. l.now) same.locations i;
+    cache = sym cache_is i;
+    loader = sym loader_is i;
+  }
+
+  -- and maps were looked for in it
+  pub looked_after : Looked (λ (maps : StoredMaps L) (url : List ℕ) (after : StoredMaps L). FindsIn Steps (stored_seen maps) url (stored_seen after)
+      × IsSameStore maps after) first new → (stored_seen new ≡ After) × Looked (FindsIn Steps) (stored_seen first) After
+  looked_after looked =
+      let seen = looked_seen _ (λ maps. found_in (stored_seen maps)) (FindsIn Steps) found_in stored_seen (IsSameStore first)
+      (λ old new url is finds. (finds.0, same_store_on first old new is finds.1)) (λ maps url. refl) first new (same_store_self first) looked in
+      (store_after seen.1, subst (λ maps. Looked (FindsIn Steps) (stored_seen first) maps) (store_after seen.1) seen.0)

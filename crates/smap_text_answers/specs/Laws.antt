@@ -1,2 +1,2 @@
-pub mod SameBytes
 pub mod Loader
+pub mod Locator

@@ -8,6 +8,13 @@ pub mod RewriteFrom
 pub mod SameBytes
 pub mod Sources
 pub mod Standing
+pub mod StoreRun
 pub mod Trace
 pub mod Private
 pub mod Laws
+pub mod Place
+pub mod PlaceForm
+pub mod PlaceSeen
+pub mod Locating
+pub mod ByPath
+pub mod Locate

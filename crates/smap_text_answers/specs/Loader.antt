@@ -43,6 +43,10 @@ loader_seen seen loader = record {
   lost = loader.lost;
 }
 
+-- before it read anything
+abbrev pub loader_at_first : (errors : SinkSeen) → (code : Option Code) → LoaderSeen
+loader_at_first errors code = record { errors = errors; status = 0; code = code; reported = 0; refused = 0; lost = false }
+
 -- it reads the same files in the same way, and into the same standard error
 pub record IsSameLoader {F E : Type 0} (old new : FileLoader F E) : Type 0 where
   pub maps : new.maps ≡ old.maps

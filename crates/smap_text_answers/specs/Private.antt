@@ -2,3 +2,4 @@
 pub mod Causes
 pub mod Gathering
 pub mod Sources
+pub mod Locator

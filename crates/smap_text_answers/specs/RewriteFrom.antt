@@ -5,12 +5,10 @@ use Rattle.std.specs.Prelude.{◌++◌, ◌&&◌, ◌||◌, false, if◌then◌e
 use Rattle.std.specs.Fmt.{decimal}
 use Rattle.std.specs.List.{concat}
 use Rattle.url.specs.Parts.{Parts}
-use Rattle.smap_codes.specs.declared.code.Code.{Code}
 use Rattle.smap_io.specs.Device.{SinkSeen, SourceSeen}
 use Rattle.smap_lines.specs.Editing.{DevicesSeen, devices_seen}
-use Rattle.smap_lines.specs.RunEnds.{RunEnds, is_read_fault}
+use Rattle.smap_lines.specs.RunEnds.{RunEnds}
 use Rattle.smap_lines.specs.declared.fault.LineFault.{LineFault}
-use Rattle.smap_lines.specs.declared.fault.LineFault.TheVariants as fault
 use Rattle.smap_anywhere.specs.Anywhere.{PlacesAsked, RewritesAnywhere, RewritesAnywhereFront}
 use Rattle.smap_anywhere.specs.AnywhereBy.{RewritesAnywhereBy}
 use Rattle.smap_anywhere.specs.ChunkParts.{parts_in, unknown_in}
@@ -20,8 +18,6 @@ use Rattle.smap_anywhere.specs.Parts.{Part}
 use Rattle.smap_anywhere.specs.SeemingUrls.{urls_seeming}
 use Rattle.smap_pairs.specs.Known.{UrlsKnown}
 use Rattle.smap_record.specs.Record.{MapRecord}
-use Rattle.smap_store.specs.ByPath.{stored_maps}
-use Rattle.smap_store.specs.Cache.{CacheSeen, cache_at_first}
 use Rattle.smap_store.specs.Stored.{FindsIn, GivesIn, LoadsMay, LoadsStep, StoredSeen, found_in}
 use Rattle.smap_trace.specs.Hiding.{HidingSeen}
 use Rattle.smap_trace.specs.MapsOf.{MapsByUrl, RewritesBy}
@@ -34,35 +30,20 @@ use Rattle.smap_trace.specs.declared.outcome.RewriteCounts.{RewriteCounts}
 use Rattle.smap_replies.specs.Files.{MayRead}
 use Rattle.smap_command.specs.Lines.{line_from}
 use Rattle.smap_replies.specs.Lines.{memory_line}
-use Rattle.smap_text_answers.specs.Loader.{LoaderSeen, Loads, MayLoad}
-use Rattle.smap_replies.specs.Outcome.{Report, answer, fault_report}
-use Rattle.smap_text_answers.specs.SameBytes.{AreSettled, BytesByPath, ReadsSame, maps_at}
+use Rattle.smap_replies.specs.Outcome.{Report}
+use Rattle.smap_text_answers.specs.SameBytes.{AreSettled, BytesByPath, ReadsSame, maps_at, stored_maps}
 use Rattle.smap_text_answers.specs.Sources.{GathersSources}
 use Rattle.smap_replies.specs.Streams.{Ends, IsReportedTo, Sinks, Streams}
 use Rattle.smap_text_answers.specs.Request.{RequestSeen, most_passed}
-use Rattle.smap_text_answers.specs.declared.rewriting.StoreEnd.{StoreEnd}
+use Rattle.smap_text_answers.specs.StoreRun.{EndsStore, IsOverStore}
+use Rattle.smap_text_answers.specs.declared.storing.StoreEnd.{StoreEnd}
 use Rattle.smap_text_answers.specs.declared.sources.MapSources.{MapSources}
 
--- ---- over a store of maps
-
--- a store of maps of these files and folders
-abbrev pub store_of : {L : Type 0} → MapSources → CacheSeen → (loader : L) → StoredSeen L
-store_of sources cache loader = record { words = sources.words; locations = sources.locations; cache = cache; loader = loader }
-
--- the store before anything was read into it
-abbrev pub store_start : MapSources → (cache_bytes : ℕ) → (errors : SinkSeen) → (code : Option Code) → StoredSeen LoaderSeen
-store_start sources cache_bytes errors code = record {
-  words = sources.words;
-  locations = sources.locations;
-  cache = cache_at_first cache_bytes;
-  loader = record { errors = errors; status = 0; code = code; reported = 0; refused = 0; lost = false };
-}
+-- ---- a text over a store
 
 -- which URLs an argument or a list has
 abbrev pub urls_of : MapSources → UrlsKnown
 urls_of sources = urls_known (record { table = sources.words; locations = sources.locations })
-
--- ---- a text over a store
 
 -- what is asked of its places: which they are, and which URLs look like one and have no map
 abbrev pub places_asked : RequestSeen → MapSources → PlacesAsked
@@ -116,37 +97,12 @@ pub record EndsText {R W L : Type 0} (input_seen : R → SourceSeen) (output_see
       (RewritesTextFront request sources (GivesIn May old)) result
   pub looked : Looked (FindsIn Loads) old new
 
--- a text was rewritten over a store of maps that are loaded so to its end, or up to a fault, and the store and the notes stand so
--- then
-abbrev pub IsStoredRewritten : LoadsStep LoaderSeen → LoadsMay LoaderSeen → RequestSeen → MapSources → (old new : StoredSeen LoaderSeen) → (before after : DevicesSeen)
-    → (notes others : NotesSeen) → Result RewriteCounts LineFault → Type 0
-IsStoredRewritten Loads May request sources old new before after notes others (Ok counts) =
-    RewritesText request sources (FindsIn Loads) before after old new counts notes others
-IsStoredRewritten Loads May request sources old new before after notes others (Err fault) =
-    RewritesTextFront request sources (GivesIn May old) before after fault × Looked (FindsIn Loads) old new
-
--- one number more than another, as far as 64 bits can count
-abbrev pub both_counted : ℕ → ℕ → ℕ
-both_counted one other = min (one + other) (2 ^ 64 - 1)
-
 -- what rewriting over a store came to, and what was noted then
-pub record IsOverStore (Reads : MayRead) (base : Option Parts) (k : ℕ) (request : RequestSeen) (sources : MapSources) (end : StoreEnd) (notes others : NotesSeen)
-    (before after : Streams) : Type 0 where
-  pub last : StoredSeen LoaderSeen
-  pub rewritten : IsStoredRewritten (Loads Reads request.paths base k (length request.arguments + 1))
-      (λ loader. MayLoad Reads request.paths base k (length request.arguments + 1)) request sources
-      (store_start sources request.cache_bytes before.sinks.errors before.sinks.code) last
-      (devices_seen before.input before.sinks.output) (devices_seen after.input after.sinks.output) notes others end.result
-  pub errors : after.sinks.errors ≡ last.loader.errors
-  pub code : after.sinks.code ≡ last.loader.code
-  pub input_failed : after.input.failed ≡ is_read_fault end.result
-  pub untouched : end.result ≡ Err fault.Memory → (after.input ≡ before.input) × (after.sinks.output ≡ before.sinks.output)
-  pub status : end.status ≡ last.loader.status
-  pub maps : end.maps ≡ both_counted last.cache.read (length sources.words)
-  pub missing : end.missing ≡ last.cache.missing - last.loader.refused
-  pub refused : end.refused ≡ last.loader.refused
-  pub lost : end.lost ≡ last.loader.lost
-  pub shortages : end.shortages ≡ last.cache.shortages
+abbrev pub IsTextOverStore : MayRead → Option Parts → (k : ℕ) → RequestSeen → MapSources → StoreEnd RewriteCounts → (notes others : NotesSeen)
+    → (before after : Streams) → Type 0
+IsTextOverStore Reads base k request sources end notes others before after =
+    IsOverStore (λ Finds before after old new counts. RewritesText request sources Finds before after old new counts notes others)
+    (RewritesTextFront request sources) Reads request.paths base k (length request.arguments + 1) request.cache_bytes sources end before after
 
 -- a text becomes what the maps make of it that a function gives: its places, by these parts, or the frames of a trace
 abbrev pub RewritesTextBy : (anywhere : Bool) → (maps : MapsByUrl) → (parts : List ℕ → List Part) → (hide : HidingSeen) → (most : ℕ)
@@ -157,7 +113,7 @@ RewritesTextBy anywhere maps parts hide most before after counts =
 -- where each path gives the same bytes whenever it is read, and nothing was reported of a map, or what fails always fails and no map
 -- was lost, a text becomes what the maps make of it that the files have, however few are kept; the URL of a file that can't be read
 -- or whose map is refused has none
-abbrev pub AnswersByPath : MayRead → Option Parts → (k : ℕ) → RequestSeen → MapSources → StoreEnd → (before after : Streams) → Type 0
+abbrev pub AnswersByPath : MayRead → Option Parts → (k : ℕ) → RequestSeen → MapSources → StoreEnd RewriteCounts → (before after : Streams) → Type 0
 AnswersByPath Reads base k request sources end before after =
     (bytes_at : BytesByPath) → ReadsSame Reads (length request.arguments + 1) bytes_at
     → (counts : RewriteCounts) → end.result ≡ Ok counts
@@ -178,7 +134,7 @@ trace_text counts = concat (
     ∷ [])
 
 -- how many maps were read, and how many were not
-abbrev pub maps_text : StoreEnd → List ℕ
+abbrev pub maps_text : StoreEnd RewriteCounts → List ℕ
 maps_text end = concat (
     codes "maps " ∷ decimal end.maps
     ∷ codes " missing " ∷ decimal end.missing
@@ -190,7 +146,7 @@ abbrev pub passed_text : (anywhere : Bool) → RewriteCounts → List ℕ
 passed_text anywhere counts = if anywhere then [] else codes " passed " ++ decimal counts.passed
 
 -- what was done
-abbrev pub summary_line : StoreEnd → (anywhere : Bool) → RewriteCounts → List ℕ
+abbrev pub summary_line : StoreEnd RewriteCounts → (anywhere : Bool) → RewriteCounts → List ℕ
 summary_line end anywhere counts = line_from (codes "ok " ∷ trace_text counts ∷ codes " " ∷ maps_text end ∷ passed_text anywhere counts ∷ [])
 
 -- this is reported, or that memory ran out, with this status
@@ -198,34 +154,20 @@ abbrev pub ReportsSummary : (line : List ℕ) → (status : ℕ) → (before aft
 ReportsSummary line status before after =
     ((status ≡ 0) × IsReportedTo before after line) ⊎ ((status ≡ 3) × IsReportedTo before after memory_line)
 
--- that memory ran out for some maps is reported with this status, where it did
-abbrev pub ReportsShortage : (shortages status : ℕ) → (before after : SinkSeen) → Type 0
-ReportsShortage shortages status before after =
-    MatchBool (shortages == 0) ((status ≡ 0) × (after ≡ before)) ((status ≡ 3) × IsReportedTo before after memory_line)
+-- of a text that was rewritten to its end, what was done is reported, where that is asked; and the status of that
+abbrev pub SumsResult : StoreEnd RewriteCounts → (anywhere : Bool) → Result RewriteCounts LineFault → (status : ℕ) → (before after : SinkSeen) → Type 0
+SumsResult end anywhere (Ok counts) status before after = ReportsSummary (summary_line end anywhere counts) status before after
+SumsResult end anywhere (Err fault) status before after = (status ≡ 0) × (after ≡ before)
 
--- so is what was done where that is asked; and the status of both
-abbrev pub ClosesWith : StoreEnd → (summary anywhere : Bool) → RewriteCounts → (status : ℕ) → (before after : SinkSeen) → Type 0
-ClosesWith end summary anywhere counts status before after =
-    (between : SinkSeen) × (short : ℕ) × ReportsShortage end.shortages short before between
-    × MatchBool summary ((reported : ℕ) × ReportsSummary (summary_line end anywhere counts) reported between after × (status ≡ max short reported))
-    ((status ≡ short) × (after ≡ between))
-
--- how the run ends, by what rewriting came to, and with which status
-abbrev pub EndsResult : StoreEnd → (summary anywhere : Bool) → Result RewriteCounts LineFault → (status : ℕ) → (before after : Sinks) → Type 0
-EndsResult end summary anywhere (Ok counts) status before after =
-    (reported : ℕ) × (between : Sinks) × (closed : ℕ) × Ends (answer []) reported before between × (after.output ≡ between.output) × (after.code ≡ between.code)
-    × ClosesWith end summary anywhere counts closed between.errors after.errors × (status ≡ max (max end.status reported) closed)
-EndsResult end summary anywhere (Err fault) status before after =
-    (reported : ℕ) × Ends (fault_report fault) reported before after × (status ≡ max end.status reported)
-
-abbrev pub EndsFrom : StoreEnd → (summary anywhere : Bool) → (status : ℕ) → (before after : Sinks) → Type 0
-EndsFrom end summary anywhere status before after = EndsResult end summary anywhere end.result status before after
+abbrev pub SumsUp : StoreEnd RewriteCounts → (summary anywhere : Bool) → (status : ℕ) → (before after : SinkSeen) → Type 0
+SumsUp end summary anywhere status before after =
+    MatchBool summary (SumsResult end anywhere end.result status before after) ((status ≡ 0) × (after ≡ before))
 
 -- what became of the URLs that were noted is said then, where that is asked; and the status of that
-abbrev pub says_urls : RequestSeen → StoreEnd → Bool
+abbrev pub says_urls : RequestSeen → StoreEnd RewriteCounts → Bool
 says_urls request end = request.explain && is_ok end.result
 
-abbrev pub SaysUrls : MayRead → Option Parts → (k : ℕ) → RequestSeen → (sources : MapSources) → StoreEnd → (notes others : NotesSeen) → (status : ℕ)
+abbrev pub SaysUrls : MayRead → Option Parts → (k : ℕ) → RequestSeen → (sources : MapSources) → StoreEnd RewriteCounts → (notes others : NotesSeen) → (status : ℕ)
     → (before after : SinkSeen) → Type 0
 SaysUrls Reads base k request sources end notes others status before after =
     MatchBool (says_urls request end)
@@ -240,7 +182,7 @@ has_passed (Ok counts) = nat_lt 0 counts.passed
 has_passed (Err fault) = false
 
 -- places were passed, and nothing else was said up to this status: no refusal, no summary and no URL
-abbrev pub is_hinted : RequestSeen → StoreEnd → NotesSeen → (status : ℕ) → Bool
+abbrev pub is_hinted : RequestSeen → StoreEnd RewriteCounts → NotesSeen → (status : ℕ) → Bool
 is_hinted request end notes status =
     request.hint && (not request.summary && ((not request.explain || length notes.notes == 0) && (status == 0 && has_passed end.result)))
 
@@ -248,7 +190,7 @@ abbrev pub hint_line : List ℕ
 hint_line = codes "smap rewrite --anywhere takes places in lines that are no frames\n"
 
 -- what takes them is said then
-abbrev pub Hints : RequestSeen → StoreEnd → NotesSeen → (status : ℕ) → (before after : SinkSeen) → Type 0
+abbrev pub Hints : RequestSeen → StoreEnd RewriteCounts → NotesSeen → (status : ℕ) → (before after : SinkSeen) → Type 0
 Hints request end notes status before after = MatchBool (is_hinted request end notes status) (IsReportedTo before after hint_line) (after ≡ before)
 
 -- ---- the run
@@ -257,11 +199,12 @@ Hints request end notes status before after = MatchBool (is_hinted request end n
 abbrev pub RewritesSources : MayRead → Option Parts → (k : ℕ) → RequestSeen → Result MapSources Report → (status : ℕ) → (before after : Streams) → Type 0
 RewritesSources Reads base k request (Err refused) status before after = (after.input ≡ before.input) × Ends refused status before.sinks after.sinks
 RewritesSources Reads base k request (Ok sources) status before after =
-    (end : StoreEnd) × (notes : NotesSeen) × (others : NotesSeen) × (between : Streams) × (told : Sinks) × (named : SinkSeen) × (ended : ℕ) × (said : ℕ)
-    × IsOverStore Reads base k request sources end notes others before between
-    × AnswersByPath Reads base k request sources end before between × (after.input ≡ between.input) × EndsFrom end request.summary request.anywhere ended between.sinks told
-    × (after.sinks.output ≡ told.output) × (after.sinks.code ≡ told.code) × SaysUrls Reads base k request sources end notes others said told.errors named
-    × Hints request end notes status named after.sinks.errors × (status ≡ max ended said)
+    (end : StoreEnd RewriteCounts) × (notes : NotesSeen) × (others : NotesSeen) × (between : Streams) × (told : Sinks) × (summed : SinkSeen) × (named : SinkSeen)
+    × (ended : ℕ) × (summing : ℕ) × (said : ℕ) × IsTextOverStore Reads base k request sources end notes others before between
+    × AnswersByPath Reads base k request sources end before between × (after.input ≡ between.input) × EndsStore end ended between.sinks told
+    × (after.sinks.output ≡ told.output) × (after.sinks.code ≡ told.code) × SumsUp end request.summary request.anywhere summing told.errors summed
+    × SaysUrls Reads base k request sources end notes others said summed named × Hints request end notes status named after.sinks.errors
+    × (status ≡ max (max ended summing) said)
 
 abbrev pub RewritesFrom : MayRead → Option Parts → (k : ℕ) → RequestSeen → (status : ℕ) → (before after : Streams) → Type 0
 RewritesFrom Reads base k request status before after =

@@ -4,7 +4,10 @@ use Rattle.url.specs.Parts.{Parts}
 use Rattle.smap_io.specs.declared.transfer.ReadFailure.TheVariants.{Device}
 use Rattle.smap_record.specs.Record.{MapRecord}
 use Rattle.smap_record.specs.declared.refusal.MapRefusal.{MapRefusal}
-use Rattle.smap_store.specs.ByPath.{MapsByPath}
+use Rattle.smap_locations.specs.Locations.{LocationsSeen, key_for, path_for}
+use Rattle.smap_store.specs.Fileless.{known_of}
+use Rattle.smap_store.specs.Stored.{or_other}
+use Rattle.smap_trace.specs.MapsOf.{MapsByUrl}
 use Rattle.smap_replies.specs.Files.{MayRead}
 use Rattle.smap_text_answers.specs.Standing.{record_loaded}
 
@@ -39,9 +42,21 @@ abbrev pub stated_by : (paths : Bool) → Option Parts → (k : ℕ) → (url : 
 stated_by paths base k url None = None
 stated_by paths base k url (Some bytes) = stated_in (record_loaded paths base k url bytes)
 
--- the map of a URL from each path
+-- the map that the file of each path gives, where it gives one, as that of a URL
+abbrev pub MapsByPath : Type 0
+MapsByPath = (url path : List ℕ) → Option MapRecord
+
 abbrev pub maps_at : (paths : Bool) → Option Parts → (k : ℕ) → BytesByPath → MapsByPath
 maps_at paths base k bytes_at url path = stated_by paths base k url (bytes_at path)
+
+-- that of a URL of this path: none, where it has no path
+abbrev pub by_path : MapsByPath → (url : List ℕ) (path : Option (List ℕ)) → Option MapRecord
+by_path load url None = None
+by_path load url (Some path) = load url path
+
+-- the map of each URL: the one that it is known to have, and else that of its file
+abbrev pub stored_maps : MapsByPath → (words : List (List ℕ × MapRecord)) (locations : LocationsSeen) → MapsByUrl
+stored_maps load words locations url = or_other (known_of words locations url) (by_path load (key_for locations url) (path_for locations url))
 
 -- ---- what became of the maps
 

@@ -1,86 +1,44 @@
 //! What is reported where rewriting over files and folders of maps ends.
 ghost use Rattle.std.specs.Prelude.{◌≡◌, string_bytes, IfOk};
-ghost use Rattle.smap_text_answers.specs.RewriteFrom.{ClosesWith, EndsFrom, Hints, ReportsShortage, ReportsSummary, has_passed, is_hinted};
+ghost use Rattle.smap_text_answers.specs.RewriteFrom.{Hints, ReportsSummary, SumsUp, has_passed, is_hinted};
 ghost use Rattle.smap_text_answers.specs.RewriteFrom.{maps_text, passed_text, summary_line, trace_text};
 ghost use Rattle.smap_text_answers.specs.Request.{request_seen};
-ghost use Rattle.smap_replies.specs.Streams.{sinks_seen};
-ghost use Rattle.smap_lines.specs.RunEnds.{is_write_fault};
 ghost use Rattle.smap_trace.specs.NotesSeen.{notes_seen};
 
 use crate::request::TextRequest;
-use crate::rewriting::StoreEnd;
-use smap_codes::Code;
+use crate::storing::StoreEnd;
 use smap_io::ByteSink;
-use smap_replies::{DONE, FAILED, Failure, FileReader, NO_MEMORY, Reply, print_error, report};
+use smap_replies::{DONE, FAILED, FileReader, NO_MEMORY, print_error};
 use smap_trace::{RewriteCounts, RewriteFault, UrlNotes};
 use std::alloc::{AllocError, Global};
 
 // What takes the places of lines that are no frames.
 const HINT: &str = "smap rewrite --anywhere takes places in lines that are no frames\n";
 
-/// Reports what rewriting came to, and gives the exit status.
-pub fn finish<F: FileReader, W: ByteSink, E: ByteSink>(
+/// Reports what was done, where that is asked, or that memory ran out for it; and gives the status of that.
+pub fn sum_up<F: FileReader, E: ByteSink>(
     alloc: Global,
     request: &TextRequest<'_, '_, F>,
-    end: &StoreEnd,
-    output: &mut W,
+    end: &StoreEnd<RewriteCounts>,
     errors: &mut E,
-    first: &mut Option<Code>,
 ) -> u8
-    requires output_works { (W.seen output.old).failed ≡ is_write_fault end.now.result }
-    ensures { EndsFrom end.now request.now.options.now.summary
+    ensures { SumsUp end.now request.now.options.now.summary
         request.now.options.now.anywhere result
-        (sinks_seen (W.seen output.old) (E.seen errors.old) first.old)
-        (sinks_seen (W.seen output.new) (E.seen errors.new) first.new) }
-{
-    match end.result {
-        Ok(counts) => {
-            let reported = report(&Ok(Reply::Rewritten), output, errors, first);
-            let closed = close(alloc, request, end, &counts, errors);
-            end.status.max(reported).max(closed)
-        }
-        Err(fault) => {
-            let reported = report(&Err(Failure::Fault(fault)), output, errors, first);
-            end.status.max(reported)
-        }
-    }
-}
-
-// Reports that memory ran out for some maps, and what was done where that is asked; and gives the status of both.
-fn close<F: FileReader, E: ByteSink>(
-    alloc: Global,
-    request: &TextRequest<'_, '_, F>,
-    end: &StoreEnd,
-    counts: &RewriteCounts,
-    errors: &mut E,
-) -> u8
-    ensures { ClosesWith end.now request.now.options.now.summary
-        request.now.options.now.anywhere counts.now result
         (E.seen errors.old) (E.seen errors.new) }
 {
-    let short = report_shortage(end.shortages, errors);
     if !request.options.summary {
-        return short;
-    }
-    let reported = report_summary(alloc, end, request.options.anywhere, counts, errors);
-    short.max(reported)
-}
-
-/// Reports that memory ran out for some maps, where it did, and gives the status of that.
-pub fn report_shortage<E: ByteSink>(shortages: u64, errors: &mut E) -> u8
-    ensures { ReportsShortage shortages result (E.seen errors.old) (E.seen errors.new) }
-{
-    if shortages == 0 {
         return DONE;
     }
-    print_error(errors, NO_MEMORY.as_bytes());
-    FAILED
+    match end.result {
+        Ok(counts) => report_summary(alloc, end, request.options.anywhere, &counts, errors),
+        Err(_) => DONE,
+    }
 }
 
 // Reports what was done, or that memory ran out, and gives the status of that.
 fn report_summary<E: ByteSink>(
     alloc: Global,
-    end: &StoreEnd,
+    end: &StoreEnd<RewriteCounts>,
     anywhere: bool,
     counts: &RewriteCounts,
     errors: &mut E,
@@ -103,7 +61,7 @@ fn report_summary<E: ByteSink>(
 // Standard error: what was done.
 fn summary_line(
     alloc: Global,
-    end: &StoreEnd,
+    end: &StoreEnd<RewriteCounts>,
     anywhere: bool,
     counts: &RewriteCounts,
 ) -> Result<String, AllocError>
@@ -129,7 +87,7 @@ fn trace_text(alloc: Global, counts: &RewriteCounts) -> Result<String, AllocErro
 }
 
 // How many maps were read, for one line, and how many were not.
-fn maps_text(alloc: Global, end: &StoreEnd) -> Result<String, AllocError>
+fn maps_text(alloc: Global, end: &StoreEnd<RewriteCounts>) -> Result<String, AllocError>
     ensures { IfOk result (λ text. string_bytes text ≡ maps_text end.now) }
 {
     let (maps, missing, refused) = (end.maps, end.missing, end.refused);
@@ -150,7 +108,7 @@ fn passed_text(alloc: Global, anywhere: bool, counts: &RewriteCounts) -> Result<
 /// Tells a terminal what takes the places that were passed, where there are some and nothing else was said.
 pub fn hint<F: FileReader, E: ByteSink>(
     request: &TextRequest<'_, '_, F>,
-    end: &StoreEnd,
+    end: &StoreEnd<RewriteCounts>,
     notes: &UrlNotes,
     status: u8,
     errors: &mut E,
@@ -166,7 +124,7 @@ pub fn hint<F: FileReader, E: ByteSink>(
 // Whether that is so, where all that was said ended with this status.
 fn is_hinted<F: FileReader>(
     request: &TextRequest<'_, '_, F>,
-    end: &StoreEnd,
+    end: &StoreEnd<RewriteCounts>,
     notes: &UrlNotes,
     status: u8,
 ) -> bool

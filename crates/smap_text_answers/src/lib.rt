@@ -1,5 +1,5 @@
 //! Rewriting the text on standard input, line by line: over the maps of its arguments, or over files and folders of maps,
-//! which are read when the text names them.
+//! which are read when the text names them; and answering its lines over these, where each asks for a place.
 //!
 //! ```text
 //! let options = FurtherOptions::new(alloc);
@@ -12,16 +12,18 @@ mod answering;
 mod ending;
 mod lines;
 mod loader;
+mod locating;
+mod locator;
 mod nearest;
+mod place;
 mod request;
 mod rewriting;
 mod sources;
 mod standing;
+mod storing;
 mod trace;
 mod url_lines;
 
 pub use answering::answer_rewrite;
-pub use ending::report_shortage;
-pub use loader::FileLoader;
+pub use locating::answer_locate;
 pub use request::TextRequest;
-pub use sources::{MapSources, sources_of};

@@ -1,6 +1,6 @@
 //! The maps that are read when a text names them.
 ghost use Rattle.std.specs.Prelude.{◌≡◌, ◌⊎◌, option_copied, IfErr, IfOk};
-ghost use Rattle.smap_text_answers.specs.Loader.{FailsBy, IsLoaded, IsReportFor, Notes, is_lost, is_of_url, loader_seen};
+ghost use Rattle.smap_text_answers.specs.Loader.{FailsBy, IsLoaded, IsReportFor, Notes, is_lost, is_of_url, loader_at_first, loader_seen};
 ghost use Rattle.smap_replies.specs.Outcome.{failure_report};
 ghost use Rattle.smap_store.specs.declared.loader.NoMap.TheVariants.{Memory};
 
@@ -10,7 +10,7 @@ use smap_codes::Code;
 use smap_io::{ByteSink, ReadFailure};
 use smap_record::MapRefusal;
 use smap_replies::{
-    Failure, FileReader, MapReader, REFUSED, file_failed_line, print_error, read_standing,
+    DONE, Failure, FileReader, MapReader, REFUSED, file_failed_line, print_error, read_standing,
     refusal_of,
 };
 use smap_store::{LoadedMap, MapLoader, NoMap};
@@ -40,7 +40,35 @@ pub struct FileLoader<'m, 'r, 'e, F: FileReader, E: ByteSink> {
     pub lost: bool,
 }
 
-impl<F: FileReader, E: ByteSink> FileLoader<'_, '_, '_, F, E> {
+impl<'m, 'r, 'e, F: FileReader, E: ByteSink> FileLoader<'m, 'r, 'e, F, E> {
+    // What has read nothing yet, after a first refusal with this code.
+    pub(crate) fn new(
+        maps: &'m MapReader<'r, F>,
+        paths: bool,
+        number: usize,
+        errors: &'e mut E,
+        code: Option<Code>,
+    ) -> FileLoader<'m, 'r, 'e, F, E>
+        ensures maps { result.maps ≡ maps.entry }
+        ensures paths { result.paths ≡ paths }
+        ensures number { result.number ≡ number }
+        ensures same_errors { result.errors.ghost_name ≡ errors.entry.ghost_name }
+        ensures errors { result.errors.now ≡ errors.old }
+        ensures seen { loader_seen E.seen result ≡ loader_at_first (E.seen errors.old) code }
+    {
+        FileLoader {
+            maps,
+            paths,
+            number,
+            errors,
+            status: DONE,
+            code,
+            reported: 0,
+            refused: 0,
+            lost: false,
+        }
+    }
+
     // The map of a URL from the file at a path, or why there is none.
     pub(crate) fn load_at(&self, alloc: Global, url: &[u8], path: &str) -> Result<LoadedMap, NoMap>
         ensures read { IfOk result (λ loaded.

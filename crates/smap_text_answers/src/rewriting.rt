@@ -1,20 +1,22 @@
 //! Rewriting the stack trace on standard input over files and folders of maps, which are read when it names them.
 ghost use Rattle.std.specs.Prelude.{◌≡◌, ◌<◌, ◌^◌, false, true, option_copied};
-ghost use Rattle.smap_lines.specs.RunEnds.{RunEnds, is_write_fault};
+ghost use Rattle.smap_lines.specs.RunEnds.{RunEnds};
 ghost use Rattle.smap_replies.specs.Outcome.{or_reported};
 ghost use Rattle.smap_replies.specs.Streams.{streams_seen};
 ghost use Rattle.smap_text_answers.specs.Request.{request_seen};
-ghost use Rattle.smap_text_answers.specs.RewriteFrom.{EndsText, IsOverStore, RewritesFrom, SaysUrls, asked_by, says_urls, store_of};
+ghost use Rattle.smap_text_answers.specs.RewriteFrom.{EndsText, RewritesFrom, SaysUrls, asked_by, says_urls};
 ghost use Rattle.smap_text_answers.specs.Sources.{GathersSources};
+ghost use Rattle.smap_text_answers.specs.StoreRun.{store_of};
 ghost use Rattle.smap_anywhere.specs.Anywhere.{AreNone};
 ghost use Rattle.smap_trace.specs.NotesSeen.{notes_seen};
 ghost use Rattle.smap_trace.specs.Noted.{nothing_noted};
 ghost use Rattle.smap_trace.specs.Rewriting.{Looked, RewritesFrontOver, RewritesOver};
 
-use crate::ending::{finish, hint};
+use crate::ending::{hint, sum_up};
 use crate::loader::FileLoader;
 use crate::request::TextRequest;
 use crate::sources::{MapSources, sources_of};
+use crate::storing::{StoreEnd, StoreRun, StoreWork, finish, over_store};
 use crate::url_lines::tell_urls;
 use smap_anywhere::{LineCounter, MapUrls, PlaceNotes, PlaceOptions, rewrite_anywhere};
 use smap_codes::Code;
@@ -48,17 +50,29 @@ pub fn rewrite_from<F: FileReader, R: ByteSource, W: ByteSink, E: ByteSink>(
 {
     match sources_for(alloc, request) {
         Ok(sources) => {
-            let run = StoreRun {
+            let store = StoreRun {
+                maps: request.maps,
+                paths: request.options.paths,
+                arguments: request.arguments,
+                cache_bytes: request.cache_bytes(),
+                sources: &sources,
+            };
+            let mut work = Rewriting {
+                alloc,
+                request,
+                notes: PlaceNotes::new(alloc),
+            };
+            let end = over_store(&store, &mut work, input, output, errors, first);
+            let ended = finish(&end, output, errors, first);
+            let summed = sum_up(alloc, request, &end, errors);
+            let run = TextRun {
                 alloc,
                 request,
                 sources: &sources,
             };
-            let mut notes = PlaceNotes::new(alloc);
-            let end = over_store(&run, &mut notes, input, output, errors, first);
-            let ended = finish(alloc, request, &end, output, errors, first);
-            let said = say_urls(&run, &end, &notes, errors);
-            let status = ended.max(said);
-            hint(request, &end, &notes.named, status, errors);
+            let said = say_urls(&run, &end, &work.notes, errors);
+            let status = ended.max(summed).max(said);
+            hint(request, &end, &work.notes.named, status, errors);
             status
         }
         Err(failure) => report(&Err(failure), output, errors, first),
@@ -89,83 +103,58 @@ fn sources_for<F: FileReader>(
 
 /// What is asked, and what a text is rewritten over.
 #[derive(Drop)]
-pub struct StoreRun<'s, 'a, 'r, F: FileReader> {
+pub struct TextRun<'s, 'a, 'r, F: FileReader> {
     pub alloc: Global,
     pub request: &'s TextRequest<'a, 'r, F>,
     pub sources: &'s MapSources,
 }
 
-/// What rewriting over a store came to.
-#[derive(Clone, Copy)]
-pub struct StoreEnd {
-    // What was in the trace, or why it was not rewritten to its end.
-    pub result: Result<RewriteCounts, RewriteFault>,
-    // The greatest status of what was reported of maps.
-    pub status: u8,
-    // How many maps were read, those of words too.
-    pub maps: u64,
-    // How many URLs had no map, refused maps aside.
-    pub missing: u64,
-    // How many maps were refused.
-    pub refused: u64,
-    // Whether a map was lost of which its file does not say so.
-    pub lost: bool,
-    // How often there was not enough memory to keep what was found for a URL.
-    pub shortages: u64,
+// Rewriting a text over a store of maps, with the notes of what it names.
+#[derive(Drop)]
+struct Rewriting<'s, 'a, 'r, Q: FileReader> {
+    alloc: Global,
+    request: &'s TextRequest<'a, 'r, Q>,
+    notes: PlaceNotes,
 }
 
-// Rewrites the trace over the maps of words and of what its frames name.
-fn over_store<F: FileReader, R: ByteSource, W: ByteSink, E: ByteSink>(
-    run: &StoreRun<'_, '_, '_, F>,
-    notes: &mut PlaceNotes,
-    input: &mut R,
-    output: &mut W,
-    errors: &mut E,
-    first: &mut Option<Code>,
-) -> StoreEnd
-    requires unnoted { AreNone notes.old }
-    requires input_works { (R.seen input.old).failed ≡ false }
-    requires output_works { (W.seen output.old).failed ≡ false }
-    requires limit { (request_seen run.now.request.now).limit_bytes < 2 ^ 63 }
-    ensures over { IsOverStore (F.gives run.now.request.now.maps.now.files.now)
-        (option_copied run.now.request.now.maps.now.base) run.now.request.now.maps.now.interval
-        (request_seen run.now.request.now) run.now.sources.now result
-        (notes_seen notes.new.named) (notes_seen notes.new.others)
-        (streams_seen (R.seen input.old) (W.seen output.old) (E.seen errors.old) first.old)
-        (streams_seen (R.seen input.new) (W.seen output.new) (E.seen errors.new) first.new) }
-    ensures output_failure { (W.seen output.new).failed ≡ is_write_fault result.result }
-{
-    let (request, sources) = (run.request, run.sources);
-    let mut cache = MapCache::new(request.cache_bytes());
-    let mut loader = FileLoader {
-        maps: request.maps,
-        paths: request.options.paths,
-        number: request.arguments.len() + 1,
-        errors,
-        status: DONE,
-        code: *first,
-        reported: 0,
-        refused: 0,
-        lost: false,
-    };
-    let result = rewrite_text(run, &mut cache, &mut loader, notes, input, output);
-    let (status, refused, lost) = (loader.status, loader.refused, loader.lost);
-    *first = loader.code;
-    StoreEnd {
-        result,
-        status,
-        maps: cache.read().saturating_add(sources.words.count() as u64),
-        missing: cache.missing().saturating_sub(refused),
-        refused,
-        lost,
-        shortages: cache.shortages(),
+impl<Q: FileReader> StoreWork for Rewriting<'_, '_, '_, Q> {
+    ghost use Rattle.std.specs.Prelude.{◌<◌, ◌^◌};
+    ghost use Rattle.smap_anywhere.specs.Anywhere.{AreNone};
+    ghost use Rattle.smap_text_answers.specs.Request.{request_seen};
+    ghost use Rattle.smap_text_answers.specs.RewriteFrom.{RewritesText, RewritesTextFront};
+    ghost use Rattle.smap_trace.specs.NotesSeen.{notes_seen};
+
+    type Counts = RewriteCounts;
+
+    ghost Ready = { λ work. AreNone work.notes × ((request_seen work.request.now).limit_bytes < 2 ^ 63) };
+
+    ghost Whole = { λ work later sources Finds before after old new counts.
+        RewritesText (request_seen work.request.now) sources Finds before after old new counts
+        (notes_seen later.notes.named) (notes_seen later.notes.others) };
+
+    ghost Front = { λ work sources. RewritesTextFront (request_seen work.request.now) sources };
+
+    fn run<F: FileReader, E: ByteSink, R: ByteSource, W: ByteSink>(
+        &mut self,
+        sources: &MapSources,
+        cache: &mut MapCache,
+        loader: &mut FileLoader<'_, '_, '_, F, E>,
+        input: &mut R,
+        output: &mut W,
+    ) -> Result<RewriteCounts, RewriteFault> {
+        let run = TextRun {
+            alloc: self.alloc,
+            request: self.request,
+            sources,
+        };
+        rewrite_text(&run, cache, loader, &mut self.notes, input, output)
     }
 }
 
 // Rewrites the text over a store of maps: its frames, or its places anywhere. (It is generic in what loads them: the borrow
 // checker does not cover a call of `rewrite_over` over a loader that borrows from elsewhere.)
 fn rewrite_text<F: FileReader, L: MapLoader, R: ByteSource, W: ByteSink>(
-    run: &StoreRun<'_, '_, '_, F>,
+    run: &TextRun<'_, '_, '_, F>,
     cache: &mut MapCache,
     loader: &mut L,
     notes: &mut PlaceNotes,
@@ -191,7 +180,7 @@ fn rewrite_text<F: FileReader, L: MapLoader, R: ByteSource, W: ByteSink>(
 
 // Its frames, beside which places are counted.
 fn rewrite_frames<F: FileReader, L: MapLoader, R: ByteSource, W: ByteSink>(
-    run: &StoreRun<'_, '_, '_, F>,
+    run: &TextRun<'_, '_, '_, F>,
     cache: &mut MapCache,
     loader: &mut L,
     notes: &mut PlaceNotes,
@@ -230,7 +219,7 @@ fn rewrite_frames<F: FileReader, L: MapLoader, R: ByteSource, W: ByteSink>(
 
 // The frames of a text over any maps, beside which places are counted.
 fn frames_over<F: FileReader, M: Maps, P: PlaceCounter, R: ByteSource, W: ByteSink>(
-    run: &StoreRun<'_, '_, '_, F>,
+    run: &TextRun<'_, '_, '_, F>,
     maps: &mut M,
     places: &mut P,
     notes: &mut UrlNotes,
@@ -262,7 +251,7 @@ fn frames_over<F: FileReader, M: Maps, P: PlaceCounter, R: ByteSource, W: ByteSi
 
 // Its places anywhere.
 fn rewrite_places<F: FileReader, L: MapLoader, R: ByteSource, W: ByteSink>(
-    run: &StoreRun<'_, '_, '_, F>,
+    run: &TextRun<'_, '_, '_, F>,
     cache: &mut MapCache,
     loader: &mut L,
     notes: &mut PlaceNotes,
@@ -309,8 +298,8 @@ fn rewrite_places<F: FileReader, L: MapLoader, R: ByteSource, W: ByteSink>(
 
 // Says what became of the URLs that were noted, where that is asked, and gives the status of that.
 fn say_urls<F: FileReader, E: ByteSink>(
-    run: &StoreRun<'_, '_, '_, F>,
-    end: &StoreEnd,
+    run: &TextRun<'_, '_, '_, F>,
+    end: &StoreEnd<RewriteCounts>,
     notes: &PlaceNotes,
     errors: &mut E,
 ) -> u8
@@ -328,7 +317,7 @@ fn say_urls<F: FileReader, E: ByteSink>(
 }
 
 // Whether it is said what became of the URLs.
-fn says_urls<F: FileReader>(request: &TextRequest<'_, '_, F>, end: &StoreEnd) -> bool
+fn says_urls<F: FileReader>(request: &TextRequest<'_, '_, F>, end: &StoreEnd<RewriteCounts>) -> bool
     ensures { result ≡ says_urls (request_seen request.now) end.now }
 {
     request.options.explain && end.result.is_ok()

@@ -4,9 +4,9 @@ ghost use Rattle.smap_replies.specs.Standing.{standing_seen};
 ghost use Rattle.smap_text_answers.specs.Standing.{goes_by_path, standing_at, standing_loaded, standing_named, standing_of_text};
 
 use smap_locations::without_query;
-use smap_resolve::is_path;
 use smap_record::Url;
 use smap_replies::Standing;
+use smap_resolve::is_path;
 
 /// Where the map stands of the file that an argument names for a URL.
 pub fn standing_named<'a>(base: Option<&'a Url>, paths: bool, url: &'a str) -> Standing<'a>

@@ -9,7 +9,7 @@ ghost use Rattle.smap_trace.specs.NotesSeen.{note_seen, notes_seen};
 mod ends;
 
 use crate::loader::FileLoader;
-use crate::rewriting::StoreRun;
+use crate::rewriting::TextRun;
 use crate::url_lines::ends::end_of;
 use smap_anywhere::PlaceNotes;
 use smap_io::ByteSink;
@@ -30,7 +30,7 @@ const NO_PLACE: &str =
 
 /// Reports what became of the URLs that were noted, or that memory ran out, and gives the status of that.
 pub fn tell_urls<F: FileReader, E: ByteSink>(
-    run: &StoreRun<'_, '_, '_, F>,
+    run: &TextRun<'_, '_, '_, F>,
     notes: &PlaceNotes,
     errors: &mut E,
 ) -> u8
@@ -56,7 +56,7 @@ pub fn tell_urls<F: FileReader, E: ByteSink>(
 
 // The lines of all URLs that were noted, or that there is none, where memory was enough.
 fn lines_of<F: FileReader, E: ByteSink>(
-    run: &StoreRun<'_, '_, '_, F>,
+    run: &TextRun<'_, '_, '_, F>,
     notes: &PlaceNotes,
     errors: &mut E,
 ) -> Result<Vec<u8>, AllocError>
@@ -76,24 +76,15 @@ fn lines_of<F: FileReader, E: ByteSink>(
         return Err(AllocError);
     }
     let request = run.request;
-    let loader = FileLoader {
-        maps: request.maps,
-        paths: request.options.paths,
-        number: request.arguments.len() + 1,
-        errors,
-        status: DONE,
-        code: None,
-        reported: 0,
-        refused: 0,
-        lost: false,
-    };
+    let number = request.arguments.len() + 1;
+    let loader = FileLoader::new(request.maps, request.options.paths, number, errors, None);
     all_lines(run, &loader, &notes.named.notes, &notes.others.notes)
 }
 
 // The lines of all of these, or that there is none.
 #[tactic(auto, using(crate::proofs::UrlLinesLaws::lines_all, crate::proofs::UrlLinesLaws::lines_none))]
 fn all_lines<F: FileReader, E: ByteSink>(
-    run: &StoreRun<'_, '_, '_, F>,
+    run: &TextRun<'_, '_, '_, F>,
     loader: &FileLoader<'_, '_, '_, F, E>,
     notes: &[UrlNote],
     others: &[UrlNote],
@@ -117,7 +108,7 @@ fn all_lines<F: FileReader, E: ByteSink>(
 
 // The lines of all of these, one after another.
 fn lines_of_both<F: FileReader, E: ByteSink>(
-    run: &StoreRun<'_, '_, '_, F>,
+    run: &TextRun<'_, '_, '_, F>,
     loader: &FileLoader<'_, '_, '_, F, E>,
     notes: &[UrlNote],
     others: &[UrlNote],
@@ -144,7 +135,7 @@ fn nothing_line(anywhere: bool) -> &'static str
 
 // The lines of all of these.
 fn lines_by<F: FileReader, E: ByteSink>(
-    run: &StoreRun<'_, '_, '_, F>,
+    run: &TextRun<'_, '_, '_, F>,
     loader: &FileLoader<'_, '_, '_, F, E>,
     notes: &[UrlNote],
 ) -> Result<Vec<u8>, AllocError>
@@ -164,7 +155,7 @@ fn lines_by<F: FileReader, E: ByteSink>(
 
 // The line of a URL.
 fn line_of<F: FileReader, E: ByteSink>(
-    run: &StoreRun<'_, '_, '_, F>,
+    run: &TextRun<'_, '_, '_, F>,
     loader: &FileLoader<'_, '_, '_, F, E>,
     note: &UrlNote,
 ) -> Result<Vec<u8>, AllocError>

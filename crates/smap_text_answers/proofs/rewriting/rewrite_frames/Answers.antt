@@ -1,4 +1,4 @@
-use Rattle.std.proofs.Common.{◌≡◌, [], ap, refl, rules, subst}
+use Rattle.std.proofs.Common.{◌≡◌, [], refl, rules, subst}
 use Rattle.smap_lines.specs.Laws.RunEnds.{ends_memory, ends_wider}
 use Rattle.smap_lines.specs.Editing.{devices_seen}
 use Rattle.smap_store.specs.Stored.{FindsIn, GivesIn, StoredSeen, found_in}
@@ -7,8 +7,10 @@ use Rattle.smap_trace.specs.Rewriting.{Looked, RewritesOver}
 use Rattle.smap_trace.specs.Laws.Seen.{looked_seen, rewrites_seen}
 use Rattle.smap_trace.specs.NotesSeen.{notes_seen}
 use Rattle.smap_text_answers.specs.Request.{request_seen}
-use Rattle.smap_text_answers.specs.RewriteFrom.{asked_of, store_of}
-use Rattle.smap_text_answers.proofs.BesideLaws.{store_after, text_front_of_none, when_off}
+use Rattle.smap_text_answers.specs.RewriteFrom.{asked_of}
+use Rattle.smap_text_answers.specs.StoreRun.{store_of}
+use Rattle.smap_text_answers.proofs.BesideLaws.{text_front_of_none, when_off}
+use Rattle.smap_text_answers.proofs.StoreLaws.{store_after}
 use Rattle.smap_text_answers.proofs.rewriting.rewrite_frames.Goals as goal
 
 pub returns-in_default : goal.returns-in_default
@@ -35,7 +37,7 @@ returns g c =
     (λ old new url is finds. (finds.0, same_store_on _ old new is finds.1)) (λ m url. refl) _ new (same_store_self _) c.frames_over.ensures.looked in
     let cache : c.cache-1.given.0 ≡ new.cache.now = search rules in
     let loader : c.loader-1.given.0 ≡ new.loader.now = search rules in
-    let stands = store_after _ _ new looked.1 (ap (λ w. w.now) looked.1.words) _ _ cache loader in
+    let stands = store_after g.L.MapLoader.Loads _ new _ _ cache loader looked.1 in
     let before = devices_seen (g.R.ByteSource.seen c.args.input.now) (g.W.ByteSink.seen c.args.output.now) in
     let after = devices_seen (g.R.ByteSource.seen c.frames_over.new.input) (g.W.ByteSink.seen c.frames_over.new.output) in
     record {

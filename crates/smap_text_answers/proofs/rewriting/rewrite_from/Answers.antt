@@ -1,34 +1,44 @@
-use Rattle.std.proofs.Common.{option_copied, refl, rules}
+use Rattle.std.proofs.Common.{◌≡◌, length, map, option_copied, refl, rules, sym}
+use Rattle.std.proofs.lemmas.List.{length-map}
 use Rattle.std.specs.Prelude.{Ok}
+use Rattle.smap_replies.specs.Arguments.{argument_of}
 use Rattle.smap_text_answers.specs.Request.{request_seen}
-use Rattle.smap_text_answers.specs.Laws.SameBytes.{same_run}
+use Rattle.smap_text_answers.specs.RewriteFrom.{IsTextOverStore}
 use Rattle.smap_replies.specs.Streams.{sinks_seen, streams_seen}
 use Rattle.smap_trace.specs.NotesSeen.{notes_seen}
+use Rattle.smap_text_answers.proofs.SameLaws.{same_run}
 use Rattle.smap_text_answers.proofs.rewriting.rewrite_from.Goals as goal
 
 pub returns-in-Ok : goal.returns-in-Ok
 returns-in-Ok g c =
     let request = c.args.request.now in
+    let maps = request.maps.now in
+    let gives = g.F.FileReader.gives maps.files.now in
     let run = c.over_store-end in
-    let over = run.ensures.over in (
+    let notes = run.new.work.notes in
+    let number : length request.arguments.now ≡ length (map argument_of request.arguments.now) = sym (length-map request.arguments.now argument_of) in
+    let over : IsTextOverStore gives (option_copied maps.base) maps.interval (request_seen request) c.in-Ok.sources run.result (notes_seen notes.named) (notes_seen notes.others) _ _ =
+    rw (number, c.cache_bytes.ensures) at run.ensures.over in (
       Ok c.in-Ok.sources,
       c.in-Ok.ensures,
       (
         run.result,
-        notes_seen run.new.notes.named,
-        notes_seen run.new.notes.others,
+        notes_seen notes.named,
+        notes_seen notes.others,
         streams_seen (g.R.ByteSource.seen run.new.input) (g.W.ByteSink.seen run.new.output) (g.E.ByteSink.seen run.new.errors) run.new.first,
         sinks_seen (g.W.ByteSink.seen c.finish-ended.new.output) (g.E.ByteSink.seen c.finish-ended.new.errors) c.finish-ended.new.first,
+        g.E.ByteSink.seen c.sum_up-summed.new.errors,
         g.E.ByteSink.seen c.say_urls-said.new.errors,
         c.finish-ended.result,
+        c.sum_up-summed.result,
         c.say_urls-said.result,
         over,
-        same_run (g.F.FileReader.gives request.maps.now.files.now) (option_copied request.maps.now.base) request.maps.now.interval (request_seen request)
-            c.in-Ok.sources run.result _ _ _ _ over,
+        same_run gives (option_copied maps.base) maps.interval (request_seen request) c.in-Ok.sources run.result _ _ _ _ over,
         refl,
         c.finish-ended.ensures,
         refl,
         refl,
+        c.sum_up-summed.ensures,
         c.say_urls-said.ensures,
         c.hint.ensures,
         search rules,

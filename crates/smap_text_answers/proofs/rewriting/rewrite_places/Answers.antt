@@ -1,4 +1,4 @@
-use Rattle.std.proofs.Common.{◌≡◌, [], ap, refl, rules, subst}
+use Rattle.std.proofs.Common.{◌≡◌, [], refl, rules, subst}
 use Rattle.smap_lines.specs.Laws.RunEnds.{ends_done, ends_failed, ends_memory}
 use Rattle.smap_lines.specs.Editing.{devices_seen}
 use Rattle.smap_store.specs.Stored.{FindsIn, GivesIn, StoredSeen, found_in}
@@ -9,8 +9,10 @@ use Rattle.smap_trace.specs.Rewriting.{Looked}
 use Rattle.smap_trace.specs.Laws.Seen.{looked_seen}
 use Rattle.smap_trace.specs.NotesSeen.{notes_seen}
 use Rattle.smap_text_answers.specs.Request.{request_seen}
-use Rattle.smap_text_answers.specs.RewriteFrom.{places_asked, store_of}
-use Rattle.smap_text_answers.proofs.BesideLaws.{store_after, text_front_of_none, when_on}
+use Rattle.smap_text_answers.specs.RewriteFrom.{places_asked}
+use Rattle.smap_text_answers.specs.StoreRun.{store_of}
+use Rattle.smap_text_answers.proofs.BesideLaws.{text_front_of_none, when_on}
+use Rattle.smap_text_answers.proofs.StoreLaws.{store_after}
 use Rattle.smap_text_answers.proofs.rewriting.rewrite_places.Goals as goal
 
 pub returns-in_default : goal.returns-in_default
@@ -32,7 +34,7 @@ returns-in-Ok-rewrite_anywhere g c =
     (λ old new url is finds. (finds.0, same_store_on _ old new is finds.1)) (λ m url. refl) _ new (same_store_self _) c.rewrite_anywhere.ensures.looked in
     let cache : c.cache-1.given.0 ≡ new.cache.now = search rules in
     let loader : c.loader-1.given.0 ≡ new.loader.now = search rules in
-    let stands = store_after _ _ new looked.1 (ap (λ w. w.now) looked.1.words) _ _ cache loader in
+    let stands = store_after g.L.MapLoader.Loads _ new _ _ cache loader looked.1 in
     let before = devices_seen (g.R.ByteSource.seen c.args.input.now) (g.W.ByteSink.seen c.args.output.now) in
     let after = devices_seen (g.R.ByteSource.seen c.rewrite_anywhere.new.input) (g.W.ByteSink.seen c.rewrite_anywhere.new.output) in
     let is = rw (c.in-Ok.ensures, c.limit_bytes.ensures) at c.in-Ok-rewrite_anywhere.ensures.ends.whole in
@@ -62,5 +64,5 @@ returns g c =
           (rw (c.in-Ok.ensures, c.limit_bytes.ensures) at c.in-Err.ensures.ends.front));
       looked = subst (λ (s : StoredSeen g.row.L.Denot). Looked (FindsIn g.L.MapLoader.Loads)
           (store_of c.args.run.now.sources.now c.args.cache.now c.args.loader.now) s)
-          (store_after _ _ new looked.1 (ap (λ w. w.now) looked.1.words) _ _ cache loader) looked.0;
+          (store_after g.L.MapLoader.Loads _ new _ _ cache loader looked.1) looked.0;
     }

@@ -1,2 +1,0 @@
-mod LocatingLaws
-mod PlaceLaws

@@ -1,3 +1,0 @@
-pub mod ByPath
-pub mod Locator
-pub mod Run

@@ -1,0 +1,91 @@
+-- A run over a store of maps that are read when a text names them: how it ends, and what is reported then.
+use Rattle.std.specs.Prelude.{◌≡◌, ◌⊎◌, ℕ, ◌+◌, ◌-◌, ◌^◌, ◌==◌, Bool, false, List, Option, Result, Ok, Err, IfErr, IfOk, MatchBool, [], length, max, min, option_copied}
+use Rattle.url.specs.Parts.{Parts}
+use Rattle.smap_codes.specs.declared.code.Code.{Code}
+use Rattle.smap_io.specs.Device.{SinkSeen}
+use Rattle.smap_lines.specs.Editing.{DevicesSeen, devices_seen}
+use Rattle.smap_lines.specs.RunEnds.{is_read_fault}
+use Rattle.smap_lines.specs.declared.fault.LineFault.{LineFault}
+use Rattle.smap_lines.specs.declared.fault.LineFault.TheVariants.{Memory}
+use Rattle.smap_record.specs.Record.{MapRecord}
+use Rattle.smap_replies.specs.Files.{MayRead}
+use Rattle.smap_replies.specs.Lines.{memory_line}
+use Rattle.smap_replies.specs.Outcome.{answer, fault_report}
+use Rattle.smap_replies.specs.Streams.{Ends, IsReportedTo, Sinks, Streams}
+use Rattle.smap_store.specs.Cache.{CacheSeen, cache_at_first}
+use Rattle.smap_store.specs.Stored.{FindsIn, GivesIn, LoadsMay, LoadsStep, StoredSeen}
+use Rattle.smap_text_answers.specs.Loader.{LoaderSeen, Loads, MayLoad, loader_at_first}
+use Rattle.smap_text_answers.specs.declared.loader.FileLoader.{FileLoader}
+use Rattle.smap_text_answers.specs.declared.sources.MapSources.{MapSources}
+use Rattle.smap_text_answers.specs.declared.storing.StoreEnd.{StoreEnd}
+use Rattle.smap_trace.specs.Rewriting.{Looked}
+
+-- ---- the store
+
+-- a store of maps of these files and folders
+abbrev pub store_of : {L : Type 0} → MapSources → CacheSeen → (loader : L) → StoredSeen L
+store_of sources cache loader = record { words = sources.words; locations = sources.locations; cache = cache; loader = loader }
+
+-- the store before anything was read into it
+abbrev pub store_start : MapSources → (cache_bytes : ℕ) → (errors : SinkSeen) → (code : Option Code) → StoredSeen LoaderSeen
+store_start sources cache_bytes errors code = store_of sources (cache_at_first cache_bytes) (loader_at_first errors code)
+
+-- what such a loader gives, as a run shows it, and what it may give
+abbrev pub LoadsOf : {F E : Type 0} → (gives : F → MayRead) → FileLoader F E → LoadsStep LoaderSeen
+LoadsOf gives loader = Loads (gives loader.maps.now.files.now) loader.paths (option_copied loader.maps.now.base) loader.maps.now.interval loader.number
+
+abbrev pub MayLoadOf : {F E : Type 0} → (gives : F → MayRead) → FileLoader F E → LoadsMay LoaderSeen
+MayLoadOf gives loader seen = MayLoad (gives loader.maps.now.files.now) loader.paths (option_copied loader.maps.now.base) loader.maps.now.interval loader.number
+
+-- ---- what is made of a text
+
+-- how the map of a URL is looked for, and which a URL may have
+abbrev pub Finding : Type 1
+Finding = StoredSeen LoaderSeen → (url : List ℕ) → StoredSeen LoaderSeen → Type 0
+
+abbrev pub Giving : Type 1
+Giving = (url : List ℕ) → Option MapRecord → Type 0
+
+-- one number more than another, as far as 64 bits can count
+abbrev pub both_counted : ℕ → ℕ → ℕ
+both_counted one other = min (one + other) (2 ^ 64 - 1)
+
+-- what a run came to that makes this of a text, whole or up to a fault, over maps whose files are read under this number
+pub record IsOverStore {C : Type 0} (Whole : Finding → (before after : DevicesSeen) → (old new : StoredSeen LoaderSeen) → C → Type 0)
+    (Front : Giving → (before after : DevicesSeen) → LineFault → Type 0) (Reads : MayRead) (paths : Bool) (base : Option Parts) (k number cache_bytes : ℕ)
+    (sources : MapSources) (end : StoreEnd C) (before after : Streams) : Type 0 where
+  pub last : StoredSeen LoaderSeen
+  pub whole : IfOk end.result (Whole (FindsIn (Loads Reads paths base k number)) (devices_seen before.input before.sinks.output)
+      (devices_seen after.input after.sinks.output) (store_start sources cache_bytes before.sinks.errors before.sinks.code) last)
+  pub front : IfErr end.result (Front
+      (GivesIn (λ loader. MayLoad Reads paths base k number) (store_start sources cache_bytes before.sinks.errors before.sinks.code))
+      (devices_seen before.input before.sinks.output) (devices_seen after.input after.sinks.output))
+  pub looked : Looked (FindsIn (Loads Reads paths base k number)) (store_start sources cache_bytes before.sinks.errors before.sinks.code) last
+  pub errors : after.sinks.errors ≡ last.loader.errors
+  pub code : after.sinks.code ≡ last.loader.code
+  pub input_failed : after.input.failed ≡ is_read_fault end.result
+  pub untouched : end.result ≡ Err Memory → (after.input ≡ before.input) × (after.sinks.output ≡ before.sinks.output)
+  pub status : end.status ≡ last.loader.status
+  pub maps : end.maps ≡ both_counted last.cache.read (length sources.words)
+  pub missing : end.missing ≡ last.cache.missing - last.loader.refused
+  pub refused : end.refused ≡ last.loader.refused
+  pub lost : end.lost ≡ last.loader.lost
+  pub shortages : end.shortages ≡ last.cache.shortages
+
+-- ---- what is reported at the end
+
+-- that memory ran out for some maps is reported with this status, where it did
+abbrev pub ReportsShortage : (shortages status : ℕ) → (before after : SinkSeen) → Type 0
+ReportsShortage shortages status before after =
+    MatchBool (shortages == 0) ((status ≡ 0) × (after ≡ before)) ((status ≡ 3) × IsReportedTo before after memory_line)
+
+-- what the run came to, and behind what it wrote that memory ran out for some maps; and the status of all
+abbrev pub EndsRun : {C : Type 0} → StoreEnd C → Result C LineFault → (status : ℕ) → (before after : Sinks) → Type 0
+EndsRun end (Ok counts) status before after =
+    (reported : ℕ) × (between : Sinks) × (short : ℕ) × Ends (answer []) reported before between × (after.output ≡ between.output) × (after.code ≡ between.code)
+    × ReportsShortage end.shortages short between.errors after.errors × (status ≡ max (max end.status reported) short)
+EndsRun end (Err fault) status before after =
+    (reported : ℕ) × Ends (fault_report fault) reported before after × (status ≡ max end.status reported)
+
+abbrev pub EndsStore : {C : Type 0} → StoreEnd C → (status : ℕ) → (before after : Sinks) → Type 0
+EndsStore end status before after = EndsRun end end.result status before after
