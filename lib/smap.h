@@ -58,18 +58,32 @@ typedef struct smap_text { const uint8_t *bytes; size_t length; } smap_text;
 #define SMAP_TEXT { (const uint8_t *)"", 0 }
 #endif
 
-/* Why a map is not read: the number of the refusal, M1 to M18, or one of those of the base. The others are 0 where the
- * refusal has no such part. */
-#define SMAP_BASE_NO_URL 0    /* the base is no URL */
-#define SMAP_BASE_TOO_LONG 19 /* the base has more bytes than can be worked on, about 4,294,967,296 */
+/* Why something is refused: a code of the program, or 0 for none. A number is of the same code from 0.3.0 on. */
+typedef uint32_t smap_code;
+enum {
+    SMAP_CODE_M1 = 1, SMAP_CODE_M2, SMAP_CODE_M3, SMAP_CODE_M4, SMAP_CODE_M5, SMAP_CODE_M6, SMAP_CODE_M7,
+    SMAP_CODE_M8, SMAP_CODE_M9, SMAP_CODE_M10, SMAP_CODE_M11, SMAP_CODE_M12, SMAP_CODE_M13, SMAP_CODE_M14,
+    SMAP_CODE_M15, SMAP_CODE_M16, SMAP_CODE_M17, SMAP_CODE_M18,
+    SMAP_CODE_F1, SMAP_CODE_F2, SMAP_CODE_F3, SMAP_CODE_F4, SMAP_CODE_F5, SMAP_CODE_F6, SMAP_CODE_F7,
+    SMAP_CODE_F8, SMAP_CODE_F9, SMAP_CODE_F10, SMAP_CODE_F11,
+    SMAP_CODE_B1, SMAP_CODE_B2, SMAP_CODE_B3, SMAP_CODE_B4, SMAP_CODE_B5,
+    SMAP_CODE_O1, SMAP_CODE_O2, SMAP_CODE_C1, SMAP_CODE_C2, SMAP_CODE_C3, SMAP_CODE_C4, SMAP_CODE_E1,
+    SMAP_CODE_E2, SMAP_CODE_E3, SMAP_CODE_E4, SMAP_CODE_U1, SMAP_CODE_U2,
+    SMAP_CODE_A1, SMAP_CODE_A2, SMAP_CODE_A3, SMAP_CODE_P1, SMAP_CODE_P2, SMAP_CODE_X1, SMAP_CODE_X2,
+    SMAP_CODE_X3, SMAP_CODE_X4, SMAP_CODE_X5,
+    SMAP_CODE_TEXT_TOO_LONG, SMAP_CODE_NOT_UTF8, SMAP_CODE_DEVICE, SMAP_CODE_MEMORY, SMAP_CODE_USAGE,
+    SMAP_CODE_REFUSED
+};
 
+/* Why a map is not read: M1 to M18, or of its base `usage`, it is no URL, or U1, it has about 4,294,967,296 bytes or more. What the
+ * refusal does not have is 0. */
 typedef struct smap_refusal {
-    uint32_t number;
-    uint32_t fault;   /* the first fault of the mappings, F1 to F11 */
-    uint32_t line;    /* its generated line */
-    uint32_t build;   /* why no index is built, B1 to B5 */
-    uint64_t section; /* the section */
-    uint64_t byte;    /* where the faulty segment begins in the mappings */
+    smap_code code;
+    smap_code cause;      /* of M14 the first fault of the mappings, F1 to F11, and of M15 why no index is built, B1 to B5 */
+    uint32_t line;        /* the generated line of that fault */
+    uint32_t has_section; /* 1 where it is of a section */
+    uint64_t section;     /* the section */
+    uint64_t byte;        /* where the faulty segment begins in the mappings */
 } smap_refusal;
 
 /* What is known of a value for which a segment of the mappings is refused, and of what it may be: lines, columns and indices as
@@ -96,8 +110,8 @@ typedef struct smap_found {
 /* A mapping: where it stands in the generated file, and what it answers, as smap_found has it. */
 typedef struct smap_mapping { uint32_t line, column, kind, source, original_line, original_column, named, name; } smap_mapping;
 
-/* Why mappings have no text: 1 to 3, that of E1 to E3, and the number of the first mapping that is refused, 0 of E3. */
-typedef struct smap_encode_refusal { uint32_t number; uint64_t mapping; } smap_encode_refusal;
+/* Why mappings have no text: E1 to E3, and the number of the first mapping that is refused, 0 of E3. */
+typedef struct smap_encode_refusal { smap_code code; uint64_t mapping; } smap_encode_refusal;
 
 typedef struct smap_position { uint32_t line, column; } smap_position;
 
@@ -162,9 +176,9 @@ typedef struct smap_rewrite_options { bool hide_ignored, anywhere, strip_ansi, c
 /* What was in a trace: its lines, how many were frames, and how many of these were replaced and hidden. */
 typedef struct smap_trace_count { uint64_t lines, frames, mapped, hidden; } smap_trace_count;
 
-/* Why a text is not rewritten: it has too many bytes (3, X3); more bytes would come out than are taken (5, X5), and `lines` is how
- * many whole lines of them fit; or places are asked for anywhere and a map is under `*` alone (0). */
-typedef struct smap_rewrite_refusal { uint32_t number; uint64_t lines; } smap_rewrite_refusal;
+/* Why a text is not rewritten: it has too many bytes (X3); more bytes would come out than are taken (X5), and `lines` is how
+ * many whole lines of them fit; or places are asked for anywhere and a map is under `*` alone (`usage`). */
+typedef struct smap_rewrite_refusal { smap_code code; uint64_t lines; } smap_rewrite_refusal;
 
 /* Why a URL has no map: there is none, or what should give it failed. */
 #define SMAP_MISSING 0
@@ -201,7 +215,7 @@ uint32_t smap_map_read(const uint8_t *bytes, size_t length, const uint8_t *base,
                        uint32_t interval, smap_map *map, smap_refusal *refusal);
 
 /* The same, where the names of all sources may be made of at most `most_names` bytes: each of those of the base, of what `sourceRoot`
- * puts before it, and of its own text. Where there are more, it is refused (18, M18) before a name is made. Without a bound a file of
+ * puts before it, and of its own text. Where there are more, it is refused (M18) before a name is made. Without a bound a file of
  * 64 KiB can ask for 350 MB of names, and one of 1 MiB for 90 GB. A name has at most three times as many bytes as it is made of. */
 uint32_t smap_map_read_within(const uint8_t *bytes, size_t length, const uint8_t *base, size_t base_length, uint32_t interval,
                               uint64_t most_names, smap_map *map, smap_refusal *refusal);
@@ -219,13 +233,14 @@ uint32_t smap_map_share(smap_map *map, smap_map *other);
 /* Leaves the handle empty, and frees the map where nothing else holds it. */
 void smap_map_free(smap_map *map);
 
-/* Writes what the program prints on this refusal of a map file behind the file's path, as "M2 NotJson", with no line end.
- * Returns 1 where no refusal of a map has these numbers, as those of a base. The bytes are freed by smap_bytes_free. */
-uint32_t smap_refusal_text(const smap_refusal *refusal, smap_bytes *bytes);
+/* Lends what the program prints of this code, as "M14 Text" or, of a word, "NotUtf8". It stays. Returns 1 where no code has the
+ * number. */
+uint32_t smap_code_text(smap_code code, smap_text *text);
 
-/* Says why the map file of these bytes is refused, which smap_map_read has refused so: in sentences, each in a line that begins
- * with two blanks and ends with LF, and none where nothing more is known, and by the value of a faulty segment. In the
- * sentences lines and columns count from 1. The file is read again, which takes as long and as much memory as the first time.
+/* Says why the map file of these bytes is refused, which smap_map_read has refused so: by what the program prints behind the
+ * file's path, as "M2 NotJson", in a line; in sentences, each in a line that begins with two blanks, and none where nothing more
+ * is known; and by the value of a faulty segment. Each line ends with LF, and in them lines and columns count from 1. The file is
+ * read again, which takes as long and as much memory as the first time.
  * Returns 1 where no refusal of a map has these numbers, as those of a base. The bytes `text` are freed by smap_bytes_free. */
 uint32_t smap_refusal_explain(const uint8_t *bytes, size_t length, const smap_refusal *refusal, smap_reason *reason,
                               smap_bytes *text);
@@ -258,24 +273,17 @@ uint32_t smap_map_mappings(smap_map *map, smap_bytes *bytes);
 
 /* Hands out the text that a map has of these mappings, as its `mappings`. They have the fields of smap_map_mappings: an original
  * where `kind` is 2, and it a name where `named` is not 0. Where it returns 1, `refusal` says why: one stands before the one in
- * front of it, by line and then by column (1), has a number past 2,147,483,647 (2), or the text would have more than
- * 67,108,864 bytes (3). The bytes are freed by smap_bytes_free. */
+ * front of it, by line and then by column (E1), has a number past 2,147,483,647 (E2), or the text would have more than
+ * 67,108,864 bytes (E3). The bytes are freed by smap_bytes_free. */
 uint32_t smap_encode(const smap_mapping *mappings, size_t count, smap_bytes *bytes, smap_encode_refusal *refusal);
 
-/* Lends what is said of this refusal of smap_encode, "E1 NotSorted", "E2 OutOfRange" or "E3 TooLong". Returns 1 for another
- * number. */
-uint32_t smap_encode_refusal_text(uint32_t refusal, smap_text *text);
-
 /* Says how many bytes of the generated file each source makes: `places` numbers at `sources`, which is the map's number of
- * sources, and `unmapped`. Returns 1 where the text is not UTF-8 (`refusal` 1) or has more than 67,108,864 bytes (`refusal` 2). */
+ * sources, and `unmapped`. Returns 1 where the text is not UTF-8 (`NotUtf8`) or has more than 67,108,864 bytes (M1). */
 uint32_t smap_bytes_by_source(smap_map *map, const uint8_t *generated, size_t length, uint64_t *sources, size_t places,
-                              uint64_t *unmapped, uint32_t *refusal);
+                              uint64_t *unmapped, smap_code *refusal);
 
 /* Says whether the map can be that of this generated file. Returns 1 as smap_bytes_by_source does. */
-uint32_t smap_fit(smap_map *map, const uint8_t *generated, size_t length, smap_fit_count *counts, uint32_t *refusal);
-
-/* Lends what the program prints on this refusal of both, "NotUtf8" or "TooLarge". Returns 1 for another number. */
-uint32_t smap_generated_refusal_text(uint32_t refusal, smap_text *text);
+uint32_t smap_fit(smap_map *map, const uint8_t *generated, size_t length, smap_fit_count *counts, smap_code *refusal);
 
 /* Gives how much the map holds. Returns 0. */
 uint32_t smap_counts(const smap_map *map, smap_count *counts);
@@ -296,14 +304,14 @@ uint32_t smap_source_lines(const smap_map *map, uint32_t source, uint32_t line, 
                            smap_line_bytes *lines, size_t places, smap_line_range *range);
 
 /* Writes the map as the text of one regular map. Returns 1 where its mappings, as one text, would have more than
- * 67,108,864 bytes. The bytes are freed by smap_bytes_free. */
+ * 67,108,864 bytes (O1). The bytes are freed by smap_bytes_free. */
 uint32_t smap_map_write(smap_map *map, smap_bytes *bytes);
 
 /* Composes two maps, the inner one being of source `source` of the outer one, and writes the map that they come to. They are
  * two handles: to compose a map with itself, share it.
- * Where it returns 1, `refusal` is 1 where the outer map has no such source, and 2 where the composed map would be too
- * large. The bytes are freed by smap_bytes_free. */
-uint32_t smap_compose(smap_map *outer, uint32_t source, smap_map *inner, smap_bytes *bytes, uint32_t *refusal);
+ * Where it returns 1, the outer map has no such source (C1), or the composed map would be too
+ * large (C2). The bytes are freed by smap_bytes_free. */
+uint32_t smap_compose(smap_map *outer, uint32_t source, smap_map *inner, smap_bytes *bytes, smap_code *refusal);
 
 /* Makes a place for the map of each source of `outer`, all without a map. Later calls with these places want the same map as
  * `outer`. */
@@ -322,7 +330,7 @@ uint32_t smap_inners_take(smap_inners *inners, uint32_t source, smap_map *map);
  * came to stands for `outer`, and has a place for each of its sources. The new ones stand behind the others, and are asked for
  * in turn. Where it returns 1, `refusal` is 0 where no map is wanted any more, and else as for smap_compose_all; then the
  * places stay as they were. */
-uint32_t smap_inners_next(smap_map *outer, smap_inners *inners, uint32_t *source, uint32_t *refusal);
+uint32_t smap_inners_next(smap_map *outer, smap_inners *inners, uint32_t *source, smap_code *refusal);
 
 /* Lends the name of source `source` of those that have a place, until the next call with `outer` or `inners`. Returns 1 where
  * there is none. */
@@ -331,21 +339,14 @@ uint32_t smap_inners_name(smap_map *outer, smap_inners *inners, uint32_t source,
 /* Composes a map with the maps of its sources, all at once, and writes the map that they come to: as smap_compose does with
  * one after another, from the least source on. Sources keep their names, save one: where a source of `outer` is called by no
  * URL, and one of its inner map by a relative path, this path goes on from the folder of that name. So "dist/a.js" and
- * "../src/a.ts" give "src/a.ts". The maps stay in their places. Where it returns 1, `refusal` is 1 where there are more
- * places than `outer` has sources, and 2 where the composed map would be too large. The bytes are freed by
+ * "../src/a.ts" give "src/a.ts". The maps stay in their places. Where it returns 1, there are more
+ * places than `outer` has sources (C1), or the composed map would be too large (C2). The bytes are freed by
  * smap_bytes_free. */
 uint32_t smap_compose_all(smap_map *outer, smap_inners *inners, const smap_compose_options *options, smap_bytes *bytes,
-                          uint32_t *refusal);
+                          smap_code *refusal);
 
 /* Frees the places, with those of the maps in them that nothing else holds, and leaves their handle empty. */
 void smap_inners_free(smap_inners *inners);
-
-/* Lends what the program prints on this refusal of smap_compose and smap_compose_all, "C1 SourceIndex" or "C2 TooLarge", and
- * of 4, that no source has the name that a map is given for, "C4 NoSource". Returns 1 where they have none of this number. */
-uint32_t smap_compose_refusal_text(uint32_t refusal, smap_text *text);
-
-/* Lends what the program prints where smap_map_write returns 1, which is refusal 1: "O1 TextTooLong". Returns 1 for another number. */
-uint32_t smap_write_refusal_text(uint32_t refusal, smap_text *text);
 
 /* Lends bytes that were handed out. Returns 0. */
 uint32_t smap_bytes_text(smap_bytes *bytes, smap_text *text);
@@ -363,16 +364,13 @@ uint32_t smap_table_new(smap_table *table);
  * ends, as it stands or before its first `?` or `#`, with the text behind the `*`, where that is empty, begins with `/` or `\`, stands
  * behind one of both, or is the whole. It is the map of those under which there is none, save modules of node's own (`node:fs`) and what
  * was evaluated (`URL line 1 > eval`). Of several the longest text decides, of two as long the first that was added.
- * The table takes the map over: its handle is empty then. Where it returns 1, `refusal` is 1 where no frame can name such a URL, 2
- * where the table has a map under it, and 0 where the URL is not UTF-8, and the map stays in its handle. Where it returns 3, which no
+ * The table takes the map over: its handle is empty then. Where it returns 1, no frame can name such a URL (A1), the table
+ * has a map under it (A2), or the URL is not UTF-8 (`NotUtf8`), and the map stays in its handle. Where it returns 3, which no
  * such URL gets, the map is freed, and its handle is empty. */
-uint32_t smap_table_add(smap_table *table, const uint8_t *url, size_t url_length, smap_map *map, uint32_t *refusal);
+uint32_t smap_table_add(smap_table *table, const uint8_t *url, size_t url_length, smap_map *map, smap_code *refusal);
 
 /* The same, where the table holds the map with the handle, which stays as it is. */
-uint32_t smap_table_add_shared(smap_table *table, const uint8_t *url, size_t url_length, smap_map *map, uint32_t *refusal);
-
-/* Lends what the program prints on this refusal of smap_table_add, "A1 BadUrl" or "A2 Twice". Returns 1 for another number. */
-uint32_t smap_table_refusal_text(uint32_t refusal, smap_text *text);
+uint32_t smap_table_add_shared(smap_table *table, const uint8_t *url, size_t url_length, smap_map *map, smap_code *refusal);
 
 /* Looks a generated position up in the map of this URL, as smap_look_up does, and lends the source that answers and the name
  * of the mapping; what there is not has length 0. Returns 1 where the table has no such map. */
@@ -408,9 +406,6 @@ uint32_t smap_rewrite_with(smap_table *table, const uint8_t *text, size_t length
  * makes gigabytes of a trace of 1 MB. Where it returns 1, `refusal` says why, and how far it came. */
 uint32_t smap_rewrite_within(smap_table *table, const uint8_t *text, size_t length, const smap_rewrite_options *options, uint64_t most,
                              smap_bytes *bytes, smap_trace_count *counts, smap_rewrite_refusal *refusal);
-
-/* Lends what is said of these refusals, of 3 "X3 TooMuch" and of 5 "X5 LongOutput". Returns 1 for another number. */
-uint32_t smap_rewrite_refusal_text(uint32_t refusal, smap_text *text);
 
 /* Finds the URL of the next frame of a trace, from byte `from` on, at which a line begins: 0, or `next` of the frame
  * before. Returns 1 where no frame follows. With it the maps of a trace can be read once frames name them. */
@@ -502,8 +497,8 @@ uint32_t smap_rewriting_end(smap_rewriting *rewriting);
  * 0 where all is done that can be decided of the bytes that were given;
  * 2 before a frame or a place of whose URL it is not known what map it has: smap_rewriting_url lends it. Once that is put, under what
  *   smap_store_key lends of it, the next call goes on from there;
- * 1 before what would make more come out than may: `refusal` has number 5 (X5), and how many whole lines were written, those that were
- *   let go of, too; or, with number 0, where places are rewritten and the table has a map under `*` alone;
+ * 1 before what would make more come out than may: `refusal` has X5, and how many whole lines were written, those that were
+ *   let go of, too; or, with `usage`, where places are rewritten and the table has a map under `*` alone;
  * 3 before a line, bytes or a place for which there is no memory: the next call goes on with that.
  * What stands before is written. */
 uint32_t smap_rewriting_run(smap_rewriting *rewriting, smap_table *table, smap_store *store, uint64_t now,

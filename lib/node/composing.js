@@ -3,10 +3,9 @@
 const addon = require('./addon.js');
 const given = require('./given.js');
 const { TraceMap, USUALLY, namesOf, open, read, standingAt } = require('./map.js');
-const { refusedComposition, refusedSource } = require('./refused.js');
+const { refusedAs } = require('./refused.js');
 
-// The number of C1.
-const NO_SOURCE = 1;
+const { C1, C2, C4 } = addon.codes;
 
 // The text of the map that two maps come to, the inner one being of this source of the outer one, from 0; as a Buffer.
 function compose(outer, source, inner) {
@@ -19,7 +18,7 @@ function compose(outer, source, inner) {
 function composedWithItself(map, source) {
   const text = addon.write(open(map));
   // Where it is too large to be written, so is what it would come to, which has the same generated positions.
-  if (text === null) throw refusedComposition(source < map.counts.sources ? 2 : NO_SOURCE);
+  if (text === null) throw refusedAs(source < map.counts.sources ? C2 : C1);
   const copy = new TraceMap(text);
   try {
     return compose(map, source, copy);
@@ -64,7 +63,7 @@ function byNumber(names, inners) {
   const placed = new Map();
   for (const [key, map] of inners[Symbol.iterator] ? inners : Object.entries(inners)) {
     const numbers = typeof key === 'string' ? named.get(key) : [given.source(key)];
-    if (numbers === undefined) throw refusedSource(key);
+    if (numbers === undefined) throw refusedAs(C4, ` ${key}`);
     for (const number of numbers) {
       if (placed.has(number)) throw new Error(`source ${number} has two maps`);
       placed.set(number, map);
@@ -77,7 +76,7 @@ function byNumber(names, inners) {
 function ask(handle, places, load) {
   const loaded = new Map();
   for (let number; (number = addon.nextInner(handle, places)) !== null; ) {
-    if (number < 0) throw refusedComposition(-number);
+    if (number < 0) throw refusedAs(-number);
     const name = addon.innerName(handle, places, number);
     if (!loaded.has(name)) loaded.set(name, load(name));
     const map = loaded.get(name);
@@ -90,12 +89,12 @@ function put(places, number, name, map) {
   const handle = map instanceof TraceMap ? read(map.write(), '', USUALLY) : standingAt(given.mapBytes(map), name);
   if (addon.putInner(places, number, handle)) return;
   addon.closeMap(handle);
-  throw refusedComposition(NO_SOURCE);
+  throw refusedAs(C1);
 }
 
-// The text that a call of the addon gives, or else the number of its refusal.
+// The text that a call of the addon gives, or else the code of its refusal.
 function textOf(reported) {
-  if (typeof reported === 'number') throw refusedComposition(reported);
+  if (typeof reported === 'number') throw refusedAs(reported);
   return reported;
 }
 

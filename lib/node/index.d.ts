@@ -12,18 +12,14 @@ declare global {
 export const GREATEST_LOWER_BOUND: 1;
 export const LEAST_UPPER_BOUND: -1;
 
-/** What was given is refused. The numbers are the library's; all but the first are there where a map is refused. The message is
- * the program's line and, of a map that is refused, the lines of the explanation. */
+/** What was given is refused. The message is the program's line and, of a map that is refused, the lines of the explanation. */
 export class Refused extends Error {
-  /** Of a map that of M1 to M18, or 0 where the base is no URL and 19 where it is too long; of others that of C1, C2 and
-   * C4, A1 and A2, E1 and E3, or X3 and X5, and of a generated file 1 where it is not UTF-8 and 2 where it is too large. */
-  number?: number;
-  /** That of the fault of the mappings, F1 to F11, or 0. */
-  fault?: number;
+  /** The program's, as "M14": of a map M1 to M18, and of its base "usage" where that is no URL and "U1" where it is too long. */
+  code: string;
+  /** The fault of the mappings of a map, as "F10", or why no index is built, as "B2". */
+  cause?: string;
   /** The generated line of the faulty segment, from 0. */
   line?: number;
-  /** Why no index is built, B1 to B5, or 0. */
-  build?: number;
   /** The section, from 0. */
   section?: number;
   /** Where the faulty segment begins in the mappings, from 0. */

@@ -3,10 +3,10 @@
 const { inspect } = require('util');
 const addon = require('./addon.js');
 const given = require('./given.js');
-const { NUMBERS, each, encoded } = require('./mappings.js');
-const { numbersTo, outlineOf, renamed } = require('./outline.js');
+const { each, encoded, lastLine } = require('./mappings.js');
+const { Outline, numbersTo, renamed } = require('./outline.js');
 const { besideMap, isPath } = require('./paths.js');
-const { BAD_BASE, Refused, refusedGenerated, refusedMap, refusedWriting } = require('./refused.js');
+const { Refused, refusedAs, refusedMap } = require('./refused.js');
 
 // How an absolute path begins.
 const PATH = /^(\/|[A-Za-z]:[/\\])/;
@@ -22,29 +22,17 @@ const DISPOSE = Symbol.dispose || Symbol.for('nodejs.dispose');
 // How a map is read where nothing is said.
 const USUALLY = given.reading();
 
-// The map of these bytes, which is so read, as a handle. `url` is that which a refusal names.
-function read(bytes, base, { interval, maxNames }, url) {
+// The map of these bytes, which is so read, as a handle; at none, where that may be, if the base is no URL. `url` is that which a refusal
+// names.
+function read(bytes, base, { interval, maxNames }, url, orAtNone = false) {
   const numbers = new Float64Array(6);
-  const map = addon.read(bytes, Buffer.from(base), interval, maxNames, numbers);
+  const map = addon.read(bytes, Buffer.from(base), orAtNone, interval, maxNames, numbers);
   if (map === null) throw refusedMap(bytes, numbers, base, url);
   return map;
 }
 
-// The map at a base, as it is read; where that is no URL, by the other function.
-function readOr(other, readAtBase, base) {
-  try {
-    return readAtBase(base);
-  } catch (refused) {
-    if (refused instanceof Refused && refused.number === BAD_BASE) return other(refused);
-    throw refused;
-  }
-}
-
 // The map of these bytes at its URL, or at none where that is no URL, or where there is none.
-function standingAt(bytes, url, how = USUALLY) {
-  if (url === null || url === undefined) return read(bytes, '', how);
-  return readOr(() => read(bytes, '', how, url), (base) => read(bytes, base, how, url), url);
-}
+const standingAt = (bytes, url, how = USUALLY) => read(bytes, url ?? '', how, url ?? undefined, true);
 
 // The map that is given under a URL, as a handle: a TraceMap's own, or that of these bytes, which stands there. With `paths` one whose URL
 // is an absolute path stands at none, and has its sources named by that; where others hold the map, one that is read again.
@@ -63,18 +51,20 @@ function named(handle, url) {
 }
 
 function outlineIn(bytes, map) {
-  const outline = outlineOf(bytes);
+  const outline = Outline.of(bytes);
   // The text of no lines is that of one line without segments.
-  if (Array.isArray(map.mappings) && map.mappings.length === 0) outline.least = 0;
+  if (Array.isArray(map.mappings) && map.mappings.length === 0) outline.all.least = 0;
   return outline;
 }
 
 // The map of these bytes at a URL or a path, or at none.
 function readAt(bytes, base, how) {
-  return readOr((refused) => {
-    if (!isPath(base)) throw refused;
+  try {
+    return read(bytes, base, how, base || undefined);
+  } catch (refused) {
+    if (!(refused instanceof Refused) || refused.code !== 'usage' || !isPath(base)) throw refused;
     return readAtPath(bytes, base, how);
-  }, () => read(bytes, base, how, base || undefined), base);
+  }
 }
 
 // No call of the library takes a path, so the names of the sources are put into the map.
@@ -99,14 +89,10 @@ class Made {
     [this.handle, this.outline, this.bytes, this.map] = [handle, outline, bytes, map];
   }
 
+  // About how many bytes of memory a map takes with its index of originals, if that was made, and what else its text has.
   get size() {
-    return sizeOf(this.handle, this.outline);
+    return addon.size(this.handle) + this.outline.size;
   }
-}
-
-// About how many bytes of memory a map takes with its index of originals, if that was made, and what else its text has.
-function sizeOf(handle, { sources = '', sourceRoot = '', ignoreList = '' }) {
-  return addon.size(handle) + sources.length + sourceRoot.length + ignoreList.length;
 }
 
 // The names of the sources of a map.
@@ -114,12 +100,15 @@ function namesOf(handle) {
   return Array.from({ length: addon.counts(handle).sources }, (_, index) => addon.sourceName(handle, index));
 }
 
-function open(map) {
+// What a map has that is open.
+function opened(map) {
   if (!(map instanceof TraceMap)) throw new TypeError('a TraceMap is wanted');
-  const { handle } = map.inner;
-  if (!handle) throw new Error('the map is closed');
-  return handle;
+  const { inner } = map;
+  if (!inner.handle) throw new Error('the map is closed');
+  return inner;
 }
+
+const open = (map) => opened(map).handle;
 
 // Looks a line and a column up, both from 0, in the map of this handle, in this way: 0, WITH_IGNORED, or as tracing.js has it. What
 // is answered stands in the room from its fourth number on.
@@ -139,17 +128,17 @@ function once(map, key, make) {
   return made.get(key);
 }
 
-// How many generated lines a map of these mappings has.
-function linesOf(map, numbers) {
-  const { least, behind } = map.inner.outline;
-  return Math.max(numbers.length ? numbers[numbers.length - NUMBERS] + 1 : 0, least) + behind;
+// How many generated lines a map has whose last mapping stands on this line, or -1 where there is none.
+function linesOf(map, last) {
+  const { least, behind } = map.inner.outline.all;
+  return Math.max(last + 1, least) + behind;
 }
 
 // The mappings as a text.
 function encodedMappings(map) {
   return once(map, 'encoded', (handle) => {
     const numbers = addon.mappings(handle);
-    return encoded(numbers, linesOf(map, numbers));
+    return encoded(numbers, linesOf(map, lastLine(numbers)));
   });
 }
 
@@ -161,13 +150,14 @@ function withMappings(map, mappings) {
 
 // What the JSON of a regular map has by this key.
 function json(map, key) {
-  return once(map, key, () => map.inner.outline[key] && JSON.parse(map.inner.outline[key]));
+  return once(map, key, () => map.inner.outline.value(key));
 }
 
 // The contents of the sources, which are kept no longer than they are in use.
 function contentsOf(map) {
   const handle = open(map);
-  const { made, outline: { isIndex, contents } } = map.inner;
+  const { made, outline } = map.inner;
+  const { isIndex, contents } = outline.all;
   if (!isIndex && contents === undefined) return undefined;
   const kept = made.get('contents') && made.get('contents').deref();
   if (kept) return kept;
@@ -191,9 +181,9 @@ const members = {
   },
   names: (map) => once(map, 'names', () => numbersTo(map.counts.names).map((index) => map.nameAt(index))),
   sourceRoot: (map) => json(map, 'sourceRoot'),
-  sources: (map) => (open(map) && map.inner.outline.isIndex ? map.resolvedSources : json(map, 'sources')),
+  sources: (map) => (opened(map).outline.all.isIndex ? map.resolvedSources : json(map, 'sources')),
   sourcesContent: contentsOf,
-  ignoreList: (map) => (open(map) && map.inner.outline.isIndex ? once(map, 'ignored', ignored) : json(map, 'ignoreList')),
+  ignoreList: (map) => (opened(map).outline.all.isIndex ? once(map, 'ignored', ignored) : json(map, 'ignoreList')),
   resolvedSources: (map) =>
     once(map, 'resolvedSources', () => numbersTo(map.counts.sources).map((index) => map.sourceAt(index))),
 };
@@ -261,7 +251,8 @@ class TraceMap {
 
   // About how many bytes of memory the map takes.
   get nbytes() {
-    return sizeOf(open(this), this.#inner.outline);
+    const { handle, outline } = opened(this);
+    return addon.size(handle) + outline.size;
   }
 
   // Where a generated position comes from, the line from 1 and the column from 0: {source, line, column, name, ignored, index}, or null
@@ -312,7 +303,7 @@ class TraceMap {
   // How many bytes of the generated file, a text or a Uint8Array, come from each source, and from none.
   bytesBySource(generated) {
     const reported = addon.bytesBySource(open(this), given.bytes(generated, 'generated'));
-    if (typeof reported === 'number') throw refusedGenerated(reported);
+    if (typeof reported === 'number') throw refusedAs(reported);
     const sources = Array.from(reported);
     const unmapped = sources.pop();
     return { sources, unmapped };
@@ -322,7 +313,7 @@ class TraceMap {
   fit(generated) {
     const counts = new Float64Array(7);
     const refusal = addon.fit(open(this), given.bytes(generated, 'generated'), counts);
-    if (refusal !== undefined) throw refusedGenerated(refusal);
+    if (refusal !== undefined) throw refusedAs(refusal);
     const [mappings, past, inside, compared, outside, same, fits] = counts;
     return { fits: fits === 1, mappings, past, inside, compared, outside, same };
   }
@@ -330,7 +321,7 @@ class TraceMap {
   // The text of one regular map that states the same, as a Buffer.
   write() {
     const text = addon.write(open(this));
-    if (text === null) throw refusedWriting();
+    if (text === null) throw refusedAs(addon.codes.O1);
     return text;
   }
 
@@ -381,7 +372,6 @@ module.exports = {
   open,
   outlineIn,
   read,
-  readOr,
   sourceContext,
   standingAt,
   standingUnder,

@@ -2,7 +2,7 @@
 // The mappings of a map one after the other, of numbers as the addon hands them out: eight each, which are the generated line and
 // column, the kind, the source, the original line and column, whether there is a name, and the name.
 const addon = require('./addon.js');
-const { refusedEncoding, refusedWriting } = require('./refused.js');
+const { refusedAs, refusedEncoding } = require('./refused.js');
 
 const NUMBERS = 8;
 const [UNMAPPED, MAPPED] = [1, 2];
@@ -31,24 +31,44 @@ function* each(numbers, sources, names) {
 }
 
 function segmentAt(numbers, at) {
-  const column = numbers[at + 1];
-  if (numbers[at + 2] !== MAPPED) return [column];
-  const [source, line, originalColumn] = [numbers[at + 3], numbers[at + 4], numbers[at + 5]];
-  return numbers[at + 6] ? [column, source, line, originalColumn, numbers[at + 7]] : [column, source, line, originalColumn];
+  if (numbers[at + 2] !== MAPPED) return [numbers[at + 1]];
+  const isNamed = numbers[at + 6] !== 0;
+  if (!isNamed) return [numbers[at + 1], numbers[at + 3], numbers[at + 4], numbers[at + 5]];
+  return [numbers[at + 1], numbers[at + 3], numbers[at + 4], numbers[at + 5], numbers[at + 7]];
 }
 
 function checkLines(count) {
-  if (count > MOST_LINES) throw refusedWriting();
+  if (count > MOST_LINES) throw refusedAs(addon.codes.O1);
 }
 
-// So many lines of segments, of a map of so many bytes.
-function decoded(numbers, count, bytes) {
-  checkLines(count);
-  const most = Math.max(MOST_LISTED, LISTED_A_BYTE * bytes);
-  if (count > most) throw new RangeError(`the map has ${count} lines, and a list of at most ${most} is made of its ${bytes} bytes`);
+// The mappings of a map come in pieces of so many numbers, in one room.
+const piece = new Uint32Array(NUMBERS * 4096);
+const nothing = new Uint32Array(0);
+
+// The lines of segments of the map of this handle, which has so many bytes; how many lines those are is told by the last one with a mapping.
+function decoded(handle, linesOf, bytes) {
+  try {
+    const count = linesOf(addon.listMappings(handle));
+    checkLines(count);
+    const most = Math.max(MOST_LISTED, LISTED_A_BYTE * bytes);
+    if (count > most) throw new RangeError(`the map has ${count} lines, and a list of at most ${most} is made of its ${bytes} bytes`);
+    return listed(count);
+  } finally {
+    addon.nextMappings(nothing);
+  }
+}
+
+// So many lines of what is handed out.
+function listed(count) {
   const lines = [];
-  while (lines.length < count) lines.push([]);
-  for (let at = 0; at < numbers.length; at += NUMBERS) lines[numbers[at]].push(segmentAt(numbers, at));
+  let segments = [];
+  for (let size; (size = addon.nextMappings(piece)) > 0; ) {
+    for (let at = 0; at < size; at += NUMBERS) {
+      for (; lines.length < piece[at]; segments = []) lines.push(segments);
+      segments.push(segmentAt(piece, at));
+    }
+  }
+  for (; lines.length < count; segments = []) lines.push(segments);
   return lines;
 }
 
@@ -76,14 +96,16 @@ function putSegment(line, segment, numbers) {
   numbers.push(line, column, kind, source, originalLine, originalColumn, segment.length === 5 ? 1 : 0, name);
 }
 
+// The line of the last mapping of these numbers, or -1.
+const lastLine = (numbers) => (numbers.length ? numbers[numbers.length - NUMBERS] : -1);
+
 // The text of the mappings of these numbers in so many lines, of which the last may have none.
 function encoded(numbers, count) {
   checkLines(count);
   const refusal = new Float64Array(2);
   const text = addon.encode(numbers, refusal);
   if (text === null) throw refusedEncoding(refusal, numbers);
-  const last = numbers.length ? numbers[numbers.length - NUMBERS] : 0;
-  return text.toString('latin1') + ';'.repeat(Math.max(count - 1 - last, 0));
+  return text.toString('latin1') + ';'.repeat(Math.max(count - 1 - Math.max(lastLine(numbers), 0), 0));
 }
 
-module.exports = { NUMBERS, decoded, each, encoded, mappingAt, numbersOf };
+module.exports = { NUMBERS, decoded, each, encoded, lastLine, mappingAt, numbersOf };

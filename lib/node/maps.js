@@ -5,9 +5,9 @@ const { performance } = require('perf_hooks');
 const addon = require('./addon.js');
 const given = require('./given.js');
 const { Made, TraceMap, sourceContext } = require('./map.js');
-const { outlineFrom } = require('./outline.js');
-const { Store, locationsIn } = require('./store.js');
+const { Store } = require('./store.js');
 const { Told, counted, rewriting, storeOf, wholePart } = require('./table.js');
+const { begun, locationsIn, rewrittenLater } = require('./texts.js');
 
 // A map file with more bytes is refused, and read no further.
 const MOST_FILE = 67108864;
@@ -125,11 +125,10 @@ class Maps extends Told {
     if (this.inner.renews) this.inner.renews();
     let map = this.#near.get(url);
     if (!map || !map.inner.handle) {
-      const key = this.inner.found(this.inner.keyOfMap, url, null);
+      const key = this.inner.found((asked) => this.inner.keyOfMap(asked), url, null);
       if (key === null) return null;
       const kept = this.#kept.get(key);
       map = kept.map && kept.map.deref();
-      if (typeof kept.outline === 'string') kept.outline = outlineFrom(kept.outline);
       if (!map || !map.inner.handle) map = new TraceMap(new Made(this.inner.mapAt(key), kept.outline, kept.bytes));
       kept.map = new WeakRef(map);
     }
@@ -188,7 +187,8 @@ class Maps extends Told {
     this.#kept.set(url, { outline, bytes, size, map: map && new WeakRef(map) });
     if (map) this.#lent.add(map);
     if (this.#kept.size <= this.#mostKept) return;
-    for (const key of this.#kept.keys()) if (!this.inner.holds(key)) this.#kept.delete(key);
+    const left = this.#kept.size > 2 * this.size ? this.#kept.keys() : [];
+    for (const key of left) if (!this.inner.holds(key)) this.#kept.delete(key);
     this.#mostKept = 2 * this.#kept.size + 16;
   }
 }
@@ -234,7 +234,8 @@ async function rewriteAsync(maps, trace, options) {
   if (!(maps instanceof Maps)) throw new TypeError('Maps are wanted');
   const how = rewriting(options);
   const [store, bytes] = [storeOf(maps), given.bytes(trace, 'trace')];
-  const { text, numbers } = await store.rewrittenLater(store.begun(how), wholePart(bytes, how), undefined, { ...how, ahead: bytes });
+  const part = wholePart(bytes, how);
+  const { text, numbers } = await rewrittenLater(store, begun(store, how), part, undefined, { ...how, ahead: bytes });
   maps.counts = counted(numbers, how);
   return text;
 }

@@ -86,12 +86,40 @@ function outlineOf(bytes, parts, count) {
   };
 }
 
-// The same of what the library's addon has found.
-function outlineFrom(text) {
-  const { behind, contents, ...values } = JSON.parse(text);
-  const outline = { isIndex: false, least: 1, behind, contents };
-  for (const [key, value] of Object.entries(values)) outline[key] = JSON.stringify(value);
-  return outline;
+// How many bytes the addon has found.
+const kept = new Float64Array(1);
+
+// An outline, of so many bytes of the text. What the addon has found, as JSON, is read when it is first wanted.
+class Outline {
+  #found;
+  #isParsed = false;
+
+  constructor(found, size) {
+    [this.#found, this.size] = [found, size];
+  }
+
+  // That of a text, in which the addon may find it; where its parts are known, and how many contents there are, as outlineOf has them.
+  static of(bytes, parts, count) {
+    const found = parts ? null : addon.outline(bytes, kept);
+    if (found !== null) return new Outline(found, kept[0]);
+    const outline = outlineOf(bytes, parts, count);
+    const { sources = '', sourceRoot = '', ignoreList = '' } = outline;
+    return new Outline(outline, sources.length + sourceRoot.length + ignoreList.length);
+  }
+
+  get all() {
+    if (typeof this.#found === 'string') {
+      this.#found = { isIndex: false, least: 1, ...JSON.parse(this.#found) };
+      this.#isParsed = true;
+    }
+    return this.#found;
+  }
+
+  // A value of the text by its key, made anew: it is the user's.
+  value(key) {
+    const value = this.all[key];
+    return value && JSON.parse(this.#isParsed ? JSON.stringify(value) : value);
+  }
 }
 
-module.exports = { numbersTo, outlineFrom, outlineOf, renamed };
+module.exports = { Outline, numbersTo, renamed };

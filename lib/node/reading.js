@@ -2,12 +2,10 @@
 // What is given under a URL is read, at once or by another thread.
 const addon = require('./addon.js');
 const given = require('./given.js');
-const { Made, PATH, TraceMap, named, outlineIn, read, readOr, standingUnder } = require('./map.js');
-const { outlineOf } = require('./outline.js');
+const { Made, PATH, TraceMap, named, outlineIn, standingUnder } = require('./map.js');
+const { Outline } = require('./outline.js');
 const { reason, refusedMap } = require('./refused.js');
 
-// A map without mappings.
-const EMPTY = Buffer.from('{"version":3,"sources":[],"mappings":""}');
 // A map of more bytes is read by another thread where that is waited for, and so many are copied at once before.
 const [MOST_AT_ONCE, STEP] = [1 << 20, 1 << 20];
 
@@ -36,13 +34,13 @@ async function madeLater(under, map) {
   if (!isLarge) return madeUnder(under, map);
   const { url, paths, how } = under;
   const [isByPath, bytes] = [paths && PATH.test(url), await copied(map)];
-  const base = isByPath || !isBase(url, how) ? '' : url;
-  const told = await addon.readLater(bytes, Buffer.from(base), how.interval, how.maxNames);
+  const base = isByPath ? '' : url;
+  const told = await addon.readLater(bytes, Buffer.from(base), true, how.interval, how.maxNames);
   if (typeof told[0] === 'number') {
     const numbers = Float64Array.from(told.slice(0, 6));
     throw refusedMap(bytes, numbers, base, isByPath ? undefined : url, () => reason(told.slice(6, 10), told[10]));
   }
-  return new Made(named(told[0], isByPath && url), outlineOf(bytes, told[1], told[2]), bytes.length);
+  return new Made(named(told[0], isByPath && url), Outline.of(bytes, told[1], told[2]), bytes.length);
 }
 
 function madeUnder(under, map) {
@@ -56,17 +54,10 @@ function madeUnder(under, map) {
 function readInto(table, { url, paths, how }, map) {
   if ((typeof map !== 'string' && !(map instanceof Uint8Array)) || (paths && PATH.test(url))) return null;
   const bytes = given.mapBytes(map);
-  const into = (base) => {
-    const outline = addon.readInto(table, url, bytes, Buffer.from(base), how.interval, how.maxNames, numbers);
-    if (outline === undefined) throw refusedMap(bytes, numbers.slice(0, 6), base, url);
-    return { outline: outline === null ? outlineOf(bytes) : outline, bytes: bytes.length, size: numbers[6] };
-  };
-  return readOr(() => into(''), into, url);
-}
-
-// Whether a map can stand at this URL.
-function isBase(url, how) {
-  return readOr(() => false, (base) => read(EMPTY, base, how), url) !== false;
+  const found = addon.readInto(table, url, bytes, Buffer.from(url), true, how.interval, how.maxNames, numbers);
+  if (found === undefined) throw refusedMap(bytes, numbers.slice(0, 6), url, url);
+  const outline = found === null ? Outline.of(bytes) : new Outline(found, numbers[0]);
+  return { outline, bytes: bytes.length, size: numbers[6] };
 }
 
 module.exports = { madeLater, madeUnder, readInto };

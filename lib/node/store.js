@@ -1,11 +1,10 @@
 'use strict';
-// Maps by URL, of those that are given and of those that a loader gives, and the one loop over them: what is wanted is loaded and put, and
-// then it goes on.
+// Maps by URL, of those that are given and of those that a loader gives: what is wanted is loaded and put.
 const addon = require('./addon.js');
 const given = require('./given.js');
 const { Under } = require('./map.js');
 const { madeLater, madeUnder, readInto } = require('./reading.js');
-const { refusedText, refusedUrl } = require('./refused.js');
+const { refusedUrl } = require('./refused.js');
 
 const { room, texts } = addon;
 const ROOM_TABLE = 10;
@@ -14,35 +13,13 @@ const ROOM_IGNORED = 11;
 const [MISSING, FAILED] = [0, 1];
 // What failed is asked for again after so many milliseconds at most, and of so many URLs it is known how often.
 const [MOST_WAIT, MOST_FAILED] = [600000, 1000];
-// A text with more bytes is not rewritten.
-const MOST_TEXT = 1073741824;
-
-// The URLs and paths of the frames of a text for whose maps a loader would be asked, without query and fragment, or those of its places: each
-// once, in their order.
-function locationsIn(bytes, places) {
-  const [found, names] = [addon.locations(bytes, places), new Set()];
-  for (let i = 0; i < found.length; i += 3) {
-    const name = bytes.toString('latin1', found[i], found[i + 1]);
-    names.add(found[i + 2] ? name.replace(/\\\\/g, '\\') : name);
-  }
-  return [...names].map(textOf).filter((name) => name !== null);
-}
-
-// The text of these bytes, which has a character for each, or null where they are not UTF-8.
-function textOf(latin1) {
-  if (!/[^\x00-\x7f]/.test(latin1)) return latin1;
-  const bytes = Buffer.from(latin1, 'latin1');
-  const text = bytes.toString();
-  return Buffer.from(text).equals(bytes) ? text : null;
-}
 
 // What the owner, a table or maps, knows of URLs. `isNamed` is whether only what a frame can name is taken, and `came` is told of each map.
 class Store {
   #owner;
   #options;
-  #atOnce;
   // The URLs that are asked for, with what waits for each, and those that are asked for by a call that has not returned.
-  #asked = new Map();
+  #awaited = new Map();
   #loading = new Set();
   #failures = new Map();
 
@@ -50,20 +27,12 @@ class Store {
     const { load, loadAsync, paths = false, maxNames, atOnce = 8, retryAfter, noneFor, isNamed = false, came = () => {} } = options;
     this.#owner = owner;
     [this.load, this.loadAsync] = [given.callable(load, 'load'), given.callable(loadAsync, 'loadAsync')];
-    this.#atOnce = Math.max(given.count(atOnce, 'atOnce', 1000), 1);
+    this.atOnce = Math.max(given.count(atOnce, 'atOnce', 1000), 1);
     const [retry, none] = [given.time(retryAfter, 'retryAfter', 30000), given.time(noneFor, 'noneFor', null)];
     this.#options = { paths: given.boolean(paths, 'paths'), reading: given.reading({ maxNames }), retry, none, isNamed, came };
     // What is to be done before what is known is asked for, and before it changes.
     [this.renews, this.settles] = [undefined, undefined];
-    this.keyOfMap = (url) => {
-      room[ROOM_TABLE] = this.open.place;
-      return addon.keyOfMap(url);
-    };
     this.handle = addon.newTable(most);
-  }
-
-  get asks() {
-    return Boolean(this.load || this.loadAsync);
   }
 
   get open() {
@@ -90,15 +59,22 @@ class Store {
     addon.closeTable(old);
   }
 
+  // The map of a URL, held by itself; the key of it, which is a use; and the key under which one is wanted. Each is null where there is none.
   mapAt(url) {
-    room[ROOM_TABLE] = this.open.place;
-    return addon.mapAt(url);
+    return this.#asked(addon.mapAt, url);
   }
 
-  // The key under which a map is wanted of this URL, or null.
+  keyOfMap(url) {
+    return this.#asked(addon.keyOfMap, url);
+  }
+
   wanted(url) {
+    return this.#asked(addon.wanted, url);
+  }
+
+  #asked(call, url) {
     room[ROOM_TABLE] = this.open.place;
-    return addon.wanted(url);
+    return call(url);
   }
 
   // Whether it is known what map this URL has, or that it has none; and whether it has one.
@@ -150,9 +126,9 @@ class Store {
   // Calls `go` once it is known what map there is under a key, with what the one threw that is told. The loader is asked once for all that
   // wait; and again, where what is known was discarded meanwhile.
   wait(key, go, tell) {
-    const waiting = this.#asked.get(key);
+    const waiting = this.#awaited.get(key);
     if (waiting) waiting.push(go);
-    else this.#fetch(key, this.#asked.set(key, [go]).get(key), tell);
+    else this.#fetch(key, this.#awaited.set(key, [go]).get(key), tell);
   }
 
   async #fetch(key, waiting, tell) {
@@ -169,7 +145,7 @@ class Store {
         };
       }
     } while (waiting.isStale);
-    this.#asked.delete(key);
+    this.#awaited.delete(key);
     try {
       if (!this.holds(key)) this.#settle(key, came, tell);
     } catch (error) {
@@ -212,9 +188,14 @@ class Store {
       try {
         tell(key, error);
       } finally {
-        addon.putNone(this.changing, key, FAILED, retry === null ? null : Math.min(retry * 2 ** times, Math.max(retry, MOST_WAIT)));
+        this.putFailed(key, retry === null ? null : Math.min(retry * 2 ** times, Math.max(retry, MOST_WAIT)));
       }
     }
+  }
+
+  // Puts that the map under a key failed, for so many milliseconds, or for ever where that is null.
+  putFailed(key, time) {
+    addon.putNone(this.changing, key, FAILED, time);
   }
 
   // Puts a map under this very URL. Its handle is freed, if no TraceMap has it.
@@ -243,7 +224,7 @@ class Store {
     room[ROOM_TABLE] = this.changing.place;
     const key = addon.forget(url);
     this.#failures.delete(key);
-    if (this.#asked.has(key)) this.#asked.get(key).isStale = true;
+    if (this.#awaited.has(key)) this.#awaited.get(key).isStale = true;
   }
 
   // Asks for the maps of these URLs that are wanted, so many at once.
@@ -253,71 +234,8 @@ class Store {
     const next = async () => {
       while (left.length) await wait(left.pop());
     };
-    await Promise.all(Array.from({ length: Math.min(this.#atOnce, left.length) }, next));
-  }
-
-  // Begins with a text of at most so many bytes.
-  begun({ places, hide, strip }, most = MOST_TEXT) {
-    return addon.newRewriting(places, hide, strip, this.asks, most);
-  }
-
-  #give(rewriting, { bytes, most, isLast }) {
-    if (this.renews) this.renews();
-    if (!addon.give(rewriting, bytes, most, isLast)) throw refusedText();
-  }
-
-  // Goes on with a rewriting: the key for whose map is to be asked, or null.
-  #run(rewriting, numbers, lines) {
-    const key = addon.run(rewriting, this.changing, numbers);
-    if (key !== false) return key;
-    throw numbers[0] === 0 ? new Error('`*` with `anywhere`') : refusedText(numbers[0], Math.max(numbers[1] - lines, 0));
-  }
-
-  // What comes out of a part of a text, behind which nothing comes or more, and which may make so many bytes: its text, and how many lines,
-  // frames or places there were so far, and how many were mapped and hidden. `lines` is how many stood before.
-  rewritten(rewriting, part, tell) {
-    const numbers = new Float64Array(4);
-    this.#give(rewriting, part);
-    for (let key; (key = this.#run(rewriting, numbers, part.lines)) !== null; ) {
-      if (this.ask(key, tell)) continue;
-      if (!this.load) throw new Error('`load` is wanted: it is rewriteAsync that asks `loadAsync`');
-      // It is the loader itself that rewrites.
-      addon.putNone(this.changing, key, FAILED, 1);
-    }
-    return { text: addon.takeText(rewriting), numbers };
-  }
-
-  // The same, where maps are waited for, so many at once: those that are named in `ahead`, whole lines of the part.
-  async rewrittenLater(rewriting, part, tell, { ahead, strip, places }) {
-    const [numbers, at] = [new Float64Array(4), new Map()];
-    let names;
-    this.#give(rewriting, part);
-    await new Promise((resolve, reject) => {
-      const go = (trouble) => {
-        try {
-          if (trouble) throw trouble.error;
-          const key = this.#run(rewriting, numbers, part.lines);
-          if (key === null) return resolve();
-          this.wait(key, go, tell);
-          if (!names) (names = locationsIn(strip ? stripped(ahead) : ahead, places)).forEach((name, i) => at.set(name, i + 1));
-          const from = at.get(key) || 0;
-          const next = names.slice(from, from + this.#atOnce - 1).filter((name) => this.wanted(name) === name);
-          next.forEach((name) => this.wait(name, (failed) => failed && reject(failed.error), tell));
-        } catch (error) {
-          reject(error);
-        }
-      };
-      go();
-    });
-    return { text: addon.takeText(rewriting), numbers };
+    await Promise.all(Array.from({ length: Math.min(this.atOnce, left.length) }, next));
   }
 }
 
-// The bytes without control sequences.
-function stripped(bytes) {
-  const text = addon.stripped(bytes);
-  if (text === null) throw refusedText();
-  return text;
-}
-
-module.exports = { Store, locationsIn };
+module.exports = { Store };

@@ -3,6 +3,7 @@
 const { Transform } = require('stream');
 const { steady } = require('./given.js');
 const { counted, rewriting, storeOf } = require('./table.js');
+const { begun, rewritten, rewrittenLater } = require('./texts.js');
 
 const LF = 10;
 
@@ -21,7 +22,7 @@ class RewriteStream extends Transform {
   constructor(table, options) {
     super();
     [this.#table, this.#how] = [storeOf(table) && table, rewriting(options)];
-    this.#rewriting = storeOf(table).begun(this.#how, Number.MAX_SAFE_INTEGER);
+    this.#rewriting = begun(storeOf(table), this.#how, Number.MAX_SAFE_INTEGER);
   }
 
   get counts() {
@@ -40,10 +41,10 @@ class RewriteStream extends Transform {
   async #put(bytes, isLast, done) {
     try {
       const [store, tell] = [storeOf(this.#table), (url, error) => this.#tell(url, error)];
-      const part = { bytes, isLast, most: this.#how.most, lines: this.#numbers[0] };
+      const part = { bytes, isLast, most: this.#how.most };
       const made = store.loadAsync
-        ? await store.rewrittenLater(this.#rewriting, part, tell, { ...this.#how, ahead: this.#whole(bytes) })
-        : store.rewritten(this.#rewriting, part, tell);
+        ? await rewrittenLater(store, this.#rewriting, part, tell, { ...this.#how, ahead: this.#whole(bytes) })
+        : rewritten(store, this.#rewriting, part, tell);
       this.#numbers = made.numbers;
       if (made.text.length) this.push(made.text);
     } catch (error) {

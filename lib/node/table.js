@@ -5,6 +5,7 @@ const given = require('./given.js');
 const { DISPOSE, TraceMap, empty, standingUnder } = require('./map.js');
 const { refusedUrl } = require('./refused.js');
 const { Store } = require('./store.js');
+const { begun, rewritten } = require('./texts.js');
 
 // So many of the maps that were refused are remembered.
 const MOST_REFUSALS = 100;
@@ -95,7 +96,7 @@ function counted([lines, frames, mapped, hidden], { places }) {
 
 // A text that comes whole.
 function wholePart(bytes, { most }) {
-  return { bytes, most, isLast: true, lines: 0 };
+  return { bytes, most, isLast: true };
 }
 
 // The trace with each frame that has an original in its place, as a Buffer; with `anywhere` each place URL:line:column,
@@ -103,7 +104,7 @@ function wholePart(bytes, { most }) {
 function rewrite(table, trace, options) {
   const store = storeOf(table);
   const how = rewriting(options);
-  const { text, numbers } = store.rewritten(store.begun(how), wholePart(given.bytes(trace, 'trace'), how));
+  const { text, numbers } = rewritten(store, begun(store, how), wholePart(given.bytes(trace, 'trace'), how));
   table.counts = counted(numbers, how);
   return text;
 }

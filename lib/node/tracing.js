@@ -60,10 +60,7 @@ function eachMapping(map, call) {
 
 // The mappings as lines of segments.
 function decodedMappings(map) {
-  return once(map, 'decoded', (handle) => {
-    const numbers = addon.mappings(handle);
-    return decoded(numbers, linesOf(map, numbers), map.inner.bytes);
-  });
+  return once(map, 'decoded', (handle) => decoded(handle, (last) => linesOf(map, last), map.inner.bytes));
 }
 
 const decodedMap = (map) => withMappings(map, decodedMappings(map));

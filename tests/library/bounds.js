@@ -84,14 +84,14 @@ async function exactly() {
     const rewrite = (count, maxOutput, options) => smap.rewrite(make(), lines(count), { maxOutput, ...options });
     for (const options of [{}, { anywhere: true }, { stripAnsi: true }]) {
       same(rewrite(10, 1070, options).length, 1070);
-      refuses('Refused', () => rewrite(10, 1069, options), long(9), { number: 5, lines: 9 });
-      refuses('Refused', () => rewrite(11, 1070, options), long(10), { number: 5 });
-      refuses('Refused', () => rewrite(1, 0, options), long(0), { number: 5 });
+      refuses('Refused', () => rewrite(10, 1069, options), long(9), { code: 'X5', lines: 9 });
+      refuses('Refused', () => rewrite(11, 1070, options), long(10), { code: 'X5' });
+      refuses('Refused', () => rewrite(1, 0, options), long(0), { code: 'X5' });
       same(String(rewrite(0, 0, options)), '');
     }
   }
   same((await smap.rewriteAsync(later(), lines(10), { maxOutput: 1070 })).length, 1070);
-  await assert.rejects(smap.rewriteAsync(later(), lines(11), { maxOutput: 1070 }), { name: 'Refused', message: long(10), number: 5, lines: 10 });
+  await assert.rejects(smap.rewriteAsync(later(), lines(11), { maxOutput: 1070 }), { name: 'Refused', message: long(10), code: 'X5', lines: 10 });
   // A hidden line comes to nothing.
   const ignored = new smap.Maps({ load: (url) => named(100, url === 'a/b.js' ? { ignoreList: [0] } : {}), maxBytes: 0 });
   same(smap.rewrite(ignored, lines(10), { hideIgnored: true, maxOutput: 535 }).length, 535);
@@ -109,6 +109,27 @@ async function exactly() {
   same(stream.read().length, 5350);
   const error = await new Promise((done) => stream.on('error', done).write(lines(11)));
   same([error.name, error.message, stream.read()], ['Refused', long(10), null]);
+  await inside();
+}
+
+// A part of a stream that begins inside a line: how many lines fit of what comes of it, and not of all. A frame's source has 300,000 bytes,
+// and of a long line that is searched for places the last bytes wait for the next part.
+async function inside() {
+  const map = (source, more = {}) => JSON.stringify({ version: 3, sources: [source], names: [], mappings: 'AAAA', ...more });
+  const wide = new smap.Table({ 'a.js': map(`${'n'.repeat(299997)}.ts`), 'i.js': map('i.ts', { ignoreList: [0] }) });
+  const frames = (name, count) => `    at f (${name}:1:1)\n`.repeat(count);
+  const [open, rest, hidden] = ['x '.repeat(150000), `de\nfg\n${frames('a.js', 2)}`, frames('i.js', 9)];
+  const [anywhere, hideIgnored] = [{ anywhere: true }, { hideIgnored: true }];
+  for (const [options, parts, wanted] of [
+    [{}, [open, rest], 3], [{}, [`q\n${open}`, rest], 3], [{}, [`${open}\n`, rest], 3], [{}, ['q\n', rest], 3], [{}, [open, 'de', rest], 3],
+    [{}, [open, frames('a.js', 9)], 2], [anywhere, [open, rest], 2], [anywhere, [`q\n${open}`, rest], 2], [anywhere, ['q\n', rest], 3],
+    [hideIgnored, [hidden, rest], 3], [hideIgnored, [hidden + open, rest], 3],
+  ]) {
+    const stream = new smap.RewriteStream(wide, { ...options, maxOutput: 320000 }).on('data', () => {});
+    const refused = new Promise((done) => stream.on('error', done));
+    for (const part of parts) stream.write(part);
+    same([options, parts.map((part) => part.length), (await refused).lines], [options, parts.map((part) => part.length), wanted]);
+  }
 }
 
 // Names of 8,192 sources have 32,770 bytes each, 268 MB together: a root of 32,768 bytes, `/` and one byte more.
@@ -130,7 +151,7 @@ function names() {
   same(answered('new smap.TraceMap(given).counts', text, LITTLE), refused());
   const few = { ...map, sourceRoot: 'r', sources: ['a', 'bc'] };
   same(new smap.TraceMap(few, null, { maxNames: 7 }).sourceAt(1), 'r/bc');
-  refuses('Refused', () => new smap.TraceMap(few, null, { maxNames: 6 }), 'refused: M18 LongNames', { number: 18 });
+  refuses('Refused', () => new smap.TraceMap(few, null, { maxNames: 6 }), 'refused: M18 LongNames', { code: 'M18' });
   same(new smap.TraceMap({ ...few, sources: [], mappings: '' }, null, { maxNames: 0 }).counts.sources, 0);
 }
 

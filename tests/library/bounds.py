@@ -61,15 +61,15 @@ def names(folder):
     for what, read in reads.items():
         read(16)
         refused = raised(Refused, lambda: read(15))
-        same((refused.number, "M18 LongNames" in str(refused)), (18, True), what)
+        same((refused.code, "M18 LongNames" in str(refused)), ("M18", True), what)
     for most, is_read in ((16, True), (15, False)):
         maps = Maps(lambda url: NAMED, max_bytes=1 << 20, paths=True, max_names=most)
-        same((maps.get("/x.js") is not None, [error.number for _, error in maps.refusals]), (is_read, [] if is_read else [18]), "a loader's")
+        same((maps.get("/x.js") is not None, [error.code for _, error in maps.refusals]), (is_read, [] if is_read else ["M18"]), "a loader's")
         rewriter = Rewriter({}, load=lambda url: NAMED, paths=True, max_names=most)
         same(rewriter.rewrite("f@/x.js:1:1"), b"f@/src/a.ts:1:1" if is_read else b"f@/x.js:1:1", "a loader's frame")
     # 2^16 bytes of `sourceRoot` before 4,100 sources are more than 2^28 bytes.
     long = json.dumps({"version": 3, "sourceRoot": "r" * 2**16, "sources": ["a"] * 4100, "names": [], "mappings": "AAAA"})
-    same(raised(Refused, lambda: SourceMap(long)).number, 18, "more than is taken by itself")
+    same(raised(Refused, lambda: SourceMap(long)).code, "M18", "more than is taken by itself")
 
 
 # About 64 KiB of a map whose names would be made of 256 MiB, and a trace of 1 MiB that would come to 5 GB.
@@ -80,7 +80,7 @@ def memory():
     map_text = json.dumps({"version": 3, "sources": [name], "names": [], "mappings": "AAAA"})
     frame, place = "f@a.js:1:1\n", "/a.js?v:1:1\n"
     before = resource.getrusage(resource.RUSAGE_SELF).ru_maxrss
-    same(raised(Refused, lambda: SourceMap(hostile, max_names=1 << 20)).number, 18, "names")
+    same(raised(Refused, lambda: SourceMap(hostile, max_names=1 << 20)).code, "M18", "names")
     # Each line is 65,507 or 65,505 bytes long then: sixteen of both are within 1 MiB.
     for rewriter in (Rewriter({"a.js": map_text}), Rewriter({}, load=lambda url: map_text), Maps(lambda url: map_text, max_bytes=1 << 20)):
         for text, how in ((frame * 80000, {}), (frame * 80000, {"anywhere": True}), (place * 80000, {"anywhere": True})):
@@ -89,7 +89,7 @@ def memory():
             rewriter.rewrite("\n\n")
             counts = rewriter.counts
             refused = raised(Refused, lambda: rewriter.rewrite(text, max_output=1 << 20, **how))
-            same((refused.number, refused.lines, str(refused)), (5, 16, "refused: X5 LongOutput: 16 whole lines fit"), f"{rewriter} {how}")
+            same((refused.code, refused.lines, str(refused)), ("X5", 16, "refused: X5 LongOutput: 16 whole lines fit"), f"{rewriter} {how}")
             same(rewriter.counts, counts, "the counts before")
     grown = resource.getrusage(resource.RUSAGE_SELF).ru_maxrss - before
     same(grown < 100000, True, f"{grown} KiB")
@@ -117,7 +117,7 @@ def outputs():
                     continue
                 refused = raised(Refused, lambda: made.rewrite(frames, max_output=most, **how))
                 lines = sum(end <= most for end in ends)
-                same((refused.number, refused.lines, made.counts), (5, lines, {}), f"{what} {how} {most}")
+                same((refused.code, refused.lines, made.counts), ("X5", lines, {}), f"{what} {how} {most}")
     # Colours go, and the query of a place that is replaced: what is made on the way may be longer.
     text = "\x1b[31m" * 9 + f"{URL}?{'v' * 99}:1:1\n" + f"{URL}?{'w' * 9}:9:9\n"
     wanted = f"https://e.test/aaaaaaaaa.ts:1:1\n{URL}?{'w' * 9}:9:9\n".encode()

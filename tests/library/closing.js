@@ -133,9 +133,8 @@ function detached() {
   const numbers = () => gone(new Float64Array(16));
   same([...addon.lookUpMany(handle, gone(new Uint32Array(2)), new Uint32Array(0))], []);
   refuses('TypeError', () => addon.lookUpMany(handle, Uint32Array.of(1, 12), gone(new Uint32Array(7))), /lengths/);
-  refuses('TypeError', () => addon.read(own(1), base, 64, 0, numbers()), /Float64Array/);
+  refuses('TypeError', () => addon.read(own(1), base, false, 64, 0, numbers()), /Float64Array/);
   refuses('TypeError', () => addon.fit(handle, own(1), numbers()), /Float64Array/);
-  refuses('TypeError', () => addon.refusalText(numbers()), /Float64Array/);
   refuses('TypeError', () => addon.refusalExplain(own(1), numbers(), new Float64Array(4)), /Float64Array/);
   same([...addon.locations(bytes(), false), ...addon.locations(bytes(), true)], []);
   refuses('TypeError', () => addon.encode(new Uint32Array(8), numbers()), /Float64Array/);
@@ -144,6 +143,9 @@ function detached() {
   refuses('Refused', () => new smap.TraceMap(bytes()), /M2 NotJson/);
   same(map.bytesBySource(bytes()), { sources: [0], unmapped: 0 });
   same([...addon.members(bytes(), 0)], []);
+  same([addon.outline(bytes(), new Float64Array(1)), addon.outline(Buffer.from([0xef]), new Float64Array(1))], [null, null]);
+  refuses('TypeError', () => addon.outline(Buffer.from('{"version":3}'), numbers()), /Float64Array/);
+  same([addon.listMappings(handle), addon.nextMappings(gone(new Uint32Array(8))), addon.nextMappings(new Uint32Array(8))], [0, 0, 0]);
   const table = new smap.Table({ 'b.js': read() });
   const rewriting = addon.newRewriting(false, false, false, false, 0);
   same(addon.give(rewriting, bytes(), 0, true), true);
@@ -184,6 +186,16 @@ function inTheMiddle() {
   same(String(smap.rewrite(maps, 'f@b.js:1:11\n')), 'f@a.js:2:5\n');
 }
 
+// Mappings of which a piece was handed out, of a map that is closed then, or of which no more is asked.
+function inPieces() {
+  const [map, other] = [read(), new smap.TraceMap({ version: 3, sources: [], names: [], mappings: '' })];
+  const piece = new Uint32Array(9);
+  same([addon.listMappings(map.inner.handle), addon.nextMappings(piece), [...piece]], [0, 8, [0, 0, 2, 0, 0, 0, 0, 0, 0]]);
+  map.close();
+  same([addon.nextMappings(piece), [...piece], addon.nextMappings(piece)], [8, [0, 10, 2, 0, 1, 4, 1, 0, 0], 0]);
+  same([addon.listMappings(read().inner.handle), addon.listMappings(other.inner.handle), addon.nextMappings(piece)], [0, -1, 0]);
+}
+
 // Maps that nothing names but the call.
 function collected() {
   for (let round = 0; round < 60; round++) {
@@ -198,6 +210,7 @@ setters();
 among();
 room();
 detached();
+inPieces();
 inTheMiddle();
 collected();
 console.log('closing', reported);

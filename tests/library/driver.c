@@ -118,14 +118,6 @@ static void many(smap_map *map) {
     free(positions);
 }
 
-static void report_refusal(const smap_refusal *refusal, const char *path) {
-    smap_bytes text = {0};
-    if (smap_refusal_text(refusal, &text) != SMAP_DONE) fail("no text");
-    printf("refused: %s: ", path);
-    put_bytes(&text);
-    putchar('\n');
-}
-
 /* Reads a file that is refused, and asks why. */
 static smap_reason refused(const char *path, smap_refusal *refusal, smap_bytes *text) {
     size_t length;
@@ -142,7 +134,7 @@ static void refuse(const char *path) {
     smap_refusal refusal = {0};
     smap_bytes text = {0};
     refused(path, &refusal, &text);
-    report_refusal(&refusal, path);
+    printf("refused: %s: ", path);
     put_bytes(&text);
 }
 
@@ -161,7 +153,11 @@ static void why(const char *path) {
     put_number(reason.has_value, reason.value, ' ');
     put_number(below ? reason.has_least : reason.has_most, below ? reason.least : reason.most, ' ');
     put_number(reason.has_column, (int64_t)reason.generated_column, '\n');
-    put_bytes(&text);
+    smap_text lines = SMAP_TEXT;
+    smap_bytes_text(&text, &lines);
+    const uint8_t *end = memchr(lines.bytes, '\n', lines.length);
+    put((smap_text){end + 1, (size_t)(lines.bytes + lines.length - end - 1)});
+    smap_bytes_free(&text);
 }
 
 static void counts(const char *path) {
@@ -233,13 +229,20 @@ static void show(const char *path) {
     smap_map_free(&map);
 }
 
+/* `refused` and the letter and the number of a code. */
+static void put_refused(smap_code code) {
+    smap_text text = SMAP_TEXT;
+    if (smap_code_text(code, &text) != SMAP_DONE) fail("no code");
+    printf("refused %.*s\n", (int)strcspn((const char *)text.bytes, " "), (const char *)text.bytes);
+}
+
 static void composed(const char *outer, const char *source, const char *inner) {
     smap_map a = opened(outer), b = opened(inner);
     smap_bytes bytes = {0};
-    uint32_t refusal = 0;
+    smap_code refusal = 0;
     uint32_t status = smap_compose(&a, (uint32_t)atol(source), &b, &bytes, &refusal);
     if (status == SMAP_REFUSED)
-        printf("refused C%u\n", refusal);
+        put_refused(refusal);
     else if (status == SMAP_DONE)
         put_bytes(&bytes);
     smap_map_free(&a);
@@ -250,7 +253,7 @@ static void composed_with_all(int count, char **words) {
     smap_map outer = opened(words[0]), back = {0};
     smap_inners inners = {0};
     smap_bytes bytes = {0};
-    uint32_t refusal = 0;
+    smap_code refusal = 0;
     bool both = !strcmp(words[1], "both");
     smap_compose_options options = {.prune = both || !strcmp(words[1], "prune"), .no_content = both || !strcmp(words[1], "bare")};
     if (smap_inners_new(&outer, &inners) != SMAP_DONE) fail("no places");
@@ -260,7 +263,7 @@ static void composed_with_all(int count, char **words) {
     }
     uint32_t status = smap_compose_all(&outer, &inners, &options, &bytes, &refusal);
     if (status == SMAP_REFUSED)
-        printf("refused C%u\n", refusal);
+        put_refused(refusal);
     else if (status == SMAP_DONE)
         put_bytes(&bytes);
     if (smap_inners_take(&inners, (uint32_t)atol(words[2]), &back) != SMAP_DONE) fail("no map is back");
@@ -284,7 +287,8 @@ static void composed_in_steps(const char *folder, const char *path, const char *
     smap_map outer = opened(path);
     smap_inners inners = {0};
     smap_bytes bytes = {0};
-    uint32_t source = 0, refusal = 0, asked = 0;
+    uint32_t source = 0, asked = 0;
+    smap_code refusal = 0;
     const smap_compose_options options = {.prune = !strcmp(less, "prune")};
     if (smap_inners_new(&outer, &inners) != SMAP_DONE) fail("no places");
     for (; smap_inners_next(&outer, &inners, &source, &refusal) == SMAP_DONE; asked++) {
@@ -401,9 +405,9 @@ static void threads(const char *first, const char *second) {
     }
 }
 
-static void lends(uint32_t call(uint32_t, smap_text *), uint32_t number, const char *wanted) {
+static void lends(smap_code code, const char *wanted) {
     smap_text text = SMAP_TEXT;
-    if (call(number, &text) != SMAP_DONE || text.length != strlen(wanted) || memcmp(text.bytes, wanted, text.length)) fail(wanted);
+    if (smap_code_text(code, &text) != SMAP_DONE || text.length != strlen(wanted) || memcmp(text.bytes, wanted, text.length)) fail(wanted);
 }
 
 /* The texts of mappings, and why they have none. */
@@ -412,14 +416,15 @@ static void encodes(void) {
         {0, 0, 2, 0, 0, 0, 1, 0}, {2, 5, 1, 9, 9, 9, 1, 9}, {2, 4, 1, 0, 0, 0, 0, 0}, {2147483648, 0, 1, 0, 0, 0, 0, 0}, {2147483647, 0, 1, 0, 0, 0, 0, 0},
     };
     static const struct { size_t from, count; const char *text; smap_encode_refusal refusal; } rows[] = {
-        {0, 0, "", {0}}, {0, 2, "AAAAA;;K", {0}}, {0, 3, NULL, {1, 2}}, {3, 1, NULL, {2, 0}}, {4, 1, NULL, {3, 0}},
+        {0, 0, "", {0}}, {0, 2, "AAAAA;;K", {0}}, {0, 3, NULL, {SMAP_CODE_E1, 2}},
+        {3, 1, NULL, {SMAP_CODE_E2, 0}}, {4, 1, NULL, {SMAP_CODE_E3, 0}},
     };
     for (size_t i = 0; i < sizeof rows / sizeof *rows; i++) {
         smap_bytes bytes = {0};
         smap_encode_refusal refusal = {0};
         smap_text text = SMAP_TEXT;
         uint32_t status = smap_encode(mappings + rows[i].from, rows[i].count, &bytes, &refusal);
-        if (refusal.number != rows[i].refusal.number || refusal.mapping != rows[i].refusal.mapping) fail("another refusal of mappings");
+        if (refusal.code != rows[i].refusal.code || refusal.mapping != rows[i].refusal.mapping) fail("another refusal of mappings");
         if (status != (rows[i].text ? SMAP_DONE : SMAP_REFUSED)) fail("mappings with another status");
         if (!rows[i].text) continue;
         smap_bytes_text(&bytes, &text);
@@ -430,34 +435,33 @@ static void encodes(void) {
 
 static void mistakes(const char *path) {
     smap_text none_reported = SMAP_TEXT;
-    lends(smap_compose_refusal_text, 1, "C1 SourceIndex");
-    lends(smap_compose_refusal_text, 2, "C2 TooLarge");
-    lends(smap_compose_refusal_text, 4, "C4 NoSource");
-    lends(smap_rewrite_refusal_text, 3, "X3 TooMuch");
-    lends(smap_write_refusal_text, 1, "O1 TextTooLong");
-    lends(smap_generated_refusal_text, 1, "NotUtf8");
-    lends(smap_generated_refusal_text, 2, "TooLarge");
-    lends(smap_table_refusal_text, 1, "A1 BadUrl");
-    lends(smap_table_refusal_text, 2, "A2 Twice");
-    lends(smap_encode_refusal_text, 1, "E1 NotSorted");
-    lends(smap_encode_refusal_text, 2, "E2 OutOfRange");
-    lends(smap_encode_refusal_text, 3, "E3 TooLong");
-    if (smap_compose_refusal_text(3, &none_reported) != SMAP_REFUSED || smap_table_refusal_text(0, &none_reported) != SMAP_REFUSED ||
-        smap_encode_refusal_text(4, &none_reported) != SMAP_REFUSED || smap_generated_refusal_text(0, &none_reported) != SMAP_REFUSED ||
-        smap_rewrite_refusal_text(1, &none_reported) != SMAP_REFUSED || smap_write_refusal_text(2, &none_reported) != SMAP_REFUSED)
-        fail("a text of no refusal");
+    lends(SMAP_CODE_C1, "C1 SourceIndex");
+    lends(SMAP_CODE_C2, "C2 TooLarge");
+    lends(SMAP_CODE_C4, "C4 NoSource");
+    lends(SMAP_CODE_X3, "X3 TooMuch");
+    lends(SMAP_CODE_O1, "O1 TextTooLong");
+    lends(SMAP_CODE_NOT_UTF8, "NotUtf8");
+    lends(SMAP_CODE_M1, "M1 TooLarge");
+    lends(SMAP_CODE_A1, "A1 BadUrl");
+    lends(SMAP_CODE_A2, "A2 Twice");
+    lends(SMAP_CODE_E1, "E1 NotSorted");
+    lends(SMAP_CODE_E2, "E2 OutOfRange");
+    lends(SMAP_CODE_E3, "E3 TooLong");
+    lends(SMAP_CODE_REFUSED, "refused");
+    if (smap_code_text(0, &none_reported) != SMAP_REFUSED || smap_code_text(SMAP_CODE_REFUSED + 1, &none_reported) != SMAP_REFUSED ||
+        smap_code_text(UINT32_MAX, &none_reported) != SMAP_REFUSED)
+        fail("a text of no code");
     encodes();
     smap_map map = {0};
     smap_refusal refusal = {0};
-    if (read_file(path, "no URL", 64, &map, &refusal) != SMAP_REFUSED || refusal.number != 0) fail("a base");
-    if (read_file(path, "\xff", 64, &map, &refusal) != SMAP_REFUSED || refusal.number != 0) fail("a base that is no text");
+    if (read_file(path, "no URL", 64, &map, &refusal) != SMAP_REFUSED || refusal.code != SMAP_CODE_USAGE) fail("a base");
+    if (read_file(path, "\xff", 64, &map, &refusal) != SMAP_REFUSED || refusal.code != SMAP_CODE_USAGE) fail("a base that is no text");
     if (read_file(path, "", 0, &map, &refusal) != SMAP_REFUSED) fail("interval 0");
-    report_refusal(&refusal, "MAP");
+    if (refusal.code != SMAP_CODE_M15 || refusal.cause != SMAP_CODE_B1 || refusal.has_section) fail("B1");
     if (read_file(path, "", 4097, &map, &refusal) != SMAP_REFUSED) fail("interval 4097");
-    report_refusal(&refusal, "MAP");
+    if (refusal.code != SMAP_CODE_M15 || refusal.cause != SMAP_CODE_B1 || refusal.has_section) fail("B1");
     smap_refusal none = {0};
     smap_bytes bytes = {0};
-    if (smap_refusal_text(&none, &bytes) != SMAP_REFUSED) fail("a text of no refusal");
     smap_reason reason = {.value = 77};
     if (smap_refusal_explain((const uint8_t *)"{}", 2, &none, &reason, &bytes) != SMAP_REFUSED || reason.value != 77) fail("a reason of no refusal");
     map = opened(path);
@@ -466,8 +470,8 @@ static void mistakes(const char *path) {
     if (smap_source(&map, 1000000, &source) != SMAP_REFUSED) fail("a source past the last");
     if (smap_name(&map, 1000000, &text) != SMAP_REFUSED) fail("a name past the last");
     smap_map other = opened(path);
-    uint32_t why = 9;
-    if (smap_compose(&map, 1000000, &other, &bytes, &why) != SMAP_REFUSED || why != 1) fail("C1");
+    smap_code why = 9;
+    if (smap_compose(&map, 1000000, &other, &bytes, &why) != SMAP_REFUSED || why != SMAP_CODE_C1) fail("C1");
     smap_inners inners = {0}, more = {0};
     smap_count held = {0};
     const smap_compose_options options = {0};
@@ -482,17 +486,17 @@ static void mistakes(const char *path) {
     const char one[] = "{\"version\":3,\"sources\":[],\"names\":[],\"mappings\":\"\"}";
     smap_map sourceless = {0};
     if (smap_map_read((const uint8_t *)one, sizeof one - 1, (const uint8_t *)"", 0, 64, &sourceless, &refusal) != SMAP_DONE) fail("not read");
-    if (smap_compose_all(&sourceless, &more, &options, &bytes, &why) != SMAP_REFUSED || why != 1) fail("C1 of all");
+    if (smap_compose_all(&sourceless, &more, &options, &bytes, &why) != SMAP_REFUSED || why != SMAP_CODE_C1) fail("C1 of all");
     smap_map_free(&sourceless);
     smap_inners_free(&more);
     smap_inners_free(&inners);
     smap_table table = {0};
     if (smap_table_new(&table) != SMAP_DONE) fail("no table");
-    if (smap_table_add(&table, (const uint8_t *)"a\nb", 3, &map, &why) != SMAP_REFUSED || why != 1) fail("A1");
-    if (smap_table_add(&table, (const uint8_t *)"\xff", 1, &map, &why) != SMAP_REFUSED || why != 0) fail("a URL that is no text");
+    if (smap_table_add(&table, (const uint8_t *)"a\nb", 3, &map, &why) != SMAP_REFUSED || why != SMAP_CODE_A1) fail("A1");
+    if (smap_table_add(&table, (const uint8_t *)"\xff", 1, &map, &why) != SMAP_REFUSED || why != SMAP_CODE_NOT_UTF8) fail("a URL that is no text");
     if (smap_table_add(&table, (const uint8_t *)"a.js", 4, &map, &why) != SMAP_DONE) fail("not added");
-    if (smap_table_add(&table, (const uint8_t *)"a.js", 4, &other, &why) != SMAP_REFUSED || why != 2) fail("A2");
-    if (smap_table_add(&table, (const uint8_t *)"*a\r", 3, &other, &why) != SMAP_REFUSED || why != 1) fail("A1 of a pattern");
+    if (smap_table_add(&table, (const uint8_t *)"a.js", 4, &other, &why) != SMAP_REFUSED || why != SMAP_CODE_A2) fail("A2");
+    if (smap_table_add(&table, (const uint8_t *)"*a\r", 3, &other, &why) != SMAP_REFUSED || why != SMAP_CODE_A1) fail("A1 of a pattern");
     smap_found found = {0};
     if (smap_look_up(&other, 0, 0, &found) != SMAP_DONE) fail("a map that came back");
     if (smap_table_add(&table, (const uint8_t *)"*", 1, &other, &why) != SMAP_DONE) fail("a map of all URLs");

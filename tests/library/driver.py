@@ -64,7 +64,7 @@ def refuse(*paths):
             opened(path)
             sys.exit("a map is not refused")
         except Refused as refused:
-            assert (refused.number == 14) == (refused.fault is not None) and (refused.number == 15) == (refused.build is not None)
+            assert (refused.code == "M14") == (refused.line is not None) and (refused.code in ("M14", "M15")) == (refused.cause is not None)
             print(re.sub("^refused:", "refused: " + path + ":", str(refused)))
 
 

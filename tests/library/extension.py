@@ -173,6 +173,7 @@ def threads():
     written, answers = [], []
     first = threading.Thread(target=lambda: written.append(source_map.write()))
     first.start()
+    answers.append(source_map.look_up(5, 1))
     while first.is_alive():
         answers.append(source_map.look_up(5, 1))
     first.join()

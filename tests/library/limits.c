@@ -63,8 +63,8 @@ static void texts(void) {
     }
     smap_map other = opened();
     smap_bytes bytes = {0};
-    uint32_t why = 0;
-    insist(smap_compose(&map, UINT32_MAX, &other, &bytes, &why) == SMAP_REFUSED && why == 1 && !bytes.at, "C1");
+    smap_code why = 0;
+    insist(smap_compose(&map, UINT32_MAX, &other, &bytes, &why) == SMAP_REFUSED && why == SMAP_CODE_C1 && !bytes.at, "C1");
     smap_map_free(&map);
     smap_map_free(&other);
 }
@@ -79,7 +79,7 @@ static void reading(void) {
             insist(status == SMAP_DONE, "an interval");
             smap_map_free(&map);
         } else {
-            insist(status == SMAP_REFUSED && refusal.number == 15 && refusal.build == 1 && !map.at, "no interval");
+            insist(status == SMAP_REFUSED && refusal.code == SMAP_CODE_M15 && refusal.cause == SMAP_CODE_B1 && !map.at, "no interval");
         }
     }
     const size_t length = 1 << 20;
@@ -87,7 +87,7 @@ static void reading(void) {
     memset(base, 'x', length);
     smap_map map = {0};
     smap_refusal refusal = {9, 9, 9, 9, 9, 9};
-    insist(read_small(base, length, 64, &map, &refusal) == SMAP_REFUSED && refusal.number == 0 && !map.at, "a long base that is no URL");
+    insist(read_small(base, length, 64, &map, &refusal) == SMAP_REFUSED && refusal.code == SMAP_CODE_USAGE && !map.at, "a long base that is no URL");
     memcpy(base, "https://e.test/", 15);
     insist(read_small(base, length, 64, &map, &refusal) == SMAP_DONE, "a long base");
     smap_source_text source = SMAP_SOURCE;
@@ -95,11 +95,10 @@ static void reading(void) {
     insist(!memcmp(source.name.bytes, "https://e.test/a.js", 19), "its name");
     smap_map_free(&map);
     free(base);
-    const uint32_t others[] = {0, 17, 19, 20, UINT32_MAX};
-    for (int i = 0; i < 5; i++) {
-        smap_refusal other = {.number = others[i]};
+    const smap_code others[] = {0, SMAP_CODE_M17, SMAP_CODE_F1, SMAP_CODE_U1, SMAP_CODE_USAGE, SMAP_CODE_REFUSED + 1, UINT32_MAX};
+    for (size_t i = 0; i < sizeof others / sizeof *others; i++) {
+        smap_refusal other = {.code = others[i]};
         smap_bytes bytes = {0};
-        insist(smap_refusal_text(&other, &bytes) == SMAP_REFUSED && !bytes.at, "a line of no refusal");
         smap_reason reason = {9, 9, 9, 9, 9, 9, 9, 9};
         insist(smap_refusal_explain((const uint8_t *)"", 0, &other, &reason, &bytes) == SMAP_REFUSED && !bytes.at, "why no refusal");
         insist(reason.value == 9 && reason.generated_column == 9 && reason.has_column == 9, "nothing is written");
@@ -107,7 +106,7 @@ static void reading(void) {
 }
 
 /* A map whose first segment is at fault: the value, its limits and the column. */
-static void is_reason(const char *mappings, uint32_t fault, int64_t value, int64_t least, int64_t most, uint64_t column, uint32_t has_column) {
+static void is_reason(const char *mappings, smap_code fault, int64_t value, int64_t least, int64_t most, uint64_t column, uint32_t has_column) {
     char file[200];
     const int length = snprintf(file, sizeof file, "{\"version\":3,\"sources\":[\"a.js\"],\"names\":[],\"mappings\":\"%s\"}", mappings);
     smap_map map = {0};
@@ -115,7 +114,7 @@ static void is_reason(const char *mappings, uint32_t fault, int64_t value, int64
     smap_reason reason = {0};
     smap_bytes text = {0};
     insist(smap_map_read((const uint8_t *)file, (size_t)length, (const uint8_t *)"", 0, 64, &map, &refusal) == SMAP_REFUSED, "a refused map");
-    insist(refusal.fault == fault, "its fault");
+    insist(refusal.cause == fault, "its fault");
     insist(smap_refusal_explain((const uint8_t *)file, (size_t)length, &refusal, &reason, &text) == SMAP_DONE, "why it is refused");
     smap_bytes_free(&text);
     insist(reason.has_value == 1 && reason.has_least == 1 && reason.has_most == 1 && reason.has_column == has_column, "what is known");
@@ -123,11 +122,11 @@ static void is_reason(const char *mappings, uint32_t fault, int64_t value, int64
 }
 
 static void reasons(void) {
-    is_reason("D", 7, -1, 0, 2147483647, 0, 0);
-    is_reason("+/////D,C", 8, 2147483648, 0, 2147483647, 2147483648, 1);
-    is_reason("C,D", 9, 0, 1, 2147483647, 0, 1);
-    is_reason("ECAA", 10, 1, 0, 0, 2, 1);
-    is_reason("EAAAA", 11, 0, 0, -1, 2, 1);
+    is_reason("D", SMAP_CODE_F7, -1, 0, 2147483647, 0, 0);
+    is_reason("+/////D,C", SMAP_CODE_F8, 2147483648, 0, 2147483647, 2147483648, 1);
+    is_reason("C,D", SMAP_CODE_F9, 0, 1, 2147483647, 0, 1);
+    is_reason("ECAA", SMAP_CODE_F10, 1, 0, 0, 2, 1);
+    is_reason("EAAAA", SMAP_CODE_F11, 0, 0, -1, 2, 1);
 }
 
 /* A place stands behind so many bytes of its line. */
@@ -200,17 +199,17 @@ static void generated_files(void) {
     const uint8_t *zeros = mmap(NULL, most_generated_bytes + 1, PROT_READ, MAP_PRIVATE | MAP_ANONYMOUS | MAP_NORESERVE, -1, 0);
     insist(zeros != MAP_FAILED, "a long file");
     uint64_t source = 9, unmapped = 9;
-    uint32_t why = 9;
+    smap_code why = 9;
     insist(smap_bytes_by_source(&map, zeros, most_generated_bytes + 1, &source, 1, &unmapped, &why) == SMAP_REFUSED, "a file that is too long");
-    insist(why == 2 && source == 9 && unmapped == 9, "why it is");
+    insist(why == SMAP_CODE_M1 && source == 9 && unmapped == 9, "why it is");
     insist(smap_bytes_by_source(&map, (const uint8_t *)"\xff", 1, &source, 1, &unmapped, &why) == SMAP_REFUSED, "a file that is no text");
-    insist(why == 1 && source == 9 && unmapped == 9, "why it is none");
+    insist(why == SMAP_CODE_NOT_UTF8 && source == 9 && unmapped == 9, "why it is none");
     insist(smap_bytes_by_source(&map, zeros, most_generated_bytes, &source, 1, &unmapped, &why) == SMAP_DONE, "the longest file");
-    insist(why == 1 && source == most_generated_bytes && unmapped == 0, "its bytes");
+    insist(why == SMAP_CODE_NOT_UTF8 && source == most_generated_bytes && unmapped == 0, "its bytes");
     insist(smap_bytes_by_source(&map, zeros, 0, &source, 1, &unmapped, &why) == SMAP_DONE && source == 0 && unmapped == 0, "no file");
     smap_fit_count fit = {.mappings = 9};
-    insist(smap_fit(&map, zeros, most_generated_bytes + 1, &fit, &why) == SMAP_REFUSED && why == 2, "a file that is too long for a fit");
-    insist(smap_fit(&map, (const uint8_t *)"\xff", 1, &fit, &why) == SMAP_REFUSED && why == 1, "a file that is no text for a fit");
+    insist(smap_fit(&map, zeros, most_generated_bytes + 1, &fit, &why) == SMAP_REFUSED && why == SMAP_CODE_M1, "a file that is too long for a fit");
+    insist(smap_fit(&map, (const uint8_t *)"\xff", 1, &fit, &why) == SMAP_REFUSED && why == SMAP_CODE_NOT_UTF8, "a file that is no text for a fit");
     insist(fit.mappings == 9, "no counts");
     insist(smap_fit(&map, zeros, most_generated_bytes, &fit, &why) == SMAP_DONE && fit.past == 1 && fit.inside == 0, "a fit of the longest file");
     smap_map_free(&map);

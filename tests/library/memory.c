@@ -88,7 +88,8 @@ static smap_trace_count count;
 static uint64_t by_source[8], unmapped;
 static smap_fit_count fit;
 static smap_encode_refusal encode_refusal;
-static uint32_t why, next_source;
+static smap_code why;
+static uint32_t next_source;
 
 static uint32_t read_map(smap_map *map, const struct text *file) {
     return smap_map_read(file->bytes, file->length, base, sizeof base - 1, 64, map, &refusal);
@@ -96,13 +97,9 @@ static uint32_t read_map(smap_map *map, const struct text *file) {
 
 static uint32_t read_call(void) { return read_map(&made, &outer_file); }
 static uint32_t refuse_call(void) { return smap_map_read((const uint8_t *)"{}", 2, base, sizeof base - 1, 64, &made, &refusal); }
-static uint32_t line_call(void) {
-    const smap_refusal fault = {14, 9, 3, 0, 2, 7};
-    return smap_refusal_text(&fault, &bytes);
-}
 static uint32_t explain_call(void) {
     static const char file[] = "{\"version\":3,\"sources\":[],\"mappings\":\"EACA\"}";
-    const smap_refusal fault = {14, 10, 0, 0, 0, 0};
+    const smap_refusal fault = {SMAP_CODE_M14, SMAP_CODE_F10, 0, 1, 0, 0};
     return smap_refusal_explain((const uint8_t *)file, sizeof file - 1, &fault, &reason, &bytes);
 }
 static uint32_t share_call(void) { return smap_map_share(&outer, &made); }
@@ -152,7 +149,6 @@ static const struct call {
     {"smap_map_read", read_call, SMAP_DONE, FILLS_MAP},
     {"smap_map_read of what is refused", refuse_call, SMAP_REFUSED, FILLS_MAP},
     {"smap_map_share", share_call, SMAP_DONE, FILLS_MAP},
-    {"smap_refusal_text", line_call, SMAP_DONE, FILLS_BYTES},
     {"smap_refusal_explain", explain_call, SMAP_DONE, FILLS_BYTES},
     {"smap_map_write", write_call, SMAP_DONE, FILLS_BYTES},
     {"smap_map_mappings", mappings_call, SMAP_DONE, FILLS_BYTES},
@@ -279,7 +275,7 @@ static bool made_without(const struct call *call, long number) {
     if (status == SMAP_NO_MEMORY) {
         if (!was_refused) fail(call->name, "is out of memory where none was refused");
         if ((call->handle != TAKES_MAP && made.at) || made_table.at || made_inners.at || made_finder.at || bytes.at) fail(call->name, "has filled a handle");
-        if (why != 77 || refusal.number != 77 || encode_refusal.number != 77 || reason.value != 77 || reason.has_column != 77) fail(call->name, "reports a refusal");
+        if (why != 77 || refusal.code != 77 || encode_refusal.code != 77 || reason.value != 77 || reason.has_column != 77) fail(call->name, "reports a refusal");
         if (by_source[0] != 77 || unmapped != 77) fail(call->name, "counts bytes");
         if (!alike(&before, &after)) fail(call->name, "has changed the table");
         if (next_source != 77) fail(call->name, "asks for a source");
@@ -291,14 +287,14 @@ static bool made_without(const struct call *call, long number) {
         report_answer(call, into);
         if (number >= 0 && !alike(&ample, &now)) fail(call->name, "has another answer");
         if (alike(&before, &after) == adds) fail(call->name, "has another table");
-        if (call->make == refuse_call && refusal.number != 4) fail(call->name, "has another refusal");
+        if (call->make == refuse_call && refusal.code != SMAP_CODE_M4) fail(call->name, "has another refusal");
         if (call->make == explain_call && (reason.most != -1 || reason.generated_column != 2)) fail(call->name, "has other numbers");
         uint64_t frames = call->make == rewrite_call ? 2 : 1; /* of a URL in the table, where places are counted */
         if (rewrites && (count.lines != 4 || count.frames != frames || count.mapped != 1)) fail(call->name, "has other counts");
         uint64_t bytes_reported = unmapped;
         for (int i = 0; i < 8 && by_source[i] != 77; i++) bytes_reported += by_source[i];
         if (call->make == bytes_call && bytes_reported != sizeof trace - 1) fail(call->name, "counts other bytes");
-        if (call->make == twice_call && why != 2) fail(call->name, "has another refusal");
+        if (call->make == twice_call && why != SMAP_CODE_A2) fail(call->name, "has another refusal");
         if (call->make == next_call && (why != 77 || next_source != held.sources)) fail(call->name, "asks for another source");
     }
     smap_map_free(&outer);
@@ -350,7 +346,7 @@ static void free_calls(void) {
 
 static smap_store store, made_store;
 static smap_rewriting rewriting, made_rewriting;
-static const smap_rewriting_options of_any_text = {.most = UINT64_MAX};
+static const smap_rewriting_options of_any_text = {.asks = true, .most = UINT64_MAX, .most_output = UINT64_MAX};
 static const uint8_t other_url[] = "https://e.test/b.js";
 
 static uint32_t store_new_call(void) { return smap_store_new(1000000, &made_store); }
@@ -362,7 +358,10 @@ static uint32_t own_call(void) { return smap_store_put(&store, (const uint8_t *)
 static uint32_t map_call(void) { return smap_store_map(&store, url, sizeof url - 1, 0, &made, &why); }
 static uint32_t rewriting_new_call(void) { return smap_rewriting_new(&of_any_text, &made_rewriting); }
 static uint32_t give_call(void) { return smap_rewriting_give(&rewriting, trace, sizeof trace - 1); }
-static uint32_t run_call(void) { return smap_rewriting_run(&rewriting, &store, 0); }
+static uint32_t run_call(void) {
+    smap_rewrite_refusal unread = {0};
+    return smap_rewriting_run(&rewriting, &table, &store, 0, &unread);
+}
 
 static const struct store_call { const char *name; uint32_t (*make)(void); } store_calls[] = {
     {"smap_store_new", store_new_call},
@@ -395,7 +394,7 @@ static bool stored_without(const struct store_call *call, long number) {
     if (read_map(&outer, &outer_file) || read_map(&inner, &inner_file)) fail(call->name, "has no maps");
     if (smap_store_new(1000000, &store) || smap_store_put(&store, url, sizeof url - 1, &outer, 7)) fail(call->name, "has no store");
     if (smap_store_put_none(&store, missing, sizeof missing - 1, SMAP_MISSING, false, 0)) fail(call->name, "has no none");
-    if (smap_rewriting_new(&of_any_text, &rewriting)) fail(call->name, "has no text");
+    if (smap_rewriting_new(&of_any_text, &rewriting) || smap_table_new(&table)) fail(call->name, "has no text");
     if (call->make == run_call && (give_call() || smap_rewriting_end(&rewriting))) fail(call->name, "is given nothing");
     made = (smap_map){0};
     made_store = (smap_store){0};
@@ -422,6 +421,7 @@ static bool stored_without(const struct store_call *call, long number) {
     if (made_rewriting.at) smap_rewriting_free(&made_rewriting);
     smap_store_free(&store);
     smap_rewriting_free(&rewriting);
+    smap_table_free(&table);
     smap_map_free(&outer);
     smap_map_free(&inner);
     if (live != 0) fail(call->name, "leaks");
@@ -431,7 +431,8 @@ static bool stored_without(const struct store_call *call, long number) {
 /* The calls over a store that take no memory, while every growth is refused. */
 static void free_store_calls(void) {
     if (read_map(&outer, &outer_file) || smap_store_new(1000000, &store) || smap_store_put(&store, url, sizeof url - 1, &outer, 7) ||
-        smap_rewriting_new(&of_any_text, &rewriting) || give_call() || run_call() != SMAP_WANTED) fail("calls over a store", "not prepared");
+        smap_rewriting_new(&of_any_text, &rewriting) || smap_table_new(&table) || give_call() || run_call() != SMAP_WANTED)
+        fail("calls over a store", "not prepared");
     smap_store_counts counts = {0};
     smap_trace_count counted = {0};
     smap_text text = SMAP_TEXT, name = SMAP_TEXT;
@@ -446,6 +447,7 @@ static void free_store_calls(void) {
                         smap_store_forget_none(&store) | smap_store_forget(&store, url, sizeof url - 1);
     smap_store_free(&store);
     smap_rewriting_free(&rewriting);
+    smap_table_free(&table);
     smap_map_free(&outer);
     refuses_all = false;
     if (statuses != SMAP_DONE || asked != 0 || live != 0) fail("calls over a store", "have another status, ask for memory or leak");

@@ -121,8 +121,8 @@ function maps() {
   const buffer = new ArrayBuffer(8);
   const others = [7, true, null, undefined, 7n, Symbol('map'), () => small, buffer, new DataView(buffer), new Uint16Array(8)];
   for (const other of others) refuses('TypeError', () => new smap.TraceMap(other), /a map must be a text/);
-  refuses('Refused', () => new smap.TraceMap('no JSON'), /^refused: M2 NotJson\n  the file is no JSON text/, { number: 2, url: undefined });
-  refuses('Refused', () => new smap.TraceMap([]), /M3 NotObject/, { number: 3 });
+  refuses('Refused', () => new smap.TraceMap('no JSON'), /^refused: M2 NotJson\n  the file is no JSON text/, { code: 'M2', url: undefined });
+  refuses('Refused', () => new smap.TraceMap([]), /M3 NotObject/, { code: 'M3' });
 }
 
 function reasons() {
@@ -133,10 +133,10 @@ function reasons() {
     });
   refusing('AACA,ECAA', ['a.js'], `F10 SourceIndex line 1 byte 5
   segment "ECAA" at line 1, column 3, numbers 2, 1, 0, 0
-  source index 1, and the map has 1 source`, { fault: 10, line: 0, value: 1, limit: 0, column: 2 });
+  source index 1, and the map has 1 source`, { cause: 'F10', line: 0, value: 1, limit: 0, column: 2 });
   refusing(';D', [], `F7 Negative line 2 byte 1
   segment "D" at line 2, numbers -1
-  column 0, and the least is 1`, { fault: 7, line: 1, value: -1, limit: 0, column: undefined });
+  column 0, and the least is 1`, { cause: 'F7', line: 1, value: -1, limit: 0, column: undefined });
   const known = { value: undefined, limit: undefined, column: undefined };
   const sources = '  `sources` is the number 7, and the key must hold a list of texts and nulls, at most 33,554,432 in the file';
   refuses('Refused', () => new smap.TraceMap('{"version":3,"sources":7,"mappings":""}'), `refused: M8 Sources\n${sources}`, { ...known, explanation: `${sources}\n` });
@@ -155,15 +155,15 @@ function bases() {
   for (const url of [undefined, null, '']) same(new smap.TraceMap(small, url).resolvedSources, ['a.js']);
   same(new smap.TraceMap(small, `https://e.test/${'x'.repeat(100000)}/b.js`).resolvedSources[0].length, 100020);
   for (const url of ['https://', 'https://[/a.js']) {
-    refuses('Refused', () => new smap.TraceMap(small, url), `the base is no URL: "${url}"`, { number: 0 });
+    refuses('Refused', () => new smap.TraceMap(small, url), `the base is no URL: "${url}"`, { code: 'usage' });
   }
   refuses('Refused', () => new smap.TraceMap(small, `https://[${'x'.repeat(99991)}`), /the base is no URL: .* 99800 characters more$/);
   for (const url of [7, false, {}, [], Buffer.from('https://e.test/')]) {
     refuses('TypeError', () => new smap.TraceMap(small, url), /`mapUrl` must be a text/);
   }
   // No base of a test is so long.
-  const long = refusedMap(Buffer.alloc(0), Float64Array.of(19, 0, 0, 0, 0, 0), 'https://e.test/');
-  same([long.number, long.message], [19, 'the base is too long: "https://e.test/"']);
+  const long = refusedMap(Buffer.alloc(0), Float64Array.of(addon.codes.U1, 0, 0, 0, 0, 0), 'https://e.test/');
+  same([long.code, long.message], ['U1', 'the base is too long: "https://e.test/"']);
   same(refusedMap(Buffer.alloc(0), Float64Array.of(99, 0, 0, 0, 0, 0), '').message, 'refused: 99');
 }
 
@@ -205,7 +205,7 @@ function paths() {
     }
   }
   for (const url of ['a.js', 'https://e.test/a.js']) {
-    refuses('Refused', () => new smap.TraceMap('no JSON', url), new RegExp(`^refused: ${url}: M2 NotJson\n`), { number: 2, url });
+    refuses('Refused', () => new smap.TraceMap('no JSON', url), new RegExp(`^refused: ${url}: M2 NotJson\n`), { code: 'M2', url });
   }
   refuses('Refused', () => new smap.TraceMap(small, 'a.js', 0), /M15 Build B1 Interval/);
 }
@@ -404,11 +404,11 @@ function decodedMaps() {
   const holes = [[[0, 0, 0, 0]]];
   holes[5] = [[0, 0, 1, 0]];
   for (const mappings of [...bad, [7], ['AAAA'], [null], holes, Array(2 ** 32 - 1)]) refuses('TypeError', () => new smap.TraceMap(given(mappings)), /^decoded `mappings` must be lines of segments/);
-  refuses('Refused', () => new smap.TraceMap(given([[], [[7], [5], [3]]])), 'refused: E1 NotSorted 1', { number: 1, line: 1, value: 5, limit: 7, column: 5 });
+  refuses('Refused', () => new smap.TraceMap(given([[], [[7], [5], [3]]])), 'refused: E1 NotSorted 1', { code: 'E1', line: 1, value: 5, limit: 7, column: 5 });
   const index = { version: 3, sections: [{ offset: { line: 0, column: 0 }, map: given([[[5], [3]]]) }] };
-  refuses('Refused', () => new smap.TraceMap(index), 'refused: E1 NotSorted 1', { number: 1, line: 0, value: 3, limit: 5, column: 3 });
-  refuses('Refused', () => new smap.TraceMap(given([[[0, 1, 0, 0]]])), /F10 SourceIndex/, { fault: 10 });
-  refuses('Refused', () => new smap.TraceMap(JSON.stringify(given(lines))), /M13 Mappings/, { number: 13 });
+  refuses('Refused', () => new smap.TraceMap(index), 'refused: E1 NotSorted 1', { code: 'E1', line: 0, value: 3, limit: 5, column: 3 });
+  refuses('Refused', () => new smap.TraceMap(given([[[0, 1, 0, 0]]])), /F10 SourceIndex/, { cause: 'F10' });
+  refuses('Refused', () => new smap.TraceMap(JSON.stringify(given(lines))), /M13 Mappings/, { code: 'M13' });
   for (const sections of [[null], [7], [[]], [{}], [{ map: null }]]) refuses('Refused', () => new smap.TraceMap({ version: 3, sections }), /M[56] Section/);
   same(smap.originalPositionFor(new smap.TraceMap(small), { line: 1, column: 12 }), last);
   const table = new smap.Table({ 'b.js': given(lines) });
@@ -424,8 +424,8 @@ function bytes() {
   for (const given of [text, Buffer.from(text)]) same(map.bytesBySource(given), { sources: [2, 8, 0], unmapped: 9 });
   same(map.bytesBySource(''), { sources: [0, 0, 0], unmapped: 0 });
   same(new smap.TraceMap('{"version":3,"sources":[],"mappings":""}').bytesBySource('x'), { sources: [], unmapped: 1 });
-  refuses('Refused', () => map.bytesBySource(Buffer.of(97, 255)), 'refused: NotUtf8', { number: 1 });
-  refuses('Refused', () => map.bytesBySource(Buffer.alloc(67108865, 'x')), 'refused: TooLarge', { number: 2 });
+  refuses('Refused', () => map.bytesBySource(Buffer.of(97, 255)), 'refused: NotUtf8', { code: 'NotUtf8' });
+  refuses('Refused', () => map.bytesBySource(Buffer.alloc(67108865, 'x')), 'refused: M1 TooLarge', { code: 'M1' });
   for (const bad of [7, null, undefined, {}, [text]]) refuses('TypeError', () => map.bytesBySource(bad), /`generated` must be a text or a Uint8Array/);
 }
 
@@ -469,8 +469,8 @@ function fit() {
   for (const given of ['var ab\n ;x', Buffer.from('var ab\n ;x')]) same(map.fit(given), { fits: true, ...counts });
   same(map.fit('var ab\nabc'), { fits: false, ...counts, inside: 1 });
   same(map.fit(''), { fits: false, ...counts, past: 2, same: 0 });
-  refuses('Refused', () => map.fit(Buffer.of(97, 255)), 'refused: NotUtf8', { number: 1 });
-  refuses('Refused', () => map.fit(Buffer.alloc(67108865, 'x')), 'refused: TooLarge', { number: 2 });
+  refuses('Refused', () => map.fit(Buffer.of(97, 255)), 'refused: NotUtf8', { code: 'NotUtf8' });
+  refuses('Refused', () => map.fit(Buffer.alloc(67108865, 'x')), 'refused: M1 TooLarge', { code: 'M1' });
   for (const bad of [7, null, undefined, {}]) refuses('TypeError', () => map.fit(bad), /`generated` must be a text or a Uint8Array/);
 }
 
@@ -481,7 +481,7 @@ function shared() {
     bytes.set(Buffer.from(text));
     return bytes;
   };
-  refuses('TypeError', () => addon.read(sharing(small), Buffer.alloc(0), 64, 0, new Float64Array(6)), /shared/);
+  refuses('TypeError', () => addon.read(sharing(small), Buffer.alloc(0), false, 64, 0, new Float64Array(6)), /shared/);
   for (const url of [undefined, 'dist/a.js', 'https://e.test/a.js']) {
     const given = sharing(small);
     const map = new smap.TraceMap(given, url);
@@ -505,7 +505,7 @@ function shared() {
 function intervals() {
   for (const interval of [1, 64, 4096, undefined]) same(new smap.TraceMap(small, null, interval).names, ['n']);
   for (const interval of [0, -1, -far + 64, 4097, far - 1, far, far + 64, 2 ** 53, Infinity, -Infinity]) {
-    refuses('Refused', () => new smap.TraceMap(small, null, interval), /M15 Build B1 Interval/, { number: 15, build: 1 });
+    refuses('Refused', () => new smap.TraceMap(small, null, interval), /M15 Build B1 Interval/, { code: 'M15', cause: 'B1' });
   }
   for (const interval of [0.5, 64.5, NaN, '64', null, true, 64n]) {
     refuses('TypeError', () => new smap.TraceMap(small, null, interval), /`interval` must be a whole number/);
@@ -516,7 +516,7 @@ function compositions(path) {
   const [map, other] = [new smap.TraceMap(small), new smap.TraceMap(small)];
   for (const source of [1, -1, -far, far - 1, far, 2 ** 53, Infinity]) {
     for (const inner of [map, other]) {
-      refuses('Refused', () => smap.compose(map, source, inner), 'refused: C1 SourceIndex', { number: 1 });
+      refuses('Refused', () => smap.compose(map, source, inner), 'refused: C1 SourceIndex', { code: 'C1' });
     }
   }
   for (const source of [0.5, NaN, '0', null, undefined, false]) {
@@ -535,8 +535,8 @@ function compositions(path) {
   const outer = new smap.TraceMap(long);
   refuses('Refused', () => outer.write(), 'refused: O1 TextTooLong');
   for (const inner of [outer, new smap.TraceMap(long)]) {
-    refuses('Refused', () => smap.compose(outer, 0, inner), 'refused: C2 TooLarge', { number: 2 });
-    refuses('Refused', () => smap.compose(outer, 1, inner), 'refused: C1 SourceIndex', { number: 1 });
+    refuses('Refused', () => smap.compose(outer, 0, inner), 'refused: C2 TooLarge', { code: 'C2' });
+    refuses('Refused', () => smap.compose(outer, 1, inner), 'refused: C1 SourceIndex', { code: 'C1' });
   }
 }
 
@@ -563,13 +563,13 @@ function composingAll() {
   for (const source of [3, -1, -far, far - 1, far, 2 ** 53, Infinity]) {
     for (const load of [undefined, () => null]) {
       const call = (...inners) => smap.composeAll(map, inners, { load });
-      refuses('Refused', () => call([source, inner]), 'refused: C1 SourceIndex', { number: 1 });
-      refuses('Refused', () => call([0, second], [source, inner]), 'refused: C1 SourceIndex', { number: 1 });
+      refuses('Refused', () => call([source, inner]), 'refused: C1 SourceIndex', { code: 'C1' });
+      refuses('Refused', () => call([0, second], [source, inner]), 'refused: C1 SourceIndex', { code: 'C1' });
     }
   }
   isOpen();
-  refuses('Refused', () => smap.composeAll(map, { 'a.js': inner }), 'refused: C4 NoSource a.js', { number: 4 });
-  refuses('Refused', () => smap.composeAll(map, { 'x/a.js': '{}' }), `refused: x/a.js: M4 Version\n  ${noVersion}`, { number: 4, url: 'x/a.js' });
+  refuses('Refused', () => smap.composeAll(map, { 'a.js': inner }), 'refused: C4 NoSource a.js', { code: 'C4' });
+  refuses('Refused', () => smap.composeAll(map, { 'x/a.js': '{}' }), `refused: x/a.js: M4 Version\n  ${noVersion}`, { code: 'M4', url: 'x/a.js' });
   refuses('Error', () => smap.composeAll(map, [['x/a.js', inner], [1, inner]]), 'source 1 has two maps');
   for (const source of [0.5, NaN, null, undefined, false, {}]) {
     refuses('TypeError', () => smap.composeAll(map, [[source, inner]]), /`source` must be a whole number/);
@@ -594,7 +594,7 @@ function composingAll() {
   same(sources(smap.composeAll(map, {}, { load: (name) => (name === 'x/a.js' ? second : null) })), allOf('s.ts', 's.ts'));
   const only = { load: (name) => (name === 's.ts' ? inner : null) };
   same(sources(smap.composeAll(map, { 'x/a.js': inner }, only)), allOf('s.ts', 's.ts', '../s.ts', '../s.ts'));
-  refuses('Refused', () => smap.composeAll(map, {}, { load: () => '[]' }), `refused: x/a.js: M3 NotObject\n  ${noObject}`, { number: 3, url: 'x/a.js' });
+  refuses('Refused', () => smap.composeAll(map, {}, { load: () => '[]' }), `refused: x/a.js: M3 NotObject\n  ${noObject}`, { code: 'M3', url: 'x/a.js' });
   refuses('RangeError', () => smap.composeAll(map, {}, { load: (name) => { throw new RangeError(name); } }), 'x/a.js');
   refuses('TypeError', () => smap.composeAll(map, {}, { load: () => 7 }), /a map must be a text/);
   isOpen();
@@ -630,18 +630,18 @@ function composingAll() {
 function tables() {
   const url = 'https://e.test/a.min.js';
   const second = 'https://e.test/b.min.js';
-  for (const [data, number, text, why] of [['{}', 4, 'M4 Version', noVersion], ['[]', 3, 'M3 NotObject', noObject]]) {
-    const explanation = `  ${why}\n`;
-    refuses('Refused', () => new smap.Table({ [url]: small, [second]: data }), `refused: ${second}: ${text}\n  ${why}`, { number, url: second, explanation });
-    refuses('Refused', () => new smap.Table([['b.js', data], [url, small]]), `refused: b.js: ${text}\n  ${why}`, { number, url: 'b.js', explanation });
+  for (const [data, text, why] of [['{}', 'M4 Version', noVersion], ['[]', 'M3 NotObject', noObject]]) {
+    const [explanation, code] = [`  ${why}\n`, text.slice(0, 2)];
+    refuses('Refused', () => new smap.Table({ [url]: small, [second]: data }), `refused: ${second}: ${text}\n  ${why}`, { code, url: second, explanation });
+    refuses('Refused', () => new smap.Table([['b.js', data], [url, small]]), `refused: b.js: ${text}\n  ${why}`, { code, url: 'b.js', explanation });
   }
-  const fault = { number: 14, fault: 1, line: 0, byte: 0, section: 0, url: second };
+  const fault = { code: 'M14', cause: 'F1', line: 0, byte: 0, section: 0, url: second };
   refuses('Refused', () => new smap.Table({ [second]: small.replace('AAAA', 'AA!A') }), /b\.min\.js: M14/, fault);
   for (const bad of ['', 'a\nb', 'async a', 'eval at a']) {
     const message = `usage: A1 BadUrl: ${JSON.stringify(bad)}`;
-    refuses('Refused', () => new smap.Table({ [url]: small, [bad]: small }), message, { number: 1, url: bad });
+    refuses('Refused', () => new smap.Table({ [url]: small, [bad]: small }), message, { code: 'A1', url: bad });
   }
-  refuses('Refused', () => new smap.Table([[url, small], [url, small]]), `usage: A2 Twice: "${url}"`, { number: 2, url });
+  refuses('Refused', () => new smap.Table([[url, small], [url, small]]), `usage: A2 Twice: "${url}"`, { code: 'A2', url });
   for (const bad of [7, null, undefined, {}]) refuses('TypeError', () => new smap.Table([[bad, small]]), /`URL` must be a text/);
   for (const bad of [7, null, undefined, 'a.js']) refuses('TypeError', () => new smap.Table(bad), /`maps` must be/);
   for (const bad of [7, null, undefined]) refuses('TypeError', () => new smap.Table({ 'a.js': bad }), /a map must be a text/);
@@ -715,7 +715,7 @@ function refusing() {
     const reported = refused ? told : table.refusals;
     same(reported.map(({ url, error }) => [url, error.message]), names.map((name, i) => [name, why[i]]));
     same(reported.map(({ error }) => error.name), ['Refused', 'RangeError', 'TypeError', 'TypeError']);
-    same([reported[0].error.number, reported[0].error.url], [4, 'odd.js']);
+    same([reported[0].error.code, reported[0].error.url], ['M4', 'odd.js']);
     same(asked.splice(0), [...names, 'a.min.js']);
   }
   // Not all are kept, and what the one that is told throws is thrown.

@@ -144,7 +144,7 @@ def maps(folder):
     for given in (path, str(path)):
         with SourceMap.from_file(given, base="https://e.test/x.js", interval=1) as small:
             same((small.look_up(0, 12), small.source(0).name), (LAST, "https://e.test/a.js"))
-    refuses(Refused, lambda: SourceMap.from_file(str(other)), f"refused: {other}: M2 NotJson", number=2)
+    refuses(Refused, lambda: SourceMap.from_file(str(other)), f"refused: {other}: M2 NotJson", code="M2")
     refuses(FileNotFoundError, lambda: SourceMap.from_file(str(folder / "none.map")), "none.map")
     for given in (7, b"x.map", None, [path]):
         refuses(TypeError, lambda: SourceMap.from_file(given))
@@ -154,12 +154,12 @@ def maps(folder):
         refuses(TypeError, lambda: SourceMap(data), "bytes, a str or a Path", type(data).__name__)
     refuses(TypeError, lambda: SourceMap(array("I", [0])), "32 bits")
     refuses(FileNotFoundError, lambda: SourceMap(folder / "none.map"))
-    refuses(Refused, lambda: SourceMap(other), f"refused: {other}: M2 NotJson", number=2, url=None)
+    refuses(Refused, lambda: SourceMap(other), f"refused: {other}: M2 NotJson", code="M2", url=None)
     refuses(Refused, lambda: SourceMap(other, "https://e.test/"), f"refused: {other}: M2 NotJson", url="https://e.test/")
-    refuses(Refused, lambda: SourceMap(str(path)), "refused: M2 NotJson", number=2)
+    refuses(Refused, lambda: SourceMap(str(path)), "refused: M2 NotJson", code="M2")
     unnamed = Path(os.fsdecode(os.fsencode(folder) + b"/\xff.map"))
     unnamed.write_bytes(b"[]")
-    refuses(Refused, lambda: SourceMap(unnamed), "\ufffd.map: M3 NotObject", number=3)
+    refuses(Refused, lambda: SourceMap(unnamed), "\ufffd.map: M3 NotObject", code="M3")
     for held in (bytearray(SMALL), mmap.mmap(-1, 9), "x", None):
         refuses(TypeError, lambda: _smap.frame_urls(held, False), "no bytes and no memoryview")
 
@@ -171,13 +171,13 @@ def reasons(folder):
                 explanation=lines.split("\n", 1)[1] + "\n", **members)
     refusing("AACA,ECAA", '["a.js"]', """F10 SourceIndex line 1 byte 5
   segment "ECAA" at line 1, column 3, numbers 2, 1, 0, 0
-  source index 1, and the map has 1 source""", fault=10, line=0, value=1, limit=0, column=2)
+  source index 1, and the map has 1 source""", cause="F10", line=0, value=1, limit=0, column=2)
     refusing("AACA", "[]", """F10 SourceIndex line 1 byte 0
   segment "AACA" at line 1, column 1, numbers 0, 0, 1, 0
-  source index 0, and the map has 0 sources""", fault=10, line=0, value=0, limit=-1, column=0)
+  source index 0, and the map has 0 sources""", cause="F10", line=0, value=0, limit=-1, column=0)
     refusing(";D", "[]", """F7 Negative line 2 byte 1
   segment "D" at line 2, numbers -1
-  column 0, and the least is 1""", fault=7, line=1, value=-1, limit=0, column=None)
+  column 0, and the least is 1""", cause="F7", line=1, value=-1, limit=0, column=None)
     known = {"value": None, "limit": None, "column": None}
     why = "  `sources` is the number 7, and the key must hold a list of texts and nulls, at most 33,554,432 in the file"
     refuses(Refused, lambda: SourceMap('{"version":3,"sources":7,"mappings":""}'), args=(f"refused: M8 Sources\n{why}",),
@@ -197,15 +197,15 @@ def bases():
     with SourceMap(SMALL, base="https://e.test/" + "x" * 100000 + "/b.js") as small:
         same(len(small.source(0).name), 100020)
     for base in ("", "no URL", "a.js", "/a.js", "\udc80"):
-        refuses(Refused, lambda: SourceMap(SMALL, base=base), "the base is no URL", repr(base), number=0)
-    refuses(Refused, lambda: SourceMap(SMALL, base="x" * 100000), "the base is no URL", "99800 characters more", number=0)
+        refuses(Refused, lambda: SourceMap(SMALL, base=base), "the base is no URL", repr(base), code="usage")
+    refuses(Refused, lambda: SourceMap(SMALL, base="x" * 100000), "the base is no URL", "99800 characters more", code="usage")
     url = "https://e.test/a.map"
-    refuses(Refused, lambda: SourceMap(b"{}", base=url), f"refused: {url}: M4 Version\n", number=4, url=url)
+    refuses(Refused, lambda: SourceMap(b"{}", base=url), f"refused: {url}: M4 Version\n", code="M4", url=url)
     for base in (7, b"https://e.test/", ["a"]):
         refuses(TypeError, lambda: SourceMap(SMALL, base=base), "base is a str", type(base).__name__)
     # No base of a test is so long.
-    long = refused_map(b"", Refusal(19, 0, 0, 0, 0, 0), None, "https://e.test/")
-    same((long.number, str(long)), (19, "the base is too long: 'https://e.test/'"))
+    long = refused_map(b"", Refusal(_smap.U1, 0, 0, 0, 0, 0), None, "https://e.test/")
+    same((long.code, str(long)), ("U1", "the base is too long: 'https://e.test/'"))
     same(str(refused_map(b"", Refusal(99, 0, 0, 0, 0, 0), None, "")), "refused: 99")
 
 
@@ -214,7 +214,7 @@ def intervals():
         with SourceMap(SMALL, interval=interval) as small:
             same(small.look_up(0, 12), LAST)
     for interval in (0, -1, -FAR + 64, 4097, FAR - 1, FAR, FAR + 64, 2**64 + 64):
-        refuses(Refused, lambda: SourceMap(SMALL, interval=interval), "M15 Build B1 Interval", number=15, build=1)
+        refuses(Refused, lambda: SourceMap(SMALL, interval=interval), "M15 Build B1 Interval", code="M15", cause="B1")
     for interval in (True, 64.0, "64", None):
         refuses(TypeError, lambda: SourceMap(SMALL, interval=interval), "interval", type(interval).__name__)
 
@@ -222,8 +222,8 @@ def intervals():
 def compositions(path):
     with SourceMap(SMALL) as small, SourceMap(SMALL) as other:
         for source in (1, -1, -FAR, FAR - 1, FAR, 2**64):
-            refuses(Refused, lambda: compose(small, source, other), "refused: C1 SourceIndex", number=1)
-            refuses(Refused, lambda: compose(small, source, small), "refused: C1 SourceIndex", number=1)
+            refuses(Refused, lambda: compose(small, source, other), "refused: C1 SourceIndex", code="C1")
+            refuses(Refused, lambda: compose(small, source, small), "refused: C1 SourceIndex", code="C1")
         for source in (False, 0.0, "0", None):
             refuses(TypeError, lambda: compose(small, source, other), "source", type(source).__name__)
         for given in (7, SMALL, None):
@@ -239,8 +239,8 @@ def compositions(path):
     with SourceMap(far) as source_map, SourceMap(far) as other:
         refuses(Refused, source_map.write, "refused: O1 TextTooLong")
         for inner in (source_map, other):
-            refuses(Refused, lambda: compose(source_map, 0, inner), "refused: C2 TooLarge", number=2)
-            refuses(Refused, lambda: compose(source_map, 1, inner), "refused: C1 SourceIndex", number=1)
+            refuses(Refused, lambda: compose(source_map, 0, inner), "refused: C2 TooLarge", code="C2")
+            refuses(Refused, lambda: compose(source_map, 1, inner), "refused: C1 SourceIndex", code="C1")
 
 
 def encoding():
@@ -248,10 +248,10 @@ def encoding():
     same([encode(mappings), encode(iter(mappings[:1])), encode([])], ["AAAA,UACIA;;K", "AAAA", ""])
     with SourceMap(SMALL) as source_map:
         same(encode(source_map.mappings()), "AAAA,UACIA;;K")
-    refuses(Refused, lambda: encode(reversed(mappings)), "refused: E1 NotSorted 1", number=1)
+    refuses(Refused, lambda: encode(reversed(mappings)), "refused: E1 NotSorted 1", code="E1")
     for number in (2**31, FAR, 2**64):
-        refuses(Refused, lambda: encode([*mappings, Mapping(9, number, None, None, None, None)]), "refused: E2 OutOfRange 3", number=2)
-    refuses(Refused, lambda: encode([Mapping(2**31 - 1, 0, None, None, None, None)]), "refused: E3 TooLong", number=3)
+        refuses(Refused, lambda: encode([*mappings, Mapping(9, number, None, None, None, None)]), "refused: E2 OutOfRange 3", code="E2")
+    refuses(Refused, lambda: encode([Mapping(2**31 - 1, 0, None, None, None, None)]), "refused: E3 TooLong", code="E3")
     refuses(ValueError, lambda: encode([Mapping(0, -1, None, None, None, None)]), "-1")
     for number in (0.0, "0", True):
         refuses(TypeError, lambda: encode([Mapping(0, number, None, None, None, None)]), "whole number")
@@ -283,11 +283,11 @@ def composing_all():
         same(sources(compose_all(first, {2: inner}, prune=True)), ["x/a.js", "https://e.test/s.ts"])
         for source in (3, -1, -FAR, FAR - 1, FAR, 2**64):
             for load in (None, lambda name: None):
-                refuses(Refused, lambda: compose_all(first, {source: inner}, load), "refused: C1 SourceIndex", number=1)
-                refuses(Refused, lambda: compose_all(first, {0: second, source: inner}, load), "refused: C1 SourceIndex", number=1)
+                refuses(Refused, lambda: compose_all(first, {source: inner}, load), "refused: C1 SourceIndex", code="C1")
+                refuses(Refused, lambda: compose_all(first, {0: second, source: inner}, load), "refused: C1 SourceIndex", code="C1")
         same(second.look_up(0, 0), Answer(0, 0, 0, 0, None))
-        refuses(Refused, lambda: compose_all(first, {"a.js": inner}), "refused: C4 NoSource a.js", number=4)
-        refuses(Refused, lambda: compose_all(first, {"x/a.js": b"{}"}), "refused: x/a.js: M4 Version", number=4, url="x/a.js")
+        refuses(Refused, lambda: compose_all(first, {"a.js": inner}), "refused: C4 NoSource a.js", code="C4")
+        refuses(Refused, lambda: compose_all(first, {"x/a.js": b"{}"}), "refused: x/a.js: M4 Version", code="M4", url="x/a.js")
         refuses(ValueError, lambda: compose_all(first, {"x/a.js": inner, 1: inner}), "source 1 has two maps")
         for source in (False, 0.0, None, b"x/a.js"):
             refuses(TypeError, lambda: compose_all(first, {source: inner}), "source", type(source).__name__)
@@ -321,7 +321,7 @@ def composing_all():
         same(asked, ["x/a.js", "https://e.test/y/b.js", "s.ts"])
         same(sources(compose_all(first, load=lambda name: second if name == "x/a.js" else None)), all_of("s.ts", "s.ts"))
         same(sources(compose_all(first, {"x/a.js": inner}, load=lambda name: inner if name == "s.ts" else None)), all_of("s.ts", "s.ts", "../s.ts", "../s.ts"))
-        refuses(Refused, lambda: compose_all(first, load=lambda name: b"[]"), "refused: x/a.js: M3 NotObject", number=3, url="x/a.js")
+        refuses(Refused, lambda: compose_all(first, load=lambda name: b"[]"), "refused: x/a.js: M3 NotObject", code="M3", url="x/a.js")
         refuses(KeyError, lambda: compose_all(first, load=lambda name: maps["none"]), "none")
         refuses(TypeError, lambda: compose_all(first, load=lambda name: 7), "bytes, a str or a Path", "int")
         same(second.look_up(0, 0), Answer(0, 0, 0, 0, None))
@@ -333,14 +333,14 @@ def composing_all():
 
 def tables():
     url, second = "https://e.test/a.min.js", "https://e.test/b.min.js"
-    for data, number, text in ((b"{}", 4, "M4 Version"), (b"no JSON", 2, "M2 NotJson"), ("[]", 3, "M3 NotObject")):
-        refuses(Refused, lambda: Rewriter({url: SMALL, second: data}), f"refused: {second}: {text}", number=number, url=second)
-        refuses(Refused, lambda: Rewriter({"b.js": data, url: SMALL}), f"refused: b.js: {text}", number=number, url="b.js")
+    for data, text in ((b"{}", "M4 Version"), (b"no JSON", "M2 NotJson"), ("[]", "M3 NotObject")):
+        refuses(Refused, lambda: Rewriter({url: SMALL, second: data}), f"refused: {second}: {text}", code=text[:2], url=second)
+        refuses(Refused, lambda: Rewriter({"b.js": data, url: SMALL}), f"refused: b.js: {text}", code=text[:2], url="b.js")
     fault = SMALL.replace(b"AAAA", b"AA!A")
-    refuses(Refused, lambda: Rewriter({second: fault}), second, number=14, fault=1, line=0, byte=0, section=0, url=second)
+    refuses(Refused, lambda: Rewriter({second: fault}), second, code="M14", cause="F1", line=0, byte=0, section=0, url=second)
     for bad in ("", "a\nb", "async a", "eval at a"):
-        refuses(Refused, lambda: Rewriter({url: SMALL, bad: SMALL}), "usage: A1 BadUrl: " + repr(bad), number=1, url=bad)
-    refuses(Refused, lambda: Rewriter({"\udc80": SMALL}), "no UTF-8", number=0, url="\udc80")
+        refuses(Refused, lambda: Rewriter({url: SMALL, bad: SMALL}), "usage: A1 BadUrl: " + repr(bad), code="A1", url=bad)
+    refuses(Refused, lambda: Rewriter({"\udc80": SMALL}), "usage: NotUtf8: ", code="NotUtf8", url="\udc80")
     for bad in (7, b"a.js", None):
         refuses(TypeError, lambda: Rewriter({bad: SMALL}), "URL", type(bad).__name__)
     for bad in (7, [("a.js", SMALL)], "a.js", None):
@@ -391,8 +391,8 @@ def paths():
             with SourceMap(given, Path(path)) as made:
                 same((made.source_name(1), made.look_up(0, 0).source), (name, 1))
                 same(json.loads(made.write())["sources"][1], name)
-    refuses(Refused, lambda: SourceMap("no JSON", Path("a.js")), "refused: a.js: M2 NotJson\n", number=2, url=None)
-    refuses(Refused, lambda: SourceMap("dist/a.js.map"), "`SourceMap.from_file` reads the file at a path", number=2)
+    refuses(Refused, lambda: SourceMap("no JSON", Path("a.js")), "refused: a.js: M2 NotJson\n", code="M2", url=None)
+    refuses(Refused, lambda: SourceMap("dist/a.js.map"), "`SourceMap.from_file` reads the file at a path", code="M2")
     for given in (b"dist/a.js.map", "{dist/a.js.map", "a\nb", ""):
         try:
             SourceMap(given)
@@ -453,7 +453,7 @@ def refusing():
             reported = told if refused else rewriter.refusals
         same([(url, type(error)) for url, error in reported], list(zip(names, (Refused, KeyError, TypeError))))
         same(str(reported[0][1]).splitlines()[0], "refused: odd.js: M4 Version")
-        same((reported[0][1].number, reported[0][1].url), (4, "odd.js"))
+        same((reported[0][1].code, reported[0][1].url), ("M4", "odd.js"))
         same(asked, names + ["a.min.js"])
         asked.clear()
 
@@ -611,10 +611,10 @@ def generated(folder):
         same(made.bytes_by_source(path), ([3, 4, 0], 13))
         same(made.bytes_by_source(""), ([0, 0, 0], 0))
         path.write_bytes(b"a\xff")
-        refuses(Refused, lambda: made.bytes_by_source(b"\xff"), args=("refused: NotUtf8",), number=1)
-        refuses(Refused, lambda: made.bytes_by_source(path), args=(f"refused: {path}: NotUtf8",), number=1)
+        refuses(Refused, lambda: made.bytes_by_source(b"\xff"), args=("refused: NotUtf8",), code="NotUtf8")
+        refuses(Refused, lambda: made.bytes_by_source(path), args=(f"refused: {path}: NotUtf8",), code="NotUtf8")
         same(made.bytes_by_source(b"a" * 2**26), ([3, 2, 0], 2**26 - 5))
-        refuses(Refused, lambda: made.bytes_by_source(b"a" * (2**26 + 1)), args=("refused: TooLarge",), number=2)
+        refuses(Refused, lambda: made.bytes_by_source(b"a" * (2**26 + 1)), args=("refused: M1 TooLarge",), code="M1")
         for given in (7, None, ["a"]):
             refuses(TypeError, lambda: made.bytes_by_source(given), "a generated file is bytes, a str or a Path")
     with SourceMap('{"version":3,"sources":[],"mappings":""}') as empty:
@@ -633,8 +633,8 @@ def fits(folder):
             same(made.fit(given), (True, 4, 0, 0, 3, 1, 1))
         same(made.fit("var ab\nabc"), Fit(fits=False, mappings=4, past=0, inside=1, compared=3, outside=1, same=1))
         same(made.fit(""), (False, 4, 2, 0, 3, 1, 0))
-        refuses(Refused, lambda: made.fit(b"\xff"), args=("refused: NotUtf8",), number=1)
-        refuses(Refused, lambda: made.fit(b"a" * (2**26 + 1)), args=("refused: TooLarge",), number=2)
+        refuses(Refused, lambda: made.fit(b"\xff"), args=("refused: NotUtf8",), code="NotUtf8")
+        refuses(Refused, lambda: made.fit(b"a" * (2**26 + 1)), args=("refused: M1 TooLarge",), code="M1")
         for given in (7, None, ["a"]):
             refuses(TypeError, lambda: made.fit(given), "a generated file is bytes, a str or a Path")
 

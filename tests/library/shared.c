@@ -97,7 +97,7 @@ static void long_line(size_t letters, size_t signs, size_t kept, uint32_t cut) {
 static smap_table table_of(void) {
     smap_table table = {0};
     smap_map map = read_map(small, sizeof small - 1);
-    uint32_t refusal = 0;
+    smap_code refusal = 0;
     insist(smap_table_new(&table) == SMAP_DONE, "a table");
     insist(smap_table_add(&table, BYTES("https://e.test/o.js"), &map, &refusal) == SMAP_DONE, "a map in it");
     return table;
@@ -161,11 +161,11 @@ struct holders { smap_map handle, other, outer; smap_table table; smap_inners in
 static struct holders held_by_all(void) {
     struct holders by = {.handle = read_map(small, sizeof small - 1), .outer = read_map(small, sizeof small - 1)};
     smap_map place = {0};
-    uint32_t refusal = 0;
+    smap_code refusal = 0;
     insist(smap_map_share(&by.handle, &by.other) == SMAP_DONE && smap_map_share(&by.other, &place) == SMAP_DONE, "shares");
     insist(smap_table_new(&by.table) == SMAP_DONE, "a table");
     insist(smap_table_add_shared(&by.table, BYTES("*o.js"), &by.handle, &refusal) == SMAP_DONE, "a share in it");
-    insist(smap_table_add_shared(&by.table, BYTES("*o.js"), &by.handle, &refusal) == SMAP_REFUSED && refusal == 2, "a share that is refused");
+    insist(smap_table_add_shared(&by.table, BYTES("*o.js"), &by.handle, &refusal) == SMAP_REFUSED && refusal == SMAP_CODE_A2, "a share that is refused");
     insist(smap_inners_new(&by.outer, &by.inners) == SMAP_DONE && smap_inners_put(&by.inners, 0, &place) == SMAP_DONE, "a share in its place");
     return by;
 }
@@ -214,7 +214,7 @@ static void renamed_alone(void) {
         smap_map map = read_map(path, sizeof path - 1), other = {0};
         smap_table table = {0};
         smap_source_text source = SMAP_SOURCE;
-        uint32_t refusal = 0;
+        smap_code refusal = 0;
         if (holder == 0) insist(smap_map_share(&map, &other) == SMAP_DONE, "a share");
         else insist(smap_table_new(&table) == SMAP_DONE && smap_table_add_shared(&table, BYTES("o.js"), &map, &refusal) == SMAP_DONE, "a share in a table");
         insist(smap_map_use_paths(&map, BYTES("/x/out/o.js")) == SMAP_REFUSED, "a map that is held twice is not renamed");
@@ -266,7 +266,7 @@ static void threads(long rounds) {
     pthread_t thread[THREADS];
     static struct shared shared[THREADS];
     for (uint32_t i = 0; i < THREADS; i++) {
-        uint32_t refusal = 0;
+        smap_code refusal = 0;
         shared[i] = (struct shared){.seed = i, .rounds = rounds / (1 + i % 3)};
         insist(smap_map_share(&map, &shared[i].map) == SMAP_DONE && smap_table_new(&shared[i].table) == SMAP_DONE, "a thread's own");
         insist(smap_table_add_shared(&shared[i].table, BYTES("https://e.test/o.js"), &map, &refusal) == SMAP_DONE, "the map in its table");

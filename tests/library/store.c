@@ -90,7 +90,7 @@ static smap_rewrite_refusal refusal;
 static uint32_t run_over(smap_rewriting *rewriting, smap_table *table, smap_store *store, uint64_t now) {
     refusal = (smap_rewrite_refusal){77, 77};
     uint32_t status = smap_rewriting_run(rewriting, table, store, now, &refusal);
-    insist(status == SMAP_REFUSED || (refusal.number == 77 && refusal.lines == 77), "a refusal alone says why");
+    insist(status == SMAP_REFUSED || (refusal.code == 77 && refusal.lines == 77), "a refusal alone says why");
     return status;
 }
 
@@ -234,7 +234,7 @@ static void outputs(void) {
     for (int anywhere = 0; anywhere < 2; anywhere++) {
         smap_rewriting rewriting = rewriting_with((smap_rewriting_options){.anywhere = anywhere, .asks = true, .most = 100, .most_output = 15});
         give(&rewriting, "Error\n@a.js:1:1\n@a.js:1:1\nx\n");
-        insist(run(&rewriting, &store, 0) == SMAP_REFUSED && refusal.number == 5 && refusal.lines == 1, "what would be too much");
+        insist(run(&rewriting, &store, 0) == SMAP_REFUSED && refusal.code == SMAP_CODE_X5 && refusal.lines == 1, "what would be too much");
         insist(has_written(&rewriting, anywhere ? "Error\n@1.ts:1:1" : "Error\n"), "what fits");
         insist(smap_rewriting_clear(&rewriting) == SMAP_DONE && run(&rewriting, &store, 0) == SMAP_REFUSED, "what was let go of counts");
         insist(refusal.lines == 1 && smap_rewriting_allow(&rewriting, 100) == SMAP_DONE && run(&rewriting, &store, 0) == SMAP_DONE, "more may come out");
@@ -272,7 +272,7 @@ static void tables(void) {
     insist(smap_table_add(&table, BYTES("*"), &all, &why) == SMAP_DONE, "a map of all");
     smap_rewriting rewriting = rewriting_with((smap_rewriting_options){.anywhere = true, .most = 200, .most_output = 200});
     give(&rewriting, "a.js:1:1\n");
-    insist(run_over(&rewriting, &table, &store, 0) == SMAP_REFUSED && refusal.number == 0 && has_written(&rewriting, ""), "no places over it");
+    insist(run_over(&rewriting, &table, &store, 0) == SMAP_REFUSED && refusal.code == SMAP_CODE_USAGE && has_written(&rewriting, ""), "no places over it");
     smap_rewriting_free(&rewriting);
     smap_table_free(&table);
     smap_store_free(&store);

@@ -222,7 +222,7 @@ async function files(folder) {
   fs.writeFileSync(file, '{}');
   await answers('https://e.test/js/two.ts');
   await answers('https://e.test/js/two.ts');
-  same('what is told', maps.refusals.map(({ url: asked, error }) => [asked, error.number]), [['https://e.test/js/a.js', 4]]);
+  same('what is told', maps.refusals.map(({ url: asked, error }) => [asked, error.code]), [['https://e.test/js/a.js', 'M4']]);
   fs.writeFileSync(file, textOf('three.ts'));
   await answers('https://e.test/js/three.ts');
   fs.unlinkSync(file);
@@ -259,7 +259,7 @@ async function large() {
   }
   const few = new Maps({ loadAsync: async () => text, maxBytes: 1e9, maxNames: 3 });
   await few.load(['a.js']);
-  same('names', few.refusals[0].error.number, 18);
+  same('names', few.refusals[0].error.code, 'M18');
 }
 
 // ---- the model: what is known of each URL, by vectors/store.py

@@ -10,6 +10,7 @@ import sys
 import tempfile
 import threading
 import time
+import weakref
 from pathlib import Path
 
 # The clock of random runs stands, and goes on where the run says so.
@@ -263,6 +264,36 @@ def loads():
     before = large.nbytes
     large.generated(0, 0)
     same(large.nbytes - before, 16 * 10001 + 24, "an index of originals")
+    index(16 * 10001 + 24)
+
+
+# All that are handed out of one map have one index of originals, for which it counts, and which goes where it is dropped or replaced.
+def index(size):
+    long = text_of("a.ts", ",CAAC" * 10000)
+    maps = Maps(lambda url: long, max_bytes=SourceMap(long).nbytes + size + 2000)
+    first, second = maps.get(A), maps.get(A)
+    before, alone = maps.nbytes, first.nbytes
+    found = first.generated(0, 0)
+    same((maps.nbytes - before, [one.nbytes - alone for one in (first, second, maps.get(A))]), (size, [size] * 3), "what counts for it")
+    first.close()
+    same((second.generated(0, 0), maps.get(A).generated(0, 0)), (found, found), "the same index")
+    try:
+        first.generated(0, 0)
+    except ValueError as error:
+        same(str(error), "the map is closed", "one that is closed")
+    kept = weakref.ref(second._originals.source_map)
+    del first, second
+    maps.add(A, text_of("b.ts", ";AACA"))
+    same((kept(), len(maps.get(A).generated(0, 1)), maps.get(A).nbytes < alone), (None, 1, True), "another map")
+    maps.add(A, long)
+    maps.get(A).generated(0, 0)
+    kept = weakref.ref(maps.get(A)._originals.source_map)
+    same((kept() is None, maps.get(B) is None, kept(), len(maps)), (False, False, None, 1), "a map that is dropped")
+    maps.get(B).generated(0, 0)
+    maps.discard(B)
+    gone = weakref.ref(maps)
+    del maps
+    same(gone(), None, "maps that nothing names")
 
 
 # A large map is read beside the tasks, and a long text gives way to them.

@@ -1,3 +1,4 @@
+pub mod CodeLaws
 pub mod FirstLines
 pub mod FrameUrls
 pub mod Held

@@ -1,7 +1,7 @@
 -- Numbers and refusals, back and forth.
 use Rattle.std.proofs.Common.{◌≡◌, ap, refl}
 use Rattle.std.specs.Prelude.{◌≢◌, Some, option_map}
-use Rattle.smap_codes.specs.Codes.{called, number_of}
+use Rattle.smap_codes.specs.Codes.{all_codes, called}
 use Rattle.smap_mappings.specs.Codes.{kind_code}
 use Rattle.smap_mappings.specs.declared.fault.FaultKind.{FaultKind}
 use Rattle.smap_mappings.specs.declared.fault.FaultKind.TheVariants as faults
@@ -10,11 +10,12 @@ use Rattle.smap_record.specs.declared.refusal.MapRefusal.{MapRefusal}
 use Rattle.smap_record.specs.declared.refusal.MapRefusal.TheVariants.{TooLarge, NotJson, NotObject, Version, Sections, SectionOffset, Nested, Sources}
 use Rattle.smap_record.specs.declared.refusal.MapRefusal.TheVariants.{Names, SourcesContent, IgnoreList, FileOrRoot, Mappings, Text, Build, Url, LongNames}
 use Rattle.smap_record.specs.declared.refusal.MapRefusal.TheVariants.{Memory}
+use Rattle.smap_c.specs.Codes.{code_number}
 use Rattle.smap_c.specs.Refusal.{kind_in, numbers_of, refusal_in}
 
 -- a kind has its number
-kinds_read_back : (kind : FaultKind) → kind_in (number_of (kind_code kind)) ≡ Some kind
-unfolding called
+kinds_read_back : (kind : FaultKind) → kind_in (code_number (kind_code kind)) ≡ Some kind
+unfolding code_number all_codes called
 kinds_read_back faults.BadDigit = refl
 kinds_read_back faults.Unended = refl
 kinds_read_back faults.TooLong = refl
@@ -29,7 +30,7 @@ kinds_read_back faults.NameIndex = refl
 
 -- and so has each refusal but that of memory
 pub reads_back : (refusal : MapRefusal) → refusal ≢ Memory → refusal ≢ Build builds.Memory → refusal_in (numbers_of refusal) ≡ Some refusal
-unfolding refusal_in called
+unfolding refusal_in code_number all_codes called
 reads_back TooLarge map build = refl
 reads_back NotJson map build = refl
 reads_back NotObject map build = refl

@@ -3,7 +3,6 @@ use Rattle.std.proofs.Common.{◌≡◌, ◌⊎◌, ◌∙◌, ◌<◌, ℕ, Lis
 use Rattle.std.specs.Option.{IfSome}
 use Rattle.std.specs.Result.{IfErr, IfOk}
 use Rattle.std.proofs.lemmas.List.{take-append-le}
-use Rattle.smap_codes.specs.Codes.{number_of}
 use Rattle.smap_codes.specs.declared.code.Code.TheVariants.{X3, X5}
 use Rattle.smap_lines.specs.Limits.{most_text_bytes}
 use Rattle.smap_lines.specs.declared.fault.LineFault.{LineFault}
@@ -32,13 +31,13 @@ module _ (options : RewriteOptions) (table : UrlTableSeen) (read written : List 
 
   -- where more was written than the bound, a front of what is read comes to more
   pub is_long : HasFront options table read written → (most : ℕ) (refusal : RewriteRefusal) → most < length written
-      → refusal ≡ rewrite_refused (number_of X5) (line_ends (take most written)) → IsLong options table read most refusal
+      → refusal ≡ rewrite_refused X5 (line_ends (take most written)) → IsLong options table read most refusal
   is_long is most refusal over refused = record {
     front = is.front;
     rest = is.rest;
     is_front = is.is_front;
     long = omega (arith, ap length is.made, length-append written is.later, over);
-    refused = refused ∙ ap (λ l. rewrite_refused (number_of X5) (line_ends l))
+    refused = refused ∙ ap (λ l. rewrite_refused X5 (line_ends l))
         (sym (take-append-le most written is.later (omega (arith, over))) ∙ ap (take most) (sym is.made));
   }
 
@@ -49,19 +48,19 @@ if_held held table is P holds = subst (λ h. IfSome h P) is holds
 -- where nothing else is too much, what is read is
 module _ (options : RewriteOptions) (table : UrlTableSeen) (read written : List ℕ) (status : ℕ) (refusal : RewriteRefusal) (is : status ≡ 1) where
   abbrev TooMuchRead : Type 0
-  TooMuchRead = (most_text_bytes < length read) × (refusal ≡ rewrite_refused (number_of X3) 0)
+  TooMuchRead = (most_text_bytes < length read) × (refusal ≡ rewrite_refused X3 0)
 
   not_done : (status ≡ 0) ⊎ (status ≡ 3) → TooMuchRead
   not_done (inl zero) = absurd (omega (arith, zero, is))
   not_done (inr three) = absurd (omega (arith, three, is))
 
   for_fault : (fault : LineFault) → IsTooMuch read fault
-      → ((status ≡ 1) × (fault ≡ TooMuch) × (refusal ≡ rewrite_refused (number_of X3) 0)) ⊎ (status ≡ 3) → TooMuchRead
+      → ((status ≡ 1) × (fault ≡ TooMuch) × (refusal ≡ rewrite_refused X3 0)) ⊎ (status ≡ 3) → TooMuchRead
   for_fault fault many (inl some) = (many some.1, some.2)
   for_fault fault many (inr three) = absurd (omega (arith, three, is))
 
   pub too_much_read : (outcome : Result Summary LineFault) → IfOk outcome (λ summary. (status ≡ 0) ⊎ (status ≡ 3))
-      → IfErr outcome (λ fault. ((status ≡ 1) × (fault ≡ TooMuch) × (refusal ≡ rewrite_refused (number_of X3) 0)) ⊎ (status ≡ 3))
+      → IfErr outcome (λ fault. ((status ≡ 1) × (fault ≡ TooMuch) × (refusal ≡ rewrite_refused X3 0)) ⊎ (status ≡ 3))
       → EndsRewriting options table read written outcome → TooMuchRead
   too_much_read (Ok summary) done failed ends = not_done done
   too_much_read (Err fault) done failed ends = for_fault fault ends.0 failed

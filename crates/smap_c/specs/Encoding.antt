@@ -1,9 +1,11 @@
 -- Mappings that are given as numbers, as they are handed out, and why they have no text.
-use Rattle.std.specs.Prelude.{ℕ, ◌==◌, List, Option, None, Some, codes, if◌then◌else◌}
+use Rattle.std.specs.Prelude.{ℕ, ◌==◌, None, Some, if◌then◌else◌}
+use Rattle.smap_mappings.specs.Codes.{encode_code}
 use Rattle.smap_mappings.specs.declared.canonical.EncodeRefusal.{EncodeRefusal}
 use Rattle.smap_mappings.specs.declared.canonical.EncodeRefusal.TheVariants.{NotSorted, OutOfRange, TooLong, Memory}
 use Rattle.smap_mappings.specs.declared.mapping.Mapping.{Mapping}
 use Rattle.smap_mappings.specs.declared.mapping.Origin.{Origin}
+use Rattle.smap_c.specs.Codes.{code_number}
 use Rattle.smap_c.specs.declared.encoding.EncodeNumbers.{EncodeNumbers}
 use Rattle.smap_c.specs.declared.encoding.MappingNumbers.{MappingNumbers}
 
@@ -24,17 +26,13 @@ mapping_in numbers = record {
   origin = if numbers.kind == 2 then Some (origin_in numbers) else None;
 }
 
--- the numbers of a refusal: its own, and that of the mapping that is refused
-abbrev pub encode_numbers : EncodeRefusal → EncodeNumbers
-encode_numbers (NotSorted mapping) = record { number = 1; mapping = mapping }
-encode_numbers (OutOfRange mapping) = record { number = 2; mapping = mapping }
-encode_numbers TooLong = record { number = 3; mapping = 0 }
-encode_numbers Memory = record { number = 4; mapping = 0 }
+-- the mapping that is refused, and 0 where it is none alone
+abbrev pub refused_mapping : EncodeRefusal → ℕ
+refused_mapping (NotSorted mapping) = mapping
+refused_mapping (OutOfRange mapping) = mapping
+refused_mapping TooLong = 0
+refused_mapping Memory = 0
 
--- what is said of a refusal
-abbrev pub encode_refusal_text : ℕ → Option (List ℕ)
-encode_refusal_text number =
-    if number == 1 then Some (codes "E1 NotSorted")
-    else if number == 2 then Some (codes "E2 OutOfRange")
-    else if number == 3 then Some (codes "E3 TooLong")
-    else None
+-- the numbers of a refusal: that of its code, and that of the mapping
+abbrev pub encode_numbers : EncodeRefusal → EncodeNumbers
+encode_numbers refusal = record { code = code_number (encode_code refusal); mapping = refused_mapping refusal }

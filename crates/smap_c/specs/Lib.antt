@@ -1,4 +1,5 @@
 pub mod Asking
+pub mod Codes
 pub mod Composing
 pub mod Counts
 pub mod Encoding
@@ -23,7 +24,6 @@ pub mod Steps
 pub mod Store
 pub mod TableLook
 pub mod Tables
-pub mod Report
 pub mod Texts
 pub mod Trace
 pub mod Written

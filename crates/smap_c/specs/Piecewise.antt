@@ -1,7 +1,6 @@
 -- A text that is rewritten piece by piece.
 use Rattle.std.specs.Prelude.{◌≡◌, ◌<◌, ◌⊎◌, ℕ, ◌+◌, ◌&&◌, Bool, true, false, List, if◌then◌else◌, length, min}
-use Rattle.smap_codes.specs.Codes.{number_of}
-use Rattle.smap_codes.specs.declared.code.Code.TheVariants.{X5}
+use Rattle.smap_codes.specs.declared.code.Code.TheVariants.{Usage, X5}
 use Rattle.smap_piecewise.specs.Frames.{frames_start}
 use Rattle.smap_piecewise.specs.Places.{nothing_given}
 use Rattle.smap_piecewise.specs.Rewriting.{HasRun, HasStopped, RewritingNow, begun_with}
@@ -58,5 +57,5 @@ is_over_all table now = is_of_places now.work && has_map_of_all table
 -- it is refused for that, or since more would come out than may
 abbrev pub IsRunRefused : UrlTableSeen → KeptMaps → RewriteRefusal → (old new : RewritingNow) → Type 0
 IsRunRefused table kept refusal old new =
-    ((is_over_all table old ≡ true) × (refusal ≡ rewrite_refused 0 0))
-    ⊎ ((is_over_all table old ≡ false) × StopsOver table kept new Full × (refusal ≡ rewrite_refused (number_of X5) (whole_lines_of new.work)))
+    ((is_over_all table old ≡ true) × (refusal ≡ rewrite_refused Usage 0))
+    ⊎ ((is_over_all table old ≡ false) × StopsOver table kept new Full × (refusal ≡ rewrite_refused X5 (whole_lines_of new.work)))

@@ -4,12 +4,13 @@ use Rattle.std.specs.Result.{IsOkAnd}
 use Rattle.url.specs.Parser.{parse_url, IsOutOfRoom}
 use Rattle.url.specs.Parts.{Parts}
 use Rattle.url.specs.declared.error.ParseError.{ParseError}
+use Rattle.smap_codes.specs.declared.code.Code.TheVariants as codes
 use Rattle.smap_record.specs.MapFile.{Map}
 use Rattle.smap_record.specs.Record.{record_of_within}
 use Rattle.smap_record.specs.Sources.{NamesASource}
 use Rattle.smap_record.specs.declared.refusal.MapRefusal.{MapRefusal}
 use Rattle.smap_record.specs.declared.refusal.MapRefusal.TheVariants.{Url}
-use Rattle.smap_c.specs.Refusal.{numbered, numbers_of}
+use Rattle.smap_c.specs.Refusal.{coded, numbers_of}
 use Rattle.smap_c.specs.declared.refusal.Refusal.{Refusal}
 
 -- this base is named: none by no bytes, and otherwise the URL that the bytes are
@@ -50,8 +51,8 @@ IsRefusedAtWithin most bytes base interval why =
 -- refused
 abbrev pub IsRefusedWithin : (most : Option ℕ) → (bytes base : List ℕ) → (interval : ℕ) → Refusal → Type 0
 IsRefusedWithin most bytes base interval refusal =
-    ((refusal ≡ numbered 0 0) × NamesNoBase base)
-    ⊎ ((refusal ≡ numbered 19 0) × AsksForBase base)
+    ((refusal ≡ coded codes.Usage) × NamesNoBase base)
+    ⊎ ((refusal ≡ coded codes.U1) × AsksForBase base)
     ⊎ ((used : Option Parts) × NamesBase base used × (why : MapRefusal) × (refusal ≡ numbers_of why)
     × IsRefusedAtWithin most bytes used interval why)
 

@@ -1,6 +1,6 @@
 -- What is known of why a map is refused, as numbers: the value of the faulty segment that is wrong, what it may be, and the
 -- column of the segment.
-use Rattle.std.specs.Prelude.{◌≡◌, ℕ, ◌-◌, ℤ, pos, List, Option, None, Some}
+use Rattle.std.specs.Prelude.{◌≡◌, ℕ, ◌-◌, ◌++◌, ℤ, pos, List, Option, None, Some, codes}
 use Rattle.smap_explain.specs.Explain.{IsExplained}
 use Rattle.smap_explain.specs.declared.explanation.Explanation.{Explanation}
 use Rattle.smap_explain.specs.declared.explanation.Explanation.TheVariants as explained
@@ -8,6 +8,7 @@ use Rattle.smap_explain.specs.declared.explanation.Measure.{Measure}
 use Rattle.smap_explain.specs.declared.explanation.SegmentFacts.{SegmentFacts}
 use Rattle.smap_record.specs.declared.refusal.MapRefusal.{MapRefusal}
 use Rattle.smap_verdicts.specs.Keys.{explanation_text}
+use Rattle.smap_verdicts.specs.Refusal.{refusal_text}
 use Rattle.smap_c.specs.Look.{flag_of}
 use Rattle.smap_c.specs.declared.reason.Reason.{Reason}
 
@@ -60,9 +61,13 @@ reason_of (explained.Key facts) = no_reason
 reason_of (explained.Segment facts) = segment_reason facts
 reason_of (explained.Build facts) = no_reason
 
--- this is said of the file of these bytes, which is refused so: the numbers and the sentences of what is known of it
+-- the line of a refusal, and below it what is known
+abbrev pub reported_text : MapRefusal → Explanation → List ℕ
+reported_text why explanation = refusal_text why ++ (codes "\n" ++ explanation_text explanation)
+
+-- this is said of the file of these bytes, which is refused so: the numbers of what is known of it, and the text
 pub record IsReasonReported (bytes : List ℕ) (why : MapRefusal) (reason : Reason) (text : Option (List ℕ)) : Type 0 where
   pub explanation : Explanation
   pub known : IsExplained bytes why explanation
   pub numbers : reason ≡ reason_of explanation
-  pub sentences : text ≡ Some (explanation_text explanation)
+  pub lines : text ≡ Some (reported_text why explanation)

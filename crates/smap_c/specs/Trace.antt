@@ -2,8 +2,8 @@
 use Rattle.std.specs.Prelude.{◌≡◌, ◌<◌, ◌⊎◌, ℕ, ◌&&◌, ◌++◌, Bool, List, [], false, true, filter, if◌then◌else◌, is_some, length, take}
 use Rattle.memchr.specs.Find.{is_byte, places}
 use Rattle.smap_locations.specs.ByText.{value_under}
-use Rattle.smap_codes.specs.Codes.{number_of}
-use Rattle.smap_codes.specs.declared.code.Code.TheVariants.{X3, X5}
+use Rattle.smap_codes.specs.declared.code.Code.{Code}
+use Rattle.smap_codes.specs.declared.code.Code.TheVariants.{Usage, X3, X5}
 use Rattle.smap_lines.specs.Limits.{most_text_bytes}
 use Rattle.smap_lines.specs.Lines.{lines_with_ends}
 use Rattle.smap_anywhere.specs.Anywhere.{PlacesAsked}
@@ -17,6 +17,7 @@ use Rattle.smap_store.specs.UrlTable.{UrlTableSeen, locations_of, map_under}
 use Rattle.smap_trace.specs.Hiding.{only_ignored}
 use Rattle.smap_trace.specs.MapsOf.{counts_by, rewritten_by}
 use Rattle.smap_trace.specs.Rewritten.{Counts}
+use Rattle.smap_c.specs.Codes.{code_number}
 use Rattle.smap_c.specs.declared.trace.RewriteOptions.{RewriteOptions}
 use Rattle.smap_c.specs.declared.trace.RewriteRefusal.{RewriteRefusal}
 use Rattle.smap_c.specs.declared.trace.TraceCounts.{TraceCounts}
@@ -87,8 +88,8 @@ is_for_all options table = options.anywhere && has_map_of_all table
 abbrev pub most_output_bytes : ℕ
 most_output_bytes = 1073741824
 
-abbrev pub rewrite_refused : (number lines : ℕ) → RewriteRefusal
-rewrite_refused number lines = record { number = number; lines = lines }
+abbrev pub rewrite_refused : Code → (lines : ℕ) → RewriteRefusal
+rewrite_refused code lines = record { code = code_number code; lines = lines }
 
 -- how many LFs stand in a text
 abbrev pub line_ends : (text : List ℕ) → ℕ
@@ -100,14 +101,14 @@ pub record IsLong (options : RewriteOptions) (table : UrlTableSeen) (read : List
   pub rest : List ℕ
   pub is_front : read ≡ front ++ rest
   pub long : most < length (text_of options table front)
-  pub refused : refusal ≡ rewrite_refused (number_of X5) (line_ends (take most (text_of options table front)))
+  pub refused : refusal ≡ rewrite_refused X5 (line_ends (take most (text_of options table front)))
 
 -- a map is for each URL and places are asked for anywhere; or else the text that is read is too long; or what would come out is
 abbrev pub IsRefusedFor : RewriteOptions → UrlTableSeen → (text : List ℕ) → (most : ℕ) → RewriteRefusal → Type 0
 IsRefusedFor options table text most refusal =
-    ((is_for_all options table ≡ true) × (refusal ≡ rewrite_refused 0 0))
+    ((is_for_all options table ≡ true) × (refusal ≡ rewrite_refused Usage 0))
     ⊎ ((is_for_all options table ≡ false) × (most_text_bytes < length (text_read options text))
-    × (refusal ≡ rewrite_refused (number_of X3) 0))
+    × (refusal ≡ rewrite_refused X3 0))
     ⊎ ((is_for_all options table ≡ false) × IsLong options table (text_read options text) most refusal)
 
 -- ---- the options of the two calls that have none

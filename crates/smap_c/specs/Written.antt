@@ -4,10 +4,10 @@ use Rattle.smap_mappings.specs.Canonical.{canonical_text}
 use Rattle.smap_index.specs.Parts.{joined}
 use Rattle.smap_record.specs.Record.{MapRecord}
 use Rattle.smap_record.specs.Written.{written}
-use Rattle.smap_codes.specs.Codes.{number_of}
 use Rattle.smap_compose.specs.Codes.{compose_code}
 use Rattle.smap_compose.specs.Composition.{Composition, composition}
 use Rattle.smap_compose.specs.declared.refusal.ComposeRefusal.{ComposeRefusal}
+use Rattle.smap_c.specs.Codes.{code_number}
 
 -- the text of one regular map that states the same
 abbrev pub map_text : MapRecord → List ℕ
@@ -20,6 +20,6 @@ text_of_composition composed = written composed.sources composed.names composed.
 abbrev pub composed_text : MapRecord → (source : ℕ) → MapRecord → List ℕ
 composed_text outer source inner = text_of_composition (composition outer source inner)
 
--- the number of a refusal of two maps
+-- the number of the code of a refusal of two maps
 abbrev pub compose_number : ComposeRefusal → ℕ
-compose_number refusal = number_of (compose_code refusal)
+compose_number refusal = code_number (compose_code refusal)

@@ -114,7 +114,7 @@ pub extern "C" fn smap_inners_take(
 
 /// Composes a map with the maps of its sources, all at once, and writes the map that they come to, with less where the
 /// options say so. Once `smap_inners_next` composed it, what it came to stands in its stead. Where they are refused,
-/// `refusal` is 1 or 2: that of C1, where there are more places than sources, or of C2. All maps stay.
+/// `refusal` is the number of C1, where there are more places than sources, or of C2. All maps stay.
 #[unsafe(no_mangle)]
 pub extern "C" fn smap_compose_all(
     alloc: Global,

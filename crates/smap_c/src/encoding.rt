@@ -1,13 +1,13 @@
 //! Mappings as the text that a map has of them.
-ghost use Rattle.std.specs.Prelude.{◌≡◌, ◌≢◌, ◌⊎◌, None, Some, IfOk, IsSomeAnd, MatchOption, map};
+ghost use Rattle.std.specs.Prelude.{◌≡◌, ◌≢◌, ◌⊎◌, None, Some, IfOk, IsSomeAnd, map};
 ghost use Rattle.smap_mappings.specs.Canonical.{canonical_text};
 ghost use Rattle.smap_mappings.specs.Encode.{encode_fault};
 ghost use Rattle.smap_mappings.specs.Mappings.{mappings_of};
-ghost use Rattle.smap_c.specs.Encoding.{encode_numbers, encode_refusal_text, mapping_in, origin_in};
+ghost use Rattle.smap_c.specs.Encoding.{encode_numbers, mapping_in, origin_in, refused_mapping};
 
+use crate::codes::code_number;
 use crate::handles::BytesHandle;
 use crate::status::{DONE, NO_MEMORY, REFUSED};
-use crate::texts::Text;
 use crate::written::hand_out;
 use smap_mappings::{EncodeRefusal, Mapping, Origin, encode};
 use std::alloc::{AllocError, Global};
@@ -28,12 +28,12 @@ pub struct MappingNumbers {
     pub name: u32,
 }
 
-/// Why mappings have no text. `number` is that of E1 to E3, and `mapping` that of the first that is refused, from 0; of E3
-/// it is 0.
+/// Why mappings have no text. `code` is the number of E1, E2 or E3, and `mapping` that of the first that is refused, from 0;
+/// of E3 it is 0.
 #[repr(C)]
 #[derive(Clone, Copy)]
 pub struct EncodeNumbers {
-    pub number: u32,
+    pub code: u32,
     pub mapping: u64,
 }
 
@@ -107,26 +107,18 @@ fn origin_in(numbers: &MappingNumbers) -> Origin
 fn encode_numbers(refusal: EncodeRefusal) -> EncodeNumbers
     ensures { result ≡ encode_numbers refusal }
 {
-    let (number, mapping) = match refusal {
-        EncodeRefusal::NotSorted(mapping) => (1, mapping),
-        EncodeRefusal::OutOfRange(mapping) => (2, mapping),
-        EncodeRefusal::TooLong => (3, 0),
-        EncodeRefusal::Memory => (4, 0),
-    };
-    EncodeNumbers { number, mapping }
+    EncodeNumbers {
+        code: code_number(refusal.code()),
+        mapping: refused_mapping(refusal),
+    }
 }
 
-/// Lends the number and the name of this refusal of `smap_encode`, where it has one of this number.
-#[unsafe(no_mangle)]
-pub extern "C" fn smap_encode_refusal_text(number: u32, text: &mut Text<'_>) -> u32
-    ensures { MatchOption (encode_refusal_text number) ((result ≡ 1) × (text.new ≡ text.old))
-        (λ reported. (result ≡ 0) × (text.new.text.now ≡ reported)) }
+// The mapping that is refused, and 0 where it is none alone.
+fn refused_mapping(refusal: EncodeRefusal) -> u64
+    ensures { result ≡ refused_mapping refusal }
 {
-    text.text = match number {
-        1 => b"E1 NotSorted",
-        2 => b"E2 OutOfRange",
-        3 => b"E3 TooLong",
-        _ => return REFUSED,
-    };
-    DONE
+    match refusal {
+        EncodeRefusal::NotSorted(mapping) | EncodeRefusal::OutOfRange(mapping) => mapping,
+        EncodeRefusal::TooLong | EncodeRefusal::Memory => 0,
+    }
 }

@@ -5,8 +5,10 @@ ghost use Rattle.smap_fit.specs.Fit.{fit_in};
 ghost use Rattle.smap_c.specs.Fit.{counts_of_fit};
 ghost use Rattle.smap_c.specs.Shares.{IsTextRefused};
 
+use crate::codes::code_number;
 use crate::handles::MapHandle;
 use crate::status::{DONE, NO_MEMORY, REFUSED};
+use smap_codes::Code;
 use smap_fit::{Fit, fit_of};
 use smap_record::MOST_FILE_BYTES;
 use std::alloc::Global;
@@ -30,8 +32,8 @@ pub struct FitCounts {
     pub fits: u32,
 }
 
-/// Says how a map fits a generated file. Where the file is refused, `refusal` is 1, it is not UTF-8, or 2, it has more than
-/// 67,108,864 bytes.
+/// Says how a map fits a generated file. Where the file is refused, `refusal` is the number of `NotUtf8`, or of M1, it has
+/// more than 67,108,864 bytes.
 #[unsafe(no_mangle)]
 pub extern "C" fn smap_fit(
     alloc: Global,
@@ -51,11 +53,11 @@ pub extern "C" fn smap_fit(
     ensures status { (result ≡ 0) ⊎ (result ≡ 1) ⊎ (result ≡ 3) }
 {
     if generated.len() > MOST_FILE_BYTES {
-        *refusal = 2;
+        *refusal = code_number(Code::M1);
         return REFUSED;
     }
     let Ok(text) = str::from_utf8(generated) else {
-        *refusal = 1;
+        *refusal = code_number(Code::NotUtf8);
         return REFUSED;
     };
     let Ok(fit) = fit_of(alloc, map.lend().map(), text) else {

@@ -18,6 +18,7 @@
 
 mod asking;
 mod bytes;
+mod codes;
 mod composing;
 mod counts;
 mod devices;
@@ -38,7 +39,6 @@ mod place_urls;
 mod read;
 mod reason;
 mod refusal;
-mod report;
 mod rewriting;
 mod shares;
 mod sharing;

@@ -156,14 +156,14 @@ pub extern "C" fn smap_rewriting_run(
     let text = rewriting.lend();
     kept.now = now;
     if is_over_all(maps, text) {
-        *refusal = refused(0, 0);
+        *refusal = refused(Code::Usage, 0);
         return REFUSED;
     }
     match text.run_over(alloc, maps, kept) {
         Ok(Stop::Done) => DONE,
         Ok(Stop::Wanted) => WANTED,
         Ok(Stop::Full) => {
-            *refusal = refused(Code::X5.number(), text.whole_lines());
+            *refusal = refused(Code::X5, text.whole_lines());
             REFUSED
         }
         Err(_no_memory) => NO_MEMORY,

@@ -40,8 +40,9 @@ pub extern "C" fn smap_url_finder_new(alloc: Global, finder: &mut UrlFinderHandl
 }
 
 /// Finds the URL of the next place of a text, wherever it stands, from a byte on: 0 or another at which a line begins, or
-/// `next` of the place before, where the finder found that in the same text. A place is found that a rewriting anywhere finds
-/// over URLs of which none is known, for what looks like one. `found` is written where there is one. The call takes no memory.
+/// `next` of the place before, where the finder found that in the same text. A place is found that a rewriting anywhere
+/// finds over URLs of which none is known, for what looks like one. `found` is written where there is one. The call takes
+/// no memory.
 #[unsafe(no_mangle)]
 pub extern "C" fn smap_next_place_url(
     finder: &mut UrlFinderHandle,

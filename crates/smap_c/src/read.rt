@@ -4,8 +4,9 @@ ghost use Rattle.smap_c.specs.Read.{IsReadAs, IsReadWithin, IsRefusedAs, IsRefus
 ghost use Rattle.smap_c.specs.Private.Base.{IsFaultOf};
 
 use crate::handles::MapHandle;
-use crate::refusal::{Refusal, numbered, numbers_of};
+use crate::refusal::{Refusal, coded, numbers_of};
 use crate::status::{DONE, NO_MEMORY, REFUSED};
+use smap_codes::Code;
 use smap_record::{MapFile, MapRefusal, Url};
 use std::alloc::Global;
 use url::ParseError;
@@ -76,11 +77,11 @@ fn read_within(
     let base = match base_named(alloc, base) {
         Ok(base) => base,
         Err(BaseFault::NoUrl) => {
-            *refusal = numbered(0, 0);
+            *refusal = coded(Code::Usage);
             return REFUSED;
         }
         Err(BaseFault::TooLong) => {
-            *refusal = numbered(19, 0);
+            *refusal = coded(Code::U1);
             return REFUSED;
         }
         Err(BaseFault::Memory) => return NO_MEMORY,

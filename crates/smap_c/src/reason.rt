@@ -1,7 +1,7 @@
 //! What is known of why a map is refused: the value that is wrong, and sentences.
-ghost use Rattle.std.specs.Prelude.{◌≡◌, ◌≢◌, ◌⊎◌, None, IsSomeAnd};
+ghost use Rattle.std.specs.Prelude.{◌≡◌, ◌≢◌, ◌⊎◌, None, IfOk, IsSomeAnd, string_bytes};
 ghost use Rattle.smap_c.specs.Reason.{IsReasonReported, measure_reason, reason_of, segment_reason};
-ghost use Rattle.smap_c.specs.Reason.{column_from_0, no_reason};
+ghost use Rattle.smap_c.specs.Reason.{column_from_0, no_reason, reported_text};
 ghost use Rattle.smap_c.specs.Refusal.{refusal_in};
 
 use crate::handles::BytesHandle;
@@ -9,8 +9,9 @@ use crate::refusal::{Refusal, refusal_in};
 use crate::status::{DONE, NO_MEMORY, REFUSED};
 use crate::written::hand_out;
 use smap_explain::{Explanation, Measure, SegmentFacts, explain};
-use smap_verdicts::explanation_text;
-use std::alloc::Global;
+use smap_record::MapRefusal;
+use smap_verdicts::{explanation_text, refusal_text};
+use std::alloc::{AllocError, Global};
 
 /// The value of a faulty segment that is wrong, what it may be, and where the segment stands. Lines, columns and indices
 /// count from 0. What there is not is 0, as its `has` is, which is else 1.
@@ -28,8 +29,9 @@ pub struct Reason {
     pub has_column: u32,
 }
 
-/// Says why the map file of these bytes, which is refused so, is refused: in indented lines that end with an LF, none where
-/// nothing more is known, and by the value that is wrong. The file is read again.
+/// Says why the map file of these bytes, which is refused so, is refused: by what the program prints behind the path, in a line;
+/// in indented lines below it, none where nothing more is known; and by the value that is wrong. Each line ends with an LF. The
+/// file is read again.
 #[unsafe(no_mangle)]
 pub extern "C" fn smap_refusal_explain(
     alloc: Global,
@@ -50,7 +52,7 @@ pub extern "C" fn smap_refusal_explain(
     let Ok(explanation) = explain(alloc, bytes, refused) else {
         return NO_MEMORY;
     };
-    let Ok(reported) = explanation_text(alloc, &explanation) else {
+    let Ok(reported) = reported_text(alloc, refused, &explanation) else {
         return NO_MEMORY;
     };
     if hand_out(alloc, reported.into_bytes(), text) != DONE {
@@ -58,6 +60,19 @@ pub extern "C" fn smap_refusal_explain(
     }
     *reason = reason_of(&explanation);
     DONE
+}
+
+// The number and the name of a refusal with its parts, and below them what is known.
+fn reported_text(
+    alloc: Global,
+    refused: MapRefusal,
+    explanation: &Explanation,
+) -> Result<String, AllocError>
+    ensures { IfOk result (λ text. string_bytes text ≡ reported_text refused explanation.now) }
+{
+    let line = refusal_text(alloc, refused)?;
+    let sentences = explanation_text(alloc, explanation)?;
+    format!(in alloc; "{line}\n{sentences}")
 }
 
 // The value that is wrong, where a segment is faulty.

@@ -1,30 +1,30 @@
 //! A refusal of a map as numbers.
 ghost use Rattle.std.specs.Prelude.{◌≡◌, ◌≢◌, ◌==◌, Some, find, option_copied};
-ghost use Rattle.smap_codes.specs.Codes.{number_of};
 ghost use Rattle.smap_mappings.specs.Codes.{kind_code};
 ghost use Rattle.smap_index.specs.Codes.{build_code};
 ghost use Rattle.smap_record.specs.Codes.{map_code};
 ghost use Rattle.smap_record.specs.declared.refusal.MapRefusal.TheVariants.{Build, Memory};
 ghost use Rattle.smap_index.specs.declared.refusal.BuildRefusal.TheVariants as builds;
-ghost use Rattle.smap_c.specs.Refusal.{build_in, build_section, kind_in, numbered};
+ghost use Rattle.smap_c.specs.Codes.{code_number};
+ghost use Rattle.smap_c.specs.Refusal.{build_in, build_numbers, coded, coded_in, kind_in};
 ghost use Rattle.smap_c.specs.Refusal.{numbers_of, refusal_in, refusal_with};
 
+use crate::codes::code_number;
 use smap_codes::Code;
 use smap_record::{BuildRefusal, Fault, FaultKind, MapRefusal};
 
-/// Why a map is refused. `number` is that of the refusal, 1 to 18, or 0 where the base is no URL, or 19 where the base is
-/// too long a URL. The other numbers are 0 where the refusal has no such part.
+/// Why a map is refused, by the numbers of codes. What the refusal does not have is 0.
 #[repr(C)]
 #[derive(Clone, Copy)]
 pub struct Refusal {
-    /// That of the refusal, M1 to M18, or 0 or 19.
-    pub number: u32,
-    /// That of the fault of the mappings, F1 to F11.
-    pub fault: u32,
+    /// M1 to M18, or `usage` where the base is no URL, or U1 where it is too long a URL.
+    pub code: u32,
+    /// Of M14 the fault of the mappings, F1 to F11, and of M15 why no index is built, B1 to B5.
+    pub cause: u32,
     /// The generated line of the faulty segment, from 0.
     pub line: u32,
-    /// Why no index is built, B1 to B5.
-    pub build: u32,
+    /// 1 where the refusal is of a section, and else 0.
+    pub has_section: u32,
     /// The section, from 0.
     pub section: u64,
     /// Where the faulty segment begins in the mappings, in bytes from 0.
@@ -44,48 +44,57 @@ pub(crate) fn numbers_of(refusal: MapRefusal) -> Refusal
 fn own_numbers(refusal: MapRefusal) -> Refusal
     ensures { result ≡ numbers_of refusal }
 {
-    let number = refusal.code().number();
+    let code = refusal.code();
     match refusal {
-        MapRefusal::SectionOffset(section) | MapRefusal::Nested(section) => numbered(
-            number, section,
-        ),
+        MapRefusal::SectionOffset(section) | MapRefusal::Nested(section) => coded_in(code, section),
         MapRefusal::Text(section, fault) => Refusal {
-            fault: fault.kind.code().number(),
+            cause: code_number(fault.kind.code()),
             line: fault.line,
             byte: fault.byte,
-            ..numbered(number, section)
+            ..coded_in(code, section)
         },
         MapRefusal::Build(refusal) => Refusal {
-            build: refusal.code().number(),
-            ..numbered(number, build_section(refusal))
+            cause: code_number(refusal.code()),
+            ..build_numbers(code, refusal)
         },
-        _ => numbered(number, 0),
+        _ => coded(code),
     }
 }
 
-// The refusal of this number, with a section where it has one.
-pub(crate) fn numbered(number: u32, section: u64) -> Refusal
-    ensures { result ≡ numbered number section }
+// The refusal of this code, which has no part.
+pub(crate) fn coded(code: Code) -> Refusal
+    ensures { result ≡ coded code }
 {
     Refusal {
-        number,
-        fault: 0,
+        code: code_number(code),
+        cause: 0,
         line: 0,
-        build: 0,
-        section,
+        has_section: 0,
+        section: 0,
         byte: 0,
     }
 }
 
-// The section in which an index is not built, where there is one.
-fn build_section(refusal: BuildRefusal) -> u64
-    ensures { result ≡ build_section refusal }
+// The same of a section.
+fn coded_in(code: Code, section: u64) -> Refusal
+    ensures { result ≡ coded_in code section }
+{
+    Refusal {
+        has_section: 1,
+        section,
+        ..coded(code)
+    }
+}
+
+// The same of the section in which an index is not built, where there is one.
+fn build_numbers(code: Code, refusal: BuildRefusal) -> Refusal
+    ensures { result ≡ build_numbers code refusal }
 {
     match refusal {
         BuildRefusal::SectionOrder(section)
         | BuildRefusal::SectionOverlap(section)
-        | BuildRefusal::PositionRange(section) => section,
-        BuildRefusal::Interval | BuildRefusal::Memory => 0,
+        | BuildRefusal::PositionRange(section) => coded_in(code, section),
+        BuildRefusal::Interval | BuildRefusal::Memory => coded(code),
     }
 }
 
@@ -94,13 +103,9 @@ fn build_section(refusal: BuildRefusal) -> u64
 pub(crate) fn refusal_in(refusal: &Refusal) -> Option<MapRefusal>
     ensures { result ≡ refusal_in refusal.now }
 {
-    let Refusal {
-        number,
-        section,
-        ..
-    } = *refusal;
-    if number == Code::M14.number() {
-        let kind = kind_in(refusal.fault)?;
+    let Refusal { code, section, .. } = *refusal;
+    if code == code_number(Code::M14) {
+        let kind = kind_in(refusal.cause)?;
         let fault = Fault {
             byte: refusal.byte,
             line: refusal.line,
@@ -108,10 +113,10 @@ pub(crate) fn refusal_in(refusal: &Refusal) -> Option<MapRefusal>
         };
         return Some(MapRefusal::Text(section, fault));
     }
-    if number == Code::M15.number() {
-        return Some(MapRefusal::Build(build_in(refusal.build, section)?));
+    if code == code_number(Code::M15) {
+        return Some(MapRefusal::Build(build_in(refusal.cause, section)?));
     }
-    refusal_with(number, section)
+    refusal_with(code, section)
 }
 
 // The refusal of this number that has no part but a section.
@@ -140,16 +145,16 @@ fn refusal_with(number: u32, section: u64) -> Option<MapRefusal>
 
 fn refusal_among<'a>(all: &'a [MapRefusal], number: u32) -> Option<&'a MapRefusal>
     ensures { option_copied result
-        ≡ find (λ refusal. number_of (map_code refusal) == number) all.now }
+        ≡ find (λ refusal. code_number (map_code refusal) == number) all.now }
 {
     all.iter().find(|refusal| is_refusal(refusal, number))
 }
 
 // Whether the code of a refusal has this number.
 fn is_refusal(refusal: &MapRefusal, number: u32) -> bool
-    ensures { result ≡ (number_of (map_code refusal.now) == number) }
+    ensures { result ≡ (code_number (map_code refusal.now) == number) }
 {
-    refusal.code().number() == number
+    code_number(refusal.code()) == number
 }
 
 // The kind of fault that has this number.
@@ -173,16 +178,16 @@ fn kind_in(number: u32) -> Option<FaultKind>
 }
 
 fn kind_among<'a>(all: &'a [FaultKind], number: u32) -> Option<&'a FaultKind>
-    ensures { option_copied result ≡ find (λ kind. number_of (kind_code kind) == number) all.now }
+    ensures { option_copied result ≡ find (λ kind. code_number (kind_code kind) == number) all.now }
 {
     all.iter().find(|kind| is_kind(kind, number))
 }
 
 // Whether the code of a kind of fault has this number.
 fn is_kind(kind: &FaultKind, number: u32) -> bool
-    ensures { result ≡ (number_of (kind_code kind.now) == number) }
+    ensures { result ≡ (code_number (kind_code kind.now) == number) }
 {
-    kind.code().number() == number
+    code_number(kind.code()) == number
 }
 
 // Why an index is not built, by its number and the section.
@@ -200,14 +205,14 @@ fn build_in(number: u32, section: u64) -> Option<BuildRefusal>
 
 fn build_among<'a>(all: &'a [BuildRefusal], number: u32) -> Option<&'a BuildRefusal>
     ensures { option_copied result
-        ≡ find (λ refusal. number_of (build_code refusal) == number) all.now }
+        ≡ find (λ refusal. code_number (build_code refusal) == number) all.now }
 {
     all.iter().find(|refusal| is_build(refusal, number))
 }
 
 // Whether the code of why an index is not built has this number.
 fn is_build(refusal: &BuildRefusal, number: u32) -> bool
-    ensures { result ≡ (number_of (build_code refusal.now) == number) }
+    ensures { result ≡ (code_number (build_code refusal.now) == number) }
 {
-    refusal.code().number() == number
+    code_number(refusal.code()) == number
 }

@@ -4,15 +4,17 @@ ghost use Rattle.smap_index.specs.Parts.{joined};
 ghost use Rattle.smap_fit.specs.Shares.{IsBytesBySource};
 ghost use Rattle.smap_c.specs.Shares.{IsTextRefused};
 
+use crate::codes::code_number;
 use crate::handles::MapHandle;
 use crate::status::{DONE, NO_MEMORY, REFUSED};
+use smap_codes::Code;
 use smap_fit::bytes_by_source;
 use smap_record::MOST_FILE_BYTES;
 use std::alloc::Global;
 
 /// Counts how many bytes of the generated file of a map come from each source, and how many from none. `sources` has a place
-/// for each source of the map. Where the file is refused, `refusal` is 1, it is not UTF-8, or 2, it has more than 67,108,864
-/// bytes.
+/// for each source of the map. Where the file is refused, `refusal` is the number of `NotUtf8`, or of M1, it has more than
+/// 67,108,864 bytes.
 #[unsafe(no_mangle)]
 pub extern "C" fn smap_bytes_by_source(
     alloc: Global,
@@ -36,11 +38,11 @@ pub extern "C" fn smap_bytes_by_source(
     ensures status { (result ≡ 0) ⊎ (result ≡ 1) ⊎ (result ≡ 3) }
 {
     if generated.len() > MOST_FILE_BYTES {
-        *refusal = 2;
+        *refusal = code_number(Code::M1);
         return REFUSED;
     }
     let Ok(text) = str::from_utf8(generated) else {
-        *refusal = 1;
+        *refusal = code_number(Code::NotUtf8);
         return REFUSED;
     };
     let Ok(counted) = bytes_by_source(alloc, map.lend().map(), text) else {

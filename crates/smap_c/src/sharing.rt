@@ -5,8 +5,8 @@ use crate::handles::MapHandle;
 use crate::status::{DONE, NO_MEMORY};
 use std::alloc::Global;
 
-/// Makes another handle of the same map: nothing is copied, and the map is freed with the last that holds it. Each may be used
-/// by a thread of its own.
+/// Makes another handle of the same map: nothing is copied, and the map is freed with the last that holds it. Each may be
+/// used by a thread of its own.
 #[unsafe(no_mangle)]
 pub extern "C" fn smap_map_share(alloc: Global, map: &mut MapHandle, other: &mut MapHandle) -> u32
     requires { IsSome map.old.held }

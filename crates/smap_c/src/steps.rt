@@ -23,7 +23,7 @@ const INTERVAL: u32 = 64;
 /// Asks for the map of the next source, from 0, of which one is wanted: that has a name, which none of the sources that
 /// lead to it has, and no map in its place. Where there is none, and maps are in the places, these are composed with the
 /// map, as `smap_compose_all` does; they are freed, and their sources stand behind the others from then on and are asked
-/// for. Where no map is wanted any more, it returns 1, and `refusal` is 0. Else it is 1 or 2: that of C1 or of C2.
+/// for. Where no map is wanted any more, it returns 1, and `refusal` is 0. Else it is the number of C1 or of C2.
 #[unsafe(no_mangle)]
 pub extern "C" fn smap_inners_next(
     alloc: Global,

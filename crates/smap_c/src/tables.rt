@@ -2,8 +2,10 @@
 ghost use Rattle.std.specs.Prelude.{◌≡◌, ◌≢◌, ◌⊎◌, [], None, Some, IsSome, IfSome, IfOk, IfErr, IsUtf8, string_bytes};
 ghost use Rattle.smap_c.specs.Tables.{IsAdded, IsFree, IsNotAdded};
 
+use crate::codes::code_number;
 use crate::handles::{MapHandle, TableHandle};
 use crate::status::{DONE, NO_MEMORY, REFUSED};
+use smap_codes::Code;
 use smap_store::UrlTable;
 use std::alloc::Global;
 
@@ -25,8 +27,8 @@ pub extern "C" fn smap_table_new(alloc: Global, table: &mut TableHandle) -> u32
 
 /// Puts a map into a table, under its URL, which frames name as it stands here, in UTF-8; or, where that begins with `*`,
 /// under the text behind it, for the URLs that the pattern has. The table takes the map over, and its handle is empty then.
-/// Where the map is refused, both stay, and `refusal` is 1 or 2, that of A1 or A2, or 0 where the URL is not UTF-8. Where
-/// there is not enough memory for one that is not refused, the table stays, and the map is freed.
+/// Where the map is refused, both stay, and `refusal` is the number of A1 or A2, or of `NotUtf8` where the URL is not UTF-8.
+/// Where there is not enough memory for one that is not refused, the table stays, and the map is freed.
 #[unsafe(no_mangle)]
 pub extern "C" fn smap_table_add(
     alloc: Global,
@@ -73,11 +75,11 @@ pub extern "C" fn smap_table_add_shared(
     ensures status { (result ≡ 0) ⊎ (result ≡ 1) ⊎ (result ≡ 3) }
 {
     let Ok(text) = str::from_utf8(url) else {
-        *refusal = 0;
+        *refusal = code_number(Code::NotUtf8);
         return REFUSED;
     };
     if let Some(refused) = table.lend().refusal_of(url) {
-        *refusal = refused.code().number();
+        *refusal = code_number(refused.code());
         return REFUSED;
     }
     let Ok(share) = map.lend().share() else {

@@ -2,6 +2,7 @@
 ghost use Rattle.std.specs.Prelude.{◌≡◌, IfOk, IsSome};
 
 mod bounds;
+mod codes;
 mod composing;
 mod encoding;
 mod explaining;
@@ -22,11 +23,6 @@ use crate::handles::{BytesHandle, MapHandle, TableHandle};
 use crate::look_up::{Found, smap_look_up, smap_look_up_from};
 use crate::many::{Position, smap_look_up_many};
 use crate::read::{smap_map_free, smap_map_read};
-use crate::refusal::numbered;
-use crate::report::{
-    smap_compose_refusal_text, smap_generated_refusal_text, smap_refusal_text,
-    smap_rewrite_refusal_text, smap_table_refusal_text, smap_write_refusal_text,
-};
 use crate::status::{DONE, REFUSED};
 use crate::tables::{smap_table_add, smap_table_free, smap_table_new};
 use crate::texts::{Source, Text, smap_file, smap_name, smap_source};
@@ -111,7 +107,7 @@ fn assert_bytes(rt: &impl Abort, bytes: &mut BytesHandle, wanted: &str)
 fn read_into(rt: &impl Abort, alloc: Global, text: &str, base: &str, map: &mut MapHandle)
     ensures { IsSome map.new.held }
 {
-    let mut refusal = numbered(0, 0);
+    let mut refusal = codes::no_refusal();
     let status = smap_map_read(
         alloc,
         text.as_bytes(),
@@ -243,44 +239,6 @@ fn maps_are_written_and_composed(rt: HostRuntime) -> Result<(), Fail> {
         &mut composed,
         r#"{"file":"out.js","mappings":"ACEEA,C;A","names":["f"],"sources":["a.js","b.ts"],"sourcesContent":["x",null],"version":3}"#,
     );
-    Ok(())
-}
-
-#[test]
-fn refusals_are_reported(rt: HostRuntime) -> Result<(), Fail> {
-    let alloc = rt.alloc();
-    let mut map = no_map(alloc)?;
-    let mut refusal = numbered(9, 9);
-    let status = smap_map_read(alloc, b"[]", b"", 2, &mut map, &mut refusal);
-    assert!(&rt; status == REFUSED && refusal.number == 3);
-    let mut reported = no_bytes(alloc)?;
-    assert_done(&rt, smap_refusal_text(alloc, &refusal, &mut reported));
-    assert_bytes(&rt, &mut reported, "M3 NotObject");
-    let status = smap_map_read(alloc, MAP.as_bytes(), b"h.test", 2, &mut map, &mut refusal);
-    assert!(&rt; status == REFUSED && refusal.number == 0);
-    Ok(())
-}
-
-#[test]
-fn refusals_have_texts(rt: HostRuntime) -> Result<(), Fail> {
-    let mut text = Text { text: b"" };
-    assert_done(&rt, smap_compose_refusal_text(2, &mut text));
-    assert_text(&rt, &text, "C2 TooLarge");
-    assert_done(&rt, smap_table_refusal_text(1, &mut text));
-    assert_text(&rt, &text, "A1 BadUrl");
-    assert_refused(&rt, smap_table_refusal_text(3, &mut text));
-    assert_done(&rt, smap_compose_refusal_text(4, &mut text));
-    assert_text(&rt, &text, "C4 NoSource");
-    assert_done(&rt, smap_write_refusal_text(1, &mut text));
-    assert_text(&rt, &text, "O1 TextTooLong");
-    assert_done(&rt, smap_rewrite_refusal_text(3, &mut text));
-    assert_text(&rt, &text, "X3 TooMuch");
-    assert_done(&rt, smap_rewrite_refusal_text(5, &mut text));
-    assert_text(&rt, &text, "X5 LongOutput");
-    assert_done(&rt, smap_generated_refusal_text(1, &mut text));
-    assert_text(&rt, &text, "NotUtf8");
-    assert_done(&rt, smap_generated_refusal_text(2, &mut text));
-    assert_text(&rt, &text, "TooLarge");
     Ok(())
 }
 

@@ -1,7 +1,6 @@
 //! A trace in memory, and its rewriting.
 ghost use Rattle.std.specs.Prelude.{◌≡◌, ◌≢◌, ◌<◌, ◌≤◌, ◌⊎◌, Some, false, true, IfErr, IfOk, IfSome, IsSome, length, nat_lt};
-ghost use Rattle.smap_codes.specs.Codes.{number_of};
-ghost use Rattle.smap_codes.specs.declared.code.Code.TheVariants.{X3, X5};
+ghost use Rattle.smap_codes.specs.declared.code.Code.TheVariants.{X3};
 ghost use Rattle.smap_lines.specs.Limits.{most_text_bytes};
 ghost use Rattle.smap_lines.specs.declared.fault.LineFault.TheVariants.{TooMuch};
 ghost use Rattle.smap_store.specs.UrlTable.{map_under};
@@ -11,6 +10,7 @@ ghost use Rattle.smap_trace.specs.Rewriting.{counts_seen as summary_seen};
 ghost use Rattle.smap_c.specs.Trace.{IsRefusedFor, counts_seen, counts_with, frames_alone, has_map_of_all, is_for_all, line_ends};
 ghost use Rattle.smap_c.specs.Trace.{most_output_bytes, place_counts_by, placed_by, places_alone, rewrite_refused, text_read, text_with};
 
+use crate::codes::code_number;
 use crate::devices::Output;
 use crate::handles::{BytesHandle, TableHandle};
 use crate::rewriting::rewrite_text;
@@ -39,11 +39,11 @@ pub struct TraceCounts {
 }
 
 /// Why a text is not rewritten: the number of X3 where it has too many bytes, that of X5 where too many would come out,
-/// and 0 where places are asked for anywhere and a map is under `*` alone.
+/// and that of `usage` where places are asked for anywhere and a map is under `*` alone.
 #[repr(C)]
 #[derive(Clone, Copy)]
 pub struct RewriteRefusal {
-    pub number: u32,
+    pub code: u32,
     /// Of X5, how many LFs stand in what would come out as far as it fits.
     pub lines: u64,
 }
@@ -164,7 +164,7 @@ pub extern "C" fn smap_rewrite_with(
         × (result ≢ 0 → (bytes.new.held ≡ bytes.old.held) × (counts.new ≡ counts.old)) }
     ensures status { (result ≡ 0) ⊎ (result ≡ 1) ⊎ (result ≡ 3) }
 {
-    let mut refusal = refused(0, 0);
+    let mut refusal = refused(Code::Usage, 0);
     smap_rewrite_within(
         alloc,
         table,
@@ -209,14 +209,14 @@ pub extern "C" fn smap_rewrite_within(
 {
     let maps = table.lend();
     if is_for_all(options, maps) {
-        *refusal = refused(0, 0);
+        *refusal = refused(Code::Usage, 0);
         return REFUSED;
     }
     let mut output = Output::new(alloc, most);
     let outcome = rewrite_text(alloc, maps, text, options, &mut output);
     let written = output.bytes;
     if written.len() as u64 > most {
-        *refusal = refused(Code::X5.number(), line_ends(&written[..most as usize]));
+        *refusal = refused(Code::X5, line_ends(&written[..most as usize]));
         return REFUSED;
     }
     reported(alloc, outcome, written, bytes, counts, refusal)
@@ -242,7 +242,7 @@ fn reported(
         × (counts_seen counts.new ≡ summary_seen summary)) }
     ensures refused { IfOk outcome (λ summary. (result ≡ 0) ⊎ (result ≡ 3)) }
     ensures failed { IfErr outcome (λ fault. ((result ≡ 1) × (fault ≡ TooMuch)
-        × (refusal.new ≡ rewrite_refused (number_of X3) 0)) ⊎ (result ≡ 3)) }
+        × (refusal.new ≡ rewrite_refused X3 0)) ⊎ (result ≡ 3)) }
     ensures unreported { result ≢ 1 → refusal.new ≡ refusal.old }
     ensures stays { result ≢ 0 → (bytes.new.held ≡ bytes.old.held) × (counts.new ≡ counts.old) }
 {
@@ -255,7 +255,7 @@ fn reported(
             status
         }
         Err(RewriteFault::TooMuch) => {
-            *refusal = refused(Code::X3.number(), 0);
+            *refusal = refused(Code::X3, 0);
             REFUSED
         }
         // No read fails here, and a write within the bound fails where memory runs out.
@@ -263,11 +263,14 @@ fn reported(
     }
 }
 
-/// A refusal of this number, with so many lines.
-pub(crate) fn refused(number: u32, lines: u64) -> RewriteRefusal
-    ensures { result ≡ rewrite_refused number lines }
+/// A refusal of this code, with so many lines.
+pub(crate) fn refused(code: Code, lines: u64) -> RewriteRefusal
+    ensures { result ≡ rewrite_refused code lines }
 {
-    RewriteRefusal { number, lines }
+    RewriteRefusal {
+        code: code_number(code),
+        lines,
+    }
 }
 
 // How many LFs stand in a text.

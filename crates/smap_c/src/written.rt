@@ -8,10 +8,10 @@ ghost use Rattle.smap_compose.specs.Composition.{compose_refusal, count_refusal}
 ghost use Rattle.smap_compose.specs.declared.refusal.ComposeRefusal.TheVariants.{Memory};
 
 use crate::bytes::Bytes;
+use crate::codes::code_number;
 use crate::handles::{BytesHandle, MapHandle};
 use crate::status::{DONE, NO_MEMORY, REFUSED};
 use crate::texts::Text;
-use smap_codes::Code;
 use smap_compose::{ComposeRefusal, compose};
 use smap_record::WriteRefusal;
 use std::alloc::Global;
@@ -38,7 +38,7 @@ pub extern "C" fn smap_map_write(alloc: Global, map: &mut MapHandle, bytes: &mut
 }
 
 /// Composes two maps, the inner one being of source `source`, from 0, of the outer one, and writes the map that they
-/// come to. Where they are refused, `refusal` is 1 or 2: that of C1 or C2.
+/// come to. Where they are refused, `refusal` is the number of C1 or C2.
 #[unsafe(no_mangle)]
 pub extern "C" fn smap_compose(
     alloc: Global,
@@ -73,19 +73,17 @@ pub extern "C" fn smap_compose(
     }
 }
 
-/// The status of maps that are not composed, with the number of the refusal where they are refused.
-#[tactic(auto, unfolding(smap_codes::specs::Codes::called))]
+/// The status of maps that are not composed, with the number of the code where they are refused.
 pub(crate) fn not_composed(why: ComposeRefusal, refusal: &mut u32) -> u32
     ensures refused { result ≡ 1 → (why ≢ Memory) × (refusal.new ≡ compose_number why) }
     ensures some { result ≡ 1 → refusal.new ≢ 0 }
     ensures memory { result ≢ 1 → (why ≡ Memory) × (refusal.new ≡ refusal.old) }
     ensures status { (result ≡ 1) ⊎ (result ≡ 3) }
 {
-    *refusal = match why {
-        ComposeRefusal::SourceIndex => Code::C1.number(),
-        ComposeRefusal::TooLarge => Code::C2.number(),
-        ComposeRefusal::Memory => return NO_MEMORY,
-    };
+    if matches!(why, ComposeRefusal::Memory) {
+        return NO_MEMORY;
+    }
+    *refusal = code_number(why.code());
     REFUSED
 }
 

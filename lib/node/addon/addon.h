@@ -21,8 +21,9 @@ extern uint64_t nothing[1];
 
 /* The bytes of a Uint8Array and the numbers of a Uint32Array, which stay what and where they are during a call: no other
  * thread has them. */
-bool bytes_of(napi_env env, napi_value value, const uint8_t **bytes, size_t *length);
-bool numbers_of(napi_env env, napi_value value, uint32_t **numbers, size_t *length);
+struct numbers { uint32_t *at; size_t count; napi_value array; };
+bool bytes_of(napi_env env, napi_value value, smap_text *bytes);
+bool numbers_of(napi_env env, napi_value value, struct numbers *numbers);
 
 /* The numbers of a Uint32Array in shared memory that has so many. They stay where they are as long as the array is there:
  * such memory is neither detached nor transferred. But other threads may write to it. */
@@ -31,6 +32,8 @@ uint32_t *shared_of(napi_env env, napi_value value, size_t wanted);
 /* A whole number of 32 bits, or one up to 2^53 - 1. Another is refused, and never wrapped. */
 bool number_of(napi_env env, napi_value value, uint32_t *number);
 bool count_of(napi_env env, napi_value value, uint64_t *count);
+
+bool flag_of(napi_env env, napi_value value, bool *flag);
 
 /* The places of a Float64Array that has so many, for numbers past 32 bits. */
 double *doubles_of(napi_env env, napi_value value, size_t wanted);
@@ -74,6 +77,8 @@ struct addon {
     uint32_t count, free;    /* how many places there are, and the first that is free, or as many */
     int64_t reported, swept; /* the bytes that V8 knows of, and the fewest since the last sweep */
     int64_t freed;           /* the bytes that glibc may keep */
+    smap_bytes listed;       /* mappings that are handed out piece by piece, */
+    size_t handed;           /* and how many bytes were */
 };
 
 struct held {
@@ -87,16 +92,16 @@ struct held {
         smap_map map;
         smap_inners inners;
         struct { smap_table table; smap_store store; int64_t given; }; /* the bytes that the maps of the table count for */
-        struct { smap_rewriting rewriting; uint64_t time; bool is_last; }; /* when bytes were given, and whether the last */
+        /* When bytes were given, and whether the last; and how many whole lines came out before. */
+        struct { smap_rewriting rewriting; uint64_t time, lines; bool is_last; };
     };
     smap_originals originals; /* of a map, as soon as it was asked for generated places */
 };
 
 struct addon *addon_of(napi_env env);
 
-/* What an object holds that is open and of this kind, or a map; or nothing, which is an error. */
+/* What an object holds that is open and of this kind; or nothing, which is an error. */
 struct held *held_of(napi_env env, napi_value value, enum kind kind);
-struct held *map_of(napi_env env, napi_value value);
 
 /* Makes an object that holds what is full, of so many bytes that V8 is to know of. The object names its place. Where that fails,
  * what is held is freed. */
@@ -133,38 +138,34 @@ bool outline_of(const uint8_t *text, size_t length, char **outline, size_t *byte
 /* map.c: the map that was read of so many bytes, as an object. */
 napi_value object_of_map(napi_env env, struct held *held, size_t length);
 
+/* A map that is read at this base or, with `or_at_none`, at none where that is no URL. */
+uint32_t read_so(smap_text bytes, smap_text base, bool or_at_none, uint32_t interval, uint64_t most, smap_map *map,
+                 smap_refusal *refusal);
+
+/* mappings.c: nothing is handed out piece by piece any more. */
+void end_list(struct addon *addon);
+
+/* refusals.c: the six numbers of a refusal, and an object with the codes that the callers ask for. */
+void put_refusal(const smap_refusal *refusal, double *numbers);
+napi_value codes_of(napi_env env);
+
+/* store.c: the table that a call is asked of, whose place stands in the room, and the URL that is its only argument. One without bytes has
+ * no map, and is not asked for: `none` is null then, and else no value. */
+struct url;
+struct held *asked(napi_env env, napi_callback_info info, napi_value *text, struct url *url, napi_value *none);
+
 /* rewriting.c: the time in milliseconds, from some point on. */
 uint64_t time_now(void);
 
-/* The bytes of a URL that is given as a text, which most have room for, and whether it has some; and the same of one that has to. */
+/* The bytes of a URL that is given as a text, which most have room for, and whether it has some; the text of a URL, or null where that is
+ * not UTF-8; and the bytes of one that has to have some. */
 struct url { uint8_t *bytes; size_t length; uint8_t room[512]; };
 bool url_of(napi_env env, napi_value text, struct url *url, bool *has_bytes);
+bool is_ascii(smap_text text);
+bool text_of_url(napi_env env, smap_text url, napi_value *text);
 bool whole_url_of(napi_env env, napi_value text, struct url *url);
 void free_url(struct url *url);
 
-/* What node calls. Each says beside its body what it is given and gives. */
-typedef napi_value call(napi_env env, napi_callback_info info);
-call close_map, close_table, close_inners;
-/* look_up.c */
-call look_up, look_up_many, generated, bytes_by_source, fit;
-/* mappings.c */
-call mappings, encode;
-/* map.c */
-call read_map, counts, size, use_paths, source_name, source_content, source_lines, is_ignored, name, file, write_map;
-/* later.c */
-call read_later;
-/* members.c */
-call members;
-/* refusals.c */
-call refusal_text, refusal_explain, compose_refusal_text, table_refusal_text, generated_refusal_text;
-call rewrite_refusal_text, write_refusal_text, encode_refusal_text;
-/* compose.c */
-call compose, new_inners, put_inner, next_inner, inner_name, compose_all;
-/* store.c */
-call new_table, add, is_bad_url, read_into, put, put_none, forget, table_counts, find_place, wanted, key_of_map, map_at;
-/* rewriting.c */
-call new_rewriting, give, run, take_text, stripped;
-/* urls.c */
-call locations, folder_path;
+#include "calls.h"
 
 #endif

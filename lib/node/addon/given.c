@@ -39,20 +39,26 @@ static bool array_of(napi_env env, napi_value value, napi_typedarray_type wanted
     return true;
 }
 
-bool bytes_of(napi_env env, napi_value value, const uint8_t **bytes, size_t *length) {
+bool bytes_of(napi_env env, napi_value value, smap_text *bytes) {
     void *data;
-    bool is = array_of(env, value, napi_uint8_array, false, &data, length);
-    if (is) *bytes = data;
+    bool is = array_of(env, value, napi_uint8_array, false, &data, &bytes->length);
+    if (is) bytes->bytes = data;
     else refuse_type(env, "no Uint8Array, or one that is shared");
     return is;
 }
 
-bool numbers_of(napi_env env, napi_value value, uint32_t **numbers, size_t *length) {
+bool numbers_of(napi_env env, napi_value value, struct numbers *numbers) {
     void *data;
-    bool is = array_of(env, value, napi_uint32_array, false, &data, length);
-    if (is) *numbers = data;
+    bool is = array_of(env, value, napi_uint32_array, false, &data, &numbers->count);
+    if (is) *numbers = (struct numbers){data, numbers->count, value};
     else refuse_type(env, "no Uint32Array, or one that is shared");
     return is;
+}
+
+bool flag_of(napi_env env, napi_value value, bool *flag) {
+    if (napi_get_value_bool(env, value, flag) == napi_ok) return true;
+    refuse_type(env, "no boolean");
+    return false;
 }
 
 uint32_t *shared_of(napi_env env, napi_value value, size_t wanted) {

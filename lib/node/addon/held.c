@@ -120,6 +120,7 @@ void drop_addon(napi_env env, void *data, void *hint) {
     for (uint32_t i = 0; i < addon->count; i++)
         if (addon->places[i].held) addon->places[i].held->addon = NULL;
     if (last.addon == addon) last.env = NULL;
+    end_list(addon);
     free(addon->places);
     free(addon);
 }
@@ -137,8 +138,6 @@ struct held *held_of(napi_env env, napi_value value, enum kind kind) {
     return NULL;
 }
 
-struct held *map_of(napi_env env, napi_value value) { return held_of(env, value, MAP); }
-
 struct addon *addon_of(napi_env env) {
     if (last.env != env) {
         void *data = NULL;
@@ -148,17 +147,8 @@ struct addon *addon_of(napi_env env) {
     return last.addon;
 }
 
-/* Frees what the first argument holds now. */
-static napi_value close_held(napi_env env, napi_callback_info info, enum kind kind) {
-    napi_value words[WORDS];
-    struct held *held = words_of(env, info, 1, words) ? held_of(env, words[0], kind) : NULL;
-    if (held) let_go(env, held);
+/* closeMap(map), closeTable(table), closeInners(inners): what is held is freed now. */
+napi_value close_held(napi_env env, struct held *held) {
+    let_go(env, held);
     return NULL;
 }
-
-/* closeMap(map), closeTable(table), closeInners(inners) */
-napi_value close_map(napi_env env, napi_callback_info info) { return close_held(env, info, MAP); }
-
-napi_value close_table(napi_env env, napi_callback_info info) { return close_held(env, info, TABLE); }
-
-napi_value close_inners(napi_env env, napi_callback_info info) { return close_held(env, info, INNERS); }

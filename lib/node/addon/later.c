@@ -9,9 +9,10 @@ struct reading {
     napi_async_work work;
     napi_deferred deferred;
     napi_ref array;
-    const uint8_t *text;
-    size_t length, base_length;
+    smap_text text;
     uint8_t *base;
+    size_t base_length;
+    bool or_at_none;
     uint32_t interval, status;
     uint64_t most;
     struct held *held;
@@ -37,17 +38,18 @@ static void free_reading(napi_env env, struct reading *reading) {
 /* Where the members of the map stand, and where those of its contents. */
 static bool find_members(struct reading *reading) {
     static const char key[] = "\"sourcesContent\"";
-    const uint8_t *text = reading->text, *end;
+    const uint8_t *text = reading->text.bytes, *end;
+    const size_t length = reading->text.length;
     size_t at = text[0] == 0xef ? 3 : 0;
-    if (text[at] == ')' && (end = memchr(text + at, '\n', reading->length - at))) at = (size_t)(end - text);
-    if (!find_parts(text, reading->length, at, &reading->members)) return false;
+    if (text[at] == ')' && (end = memchr(text + at, '\n', length - at))) at = (size_t)(end - text);
+    if (!find_parts(text, length, at, &reading->members)) return false;
     const uint32_t *part = reading->members.numbers;
     for (size_t i = 0; i + 3 < reading->members.count; i += 4, part += 4) {
         bool is = part[1] - part[0] == sizeof key - 1 && !memcmp(text + part[0], key, sizeof key - 1);
         if (!is || text[part[2]] != '[') continue;
         reading->has_contents = true;
         reading->contents.count = 0;
-        if (!find_parts(text, reading->length, part[2], &reading->contents)) return false;
+        if (!find_parts(text, length, part[2], &reading->contents)) return false;
     }
     return true;
 }
@@ -56,9 +58,10 @@ static bool find_members(struct reading *reading) {
 static void read_beside(napi_env env, void *data) {
     (void)env;
     struct reading *r = data;
-    r->status = smap_map_read_within(r->text, r->length, r->base, r->base_length, r->interval, r->most, &r->held->map, &r->refusal);
+    const smap_text base = {r->base, r->base_length};
+    r->status = read_so(r->text, base, r->or_at_none, r->interval, r->most, &r->held->map, &r->refusal);
     if (r->status == SMAP_REFUSED) {
-        uint32_t explained = smap_refusal_explain(r->text, r->length, &r->refusal, &r->reason, &r->why);
+        uint32_t explained = smap_refusal_explain(r->text.bytes, r->text.length, &r->refusal, &r->reason, &r->why);
         if (explained == SMAP_NO_MEMORY) r->status = SMAP_NO_MEMORY;
         if (explained != SMAP_DONE) r->why.at = NULL;
     } else if (r->status == SMAP_DONE && !find_members(r)) {
@@ -67,16 +70,15 @@ static void read_beside(napi_env env, void *data) {
     }
 }
 
-/* The numbers of a refusal and of its reason, and the sentences, or null. */
+/* The numbers of a refusal and of its reason, and the lines, or null. */
 static napi_value refusal_of(napi_env env, struct reading *r) {
-    const smap_refusal *n = &r->refusal;
     const smap_reason *reason = &r->reason;
-    const double numbers[] = {
-        n->number, n->fault, n->line, n->build, (double)n->section, (double)n->byte,
-        reason->has_value ? (double)reason->value : NAN, reason->has_least ? (double)reason->least : NAN,
+    double numbers[] = {
+        0, 0, 0, 0, 0, 0, reason->has_value ? (double)reason->value : NAN, reason->has_least ? (double)reason->least : NAN,
         reason->has_most ? (double)reason->most : NAN, reason->has_column ? (double)reason->generated_column : NAN,
     };
     napi_value values[11];
+    put_refusal(&r->refusal, numbers);
     for (size_t i = 0; i < 10; i++) values[i] = number(env, numbers[i]);
     values[10] = r->why.at ? buffer(env, &r->why) : null(env);
     r->why.at = NULL;
@@ -87,7 +89,7 @@ static napi_value refusal_of(napi_env env, struct reading *r) {
 static napi_value map_of_reading(napi_env env, struct reading *r) {
     struct held *held = r->held;
     r->held = NULL;
-    napi_value map = object_of_map(env, held, r->length);
+    napi_value map = object_of_map(env, held, r->text.length);
     napi_value members = map ? array_of_parts(env, &r->members) : NULL;
     if (!members) return NULL;
     const napi_value values[] = {map, members, r->has_contents ? number(env, (double)(r->contents.count / 4)) : null(env)};
@@ -110,22 +112,22 @@ static void tell_read(napi_env env, napi_status ended, void *data) {
     free_reading(env, r);
 }
 
-/* readLater(bytes, base, interval, mostNames): a promise of the map, where its members stand and how many contents it has; or of the numbers
- * of the refusal and of its reason, with the sentences. Nobody else may have the bytes. */
-napi_value read_later(napi_env env, napi_callback_info info) {
-    napi_value words[WORDS], name, promise = NULL;
-    const uint8_t *base;
+/* readLater(bytes, base, orAtNone, interval, mostNames): a promise of the map, where its members stand and how many contents it has; or of
+ * the numbers of the refusal and of its reason, with the sentences. Nobody else may have the bytes. */
+napi_value read_later(napi_env env, smap_text bytes, napi_value array, smap_text base, bool or_at_none, uint32_t interval,
+                      uint64_t most) {
+    napi_value name, promise = NULL;
     struct reading *r = calloc(1, sizeof *r);
     if (!r) return refuse(env, "out of memory");
     r->status = SMAP_NO_MEMORY;
-    bool is = words_of(env, info, 4, words) && bytes_of(env, words[0], &r->text, &r->length) &&
-              bytes_of(env, words[1], &base, &r->base_length) && number_of(env, words[2], &r->interval) && count_of(env, words[3], &r->most);
-    if (!is) return free_reading(env, r), NULL;
+    r->text = bytes, r->or_at_none = or_at_none;
+    r->interval = interval, r->most = most;
     sweep(env, addon_of(env));
     r->held = calloc(1, sizeof *r->held);
-    r->base = malloc(r->base_length + 1);
-    if (r->held && r->base && napi_create_reference(env, words[0], 1, &r->array) == napi_ok) {
-        memcpy(r->base, base, r->base_length);
+    r->base = malloc(base.length + 1);
+    if (r->held && r->base && napi_create_reference(env, array, 1, &r->array) == napi_ok) {
+        memcpy(r->base, base.bytes, base.length);
+        r->base_length = base.length;
         napi_create_string_utf8(env, "smap", NAPI_AUTO_LENGTH, &name);
         if (napi_create_promise(env, &r->deferred, &promise) == napi_ok &&
             napi_create_async_work(env, NULL, name, read_beside, tell_read, r, &r->work) == napi_ok && napi_queue_async_work(env, r->work) == napi_ok)

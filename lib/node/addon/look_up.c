@@ -63,39 +63,29 @@ napi_value look_up(napi_env env, napi_callback_info info) {
 
 /* lookUpMany(map, positions, found): the answers to a Uint32Array of lines, from 1, and columns; seven numbers each, and the
  * lines in them from 1 too. */
-napi_value look_up_many(napi_env env, napi_callback_info info) {
-    napi_value words[WORDS];
-    uint32_t *positions, *numbers;
-    size_t length, places;
-    if (!words_of(env, info, 3, words)) return NULL;
-    struct held *held = map_of(env, words[0]);
-    if (!held || !numbers_of(env, words[1], &positions, &length) || !numbers_of(env, words[2], &numbers, &places)) return NULL;
-    if (length % 2 || places != length / 2 * 7) return refuse_type(env, "the lengths do not fit");
+napi_value look_up_many(napi_env env, struct held *held, struct numbers positions, struct numbers numbers) {
+    const size_t length = positions.count;
+    if (length % 2 || numbers.count != length / 2 * 7) return refuse_type(env, "the lengths do not fit");
     smap_position asked[AT_ONCE];
     for (size_t done = 0, count; done < length / 2; done += count) {
         count = length / 2 - done < AT_ONCE ? length / 2 - done : AT_ONCE;
-        smap_found *found = (smap_found *)numbers + done;
+        smap_found *found = (smap_found *)numbers.at + done;
         for (size_t i = 0; i < count; i++) {
-            const uint32_t *at = positions + 2 * (done + i);
+            const uint32_t *at = positions.at + 2 * (done + i);
             if (!at[0]) return refuse(env, "`line` must be greater than 0 (lines start at line 1)");
             asked[i] = (smap_position){at[0] - 1, at[1]};
         }
         smap_look_up_many(&held->map, asked, count, found, count);
         for (size_t i = 0; i < count; i++) found[i].line += found[i].kind == 2;
     }
-    return words[2];
+    return numbers.array;
 }
 
 /* generated(map, source, line, column, direction): the generated places of an original one, as a Uint32Array of a line, a column, and
  * the line and the column of the original each. All count from 0. */
-napi_value generated(napi_env env, napi_callback_info info) {
-    napi_value words[WORDS], array, buffer;
-    uint32_t source, line, column, direction;
+napi_value generated(napi_env env, struct held *held, uint32_t source, uint32_t line, uint32_t column, uint32_t direction) {
+    napi_value array, buffer;
     void *place;
-    if (!words_of(env, info, 5, words)) return NULL;
-    struct held *held = map_of(env, words[0]);
-    if (!held || !number_of(env, words[1], &source) || !number_of(env, words[2], &line)) return NULL;
-    if (!number_of(env, words[3], &column) || !number_of(env, words[4], &direction)) return NULL;
     smap_generated_places places = SMAP_PLACES;
     if (!places_of(env, held, source, line, column, direction, &places)) return NULL;
     size_t bytes = places.count * sizeof *places.places;
@@ -107,21 +97,16 @@ napi_value generated(napi_env env, napi_callback_info info) {
 }
 
 /* bytesBySource(map, generated, refusal): a Float64Array of the bytes of each source and, at its end, those that are
- * unmapped; or the number of the refusal. */
-napi_value bytes_by_source(napi_env env, napi_callback_info info) {
-    napi_value words[WORDS], array = NULL, room;
-    const uint8_t *generated;
-    size_t length;
-    uint32_t why = 0;
+ * unmapped; or the code of the refusal. */
+napi_value bytes_by_source(napi_env env, struct held *held, smap_text file) {
+    napi_value array = NULL, room;
+    smap_code why = 0;
     void *place;
-    if (!words_of(env, info, 2, words)) return NULL;
-    struct held *held = map_of(env, words[0]);
-    if (!held || !bytes_of(env, words[1], &generated, &length)) return NULL;
     smap_count count = {0};
     smap_counts(&held->map, &count);
     uint64_t *reported = calloc(count.sources + 1, sizeof *reported);
     if (!reported) return refuse(env, "out of memory");
-    uint32_t status = smap_bytes_by_source(&held->map, generated, length, reported, count.sources, reported + count.sources, &why);
+    uint32_t status = smap_bytes_by_source(&held->map, file.bytes, file.length, reported, count.sources, reported + count.sources, &why);
     if (status == SMAP_DONE && napi_create_arraybuffer(env, (count.sources + 1) * sizeof(double), &place, &room) == napi_ok &&
         napi_create_typedarray(env, napi_float64_array, count.sources + 1, room, 0, &array) == napi_ok)
         for (size_t i = 0; i <= count.sources; i++) ((double *)place)[i] = (double)reported[i];
@@ -131,18 +116,11 @@ napi_value bytes_by_source(napi_env env, napi_callback_info info) {
 }
 
 /* fit(map, generated, counts): into a Float64Array of seven places the counts, in their order, and 1 where the map fits; or the
- * number of the refusal. */
-napi_value fit(napi_env env, napi_callback_info info) {
-    napi_value words[WORDS];
-    const uint8_t *generated;
-    size_t length;
-    uint32_t why = 0;
-    if (!words_of(env, info, 3, words)) return NULL;
-    struct held *held = map_of(env, words[0]);
-    double *counts = doubles_of(env, words[2], 7);
-    if (!held || !counts || !bytes_of(env, words[1], &generated, &length)) return NULL;
+ * code of the refusal. */
+napi_value fit(napi_env env, struct held *held, smap_text file, double *counts) {
+    smap_code why = 0;
     smap_fit_count fit = {0};
-    uint32_t status = smap_fit(&held->map, generated, length, &fit, &why);
+    uint32_t status = smap_fit(&held->map, file.bytes, file.length, &fit, &why);
     if (status == SMAP_NO_MEMORY) return refuse(env, "out of memory");
     if (status == SMAP_REFUSED) return number(env, why);
     const uint64_t all[] = {fit.mappings, fit.past, fit.inside, fit.compared, fit.outside, fit.same, fit.fits};

@@ -13,38 +13,33 @@ napi_value object_of_map(napi_env env, struct held *held, size_t length) {
     return object_of(env, held, size_of(length, &count));
 }
 
-/* read(bytes, base, interval, mostNames, refusal): a map, the names of whose sources may have so many bytes together; or null,
+uint32_t read_so(smap_text bytes, smap_text base, bool or_at_none, uint32_t interval, uint64_t most, smap_map *map,
+                 smap_refusal *refusal) {
+    uint32_t status = smap_map_read_within(bytes.bytes, bytes.length, base.bytes, base.length, interval, most, map, refusal);
+    if (status != SMAP_REFUSED || refusal->code != SMAP_CODE_USAGE || !or_at_none) return status;
+    return smap_map_read_within(bytes.bytes, bytes.length, (const uint8_t *)nothing, 0, interval, most, map, refusal);
+}
+
+/* read(bytes, base, orAtNone, interval, mostNames, refusal): a map, the names of whose sources may have so many bytes together; or null,
  * with the numbers of the refusal in a Float64Array of 6. */
-napi_value read_map(napi_env env, napi_callback_info info) {
-    napi_value words[WORDS];
-    const uint8_t *bytes, *base;
-    size_t length, base_length;
-    uint32_t interval;
-    uint64_t most;
-    double *numbers;
-    if (!words_of(env, info, 5, words) || !bytes_of(env, words[0], &bytes, &length) || !bytes_of(env, words[1], &base, &base_length) ||
-        !number_of(env, words[2], &interval) || !count_of(env, words[3], &most) || !(numbers = doubles_of(env, words[4], 6)))
-        return NULL;
+napi_value read_map(napi_env env, smap_text bytes, smap_text base, bool or_at_none, uint32_t interval, uint64_t most,
+                    double *numbers) {
     sweep(env, addon_of(env));
     struct held *held = calloc(1, sizeof *held);
     if (!held) return refuse(env, "out of memory");
     smap_refusal refusal = {0};
-    uint32_t status = smap_map_read_within(bytes, length, base, base_length, interval, most, &held->map, &refusal);
+    uint32_t status = read_so(bytes, base, or_at_none, interval, most, &held->map, &refusal);
     if (status != SMAP_DONE) {
         free(held);
         if (status != SMAP_REFUSED) return refuse(env, "out of memory");
-        numbers[0] = refusal.number, numbers[1] = refusal.fault, numbers[2] = refusal.line;
-        numbers[3] = refusal.build, numbers[4] = (double)refusal.section, numbers[5] = (double)refusal.byte;
+        put_refusal(&refusal, numbers);
         return null(env);
     }
-    return object_of_map(env, held, length);
+    return object_of_map(env, held, bytes.length);
 }
 
-napi_value counts(napi_env env, napi_callback_info info) {
-    napi_value words[WORDS], result;
-    if (!words_of(env, info, 1, words)) return NULL;
-    struct held *held = map_of(env, words[0]);
-    if (!held) return NULL;
+napi_value counts(napi_env env, struct held *held) {
+    napi_value result;
     smap_count count = {0};
     smap_counts(&held->map, &count);
     const char *names[] = {"sections", "sources", "names", "segments", "lines", "checkpoints"};
@@ -56,12 +51,8 @@ napi_value counts(napi_env env, napi_callback_info info) {
 }
 
 /* size(map): about how many bytes of memory it takes, with its index of originals if that was made. */
-napi_value size(napi_env env, napi_callback_info info) {
-    napi_value words[WORDS];
+napi_value size(napi_env env, struct held *held) {
     uint64_t bytes = 0;
-    if (!words_of(env, info, 1, words)) return NULL;
-    struct held *held = map_of(env, words[0]);
-    if (!held) return NULL;
     smap_map_size(&held->map, &bytes);
     if (held->originals.at) {
         smap_count count = {0};
@@ -72,47 +63,37 @@ napi_value size(napi_env env, napi_callback_info info) {
 }
 
 /* usePaths(map, url): names the sources by the URL, where that is an absolute path; whether no other holds the map. */
-napi_value use_paths(napi_env env, napi_callback_info info) {
-    napi_value words[WORDS], alone;
-    const uint8_t *url;
-    size_t length;
-    if (!words_of(env, info, 2, words)) return NULL;
-    struct held *held = map_of(env, words[0]);
-    if (!held || !bytes_of(env, words[1], &url, &length)) return NULL;
-    uint32_t status = smap_map_use_paths(&held->map, url, length);
+napi_value use_paths(napi_env env, struct held *held, smap_text url) {
+    napi_value alone;
+    uint32_t status = smap_map_use_paths(&held->map, url.bytes, url.length);
     if (status == SMAP_NO_MEMORY) return refuse(env, "out of memory");
     return napi_get_boolean(env, status == SMAP_DONE, &alone) == napi_ok ? alone : NULL;
 }
 
-/* The source of a call's second argument. */
-static bool source_of(napi_env env, napi_callback_info info, smap_source_text *source) {
-    napi_value words[WORDS];
-    uint32_t index;
-    if (!words_of(env, info, 2, words)) return false;
-    struct held *held = map_of(env, words[0]);
-    if (!held || !number_of(env, words[1], &index)) return false;
+/* The source of this number. */
+static bool source_of(napi_env env, struct held *held, uint32_t index, smap_source_text *source) {
     if (smap_source(&held->map, index, source) == SMAP_DONE) return true;
     refuse_range(env, "no such source");
     return false;
 }
 
 /* sourceName(map, index), sourceContent(map, index): a text, or null; isIgnored(map, index): whether it is. */
-napi_value source_name(napi_env env, napi_callback_info info) {
+napi_value source_name(napi_env env, struct held *held, uint32_t index) {
     smap_source_text source = SMAP_SOURCE;
-    if (!source_of(env, info, &source)) return NULL;
+    if (!source_of(env, held, index, &source)) return NULL;
     return source.named ? string(env, source.name) : null(env);
 }
 
-napi_value source_content(napi_env env, napi_callback_info info) {
+napi_value source_content(napi_env env, struct held *held, uint32_t index) {
     smap_source_text source = SMAP_SOURCE;
-    if (!source_of(env, info, &source)) return NULL;
+    if (!source_of(env, held, index, &source)) return NULL;
     return source.held ? string(env, source.content) : null(env);
 }
 
-napi_value is_ignored(napi_env env, napi_callback_info info) {
+napi_value is_ignored(napi_env env, struct held *held, uint32_t index) {
     smap_source_text source = SMAP_SOURCE;
     napi_value ignored;
-    if (!source_of(env, info, &source) || napi_get_boolean(env, source.ignored != 0, &ignored) != napi_ok) return NULL;
+    if (!source_of(env, held, index, &source) || napi_get_boolean(env, source.ignored != 0, &ignored) != napi_ok) return NULL;
     return ignored;
 }
 
@@ -130,14 +111,9 @@ static napi_value lines_of(napi_env env, smap_text content, const smap_line_byte
 
 /* sourceLines(map, index, line, before, after): the lines around this line of a source, with before them the place of it among them; or
  * null. */
-napi_value source_lines(napi_env env, napi_callback_info info) {
-    napi_value words[WORDS];
+napi_value source_lines(napi_env env, struct held *held, uint32_t index, uint32_t line, uint32_t before, uint32_t after) {
     smap_source_text source = SMAP_SOURCE;
-    uint32_t index, line, before, after;
-    if (!words_of(env, info, 5, words) || !source_of(env, info, &source)) return NULL;
-    struct held *held = map_of(env, words[0]);
-    if (!number_of(env, words[1], &index) || !number_of(env, words[2], &line)) return NULL;
-    if (!number_of(env, words[3], &before) || !number_of(env, words[4], &after)) return NULL;
+    if (!source_of(env, held, index, &source)) return NULL;
     size_t places = (size_t)before + 1 + after;
     smap_line_bytes *lines = calloc(places, sizeof *lines);
     smap_line_range range = {0};
@@ -148,31 +124,18 @@ napi_value source_lines(napi_env env, napi_callback_info info) {
     return list;
 }
 
-napi_value name(napi_env env, napi_callback_info info) {
-    napi_value words[WORDS];
-    uint32_t index;
-    if (!words_of(env, info, 2, words)) return NULL;
-    struct held *held = map_of(env, words[0]);
-    if (!held || !number_of(env, words[1], &index)) return NULL;
+napi_value name(napi_env env, struct held *held, uint32_t index) {
     smap_text text = SMAP_TEXT;
     return smap_name(&held->map, index, &text) == SMAP_DONE ? string(env, text) : null(env);
 }
 
-napi_value file(napi_env env, napi_callback_info info) {
-    napi_value words[WORDS];
-    if (!words_of(env, info, 1, words)) return NULL;
-    struct held *held = map_of(env, words[0]);
-    if (!held) return NULL;
+napi_value file(napi_env env, struct held *held) {
     smap_text text = SMAP_TEXT;
     return smap_file(&held->map, &text) == SMAP_DONE ? string(env, text) : null(env);
 }
 
 /* write(map): its text, or null where it is refused. */
-napi_value write_map(napi_env env, napi_callback_info info) {
-    napi_value words[WORDS];
-    if (!words_of(env, info, 1, words)) return NULL;
-    struct held *held = map_of(env, words[0]);
-    if (!held) return NULL;
+napi_value write_map(napi_env env, struct held *held) {
     smap_bytes bytes = {0};
     uint32_t status = smap_map_write(&held->map, &bytes);
     if (status == SMAP_DONE) return buffer(env, &bytes);

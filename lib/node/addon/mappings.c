@@ -3,12 +3,9 @@
 #include <string.h>
 
 /* mappings(map): those of the map as a Uint32Array, eight numbers each, as smap_mapping has them. */
-napi_value mappings(napi_env env, napi_callback_info info) {
-    napi_value words[WORDS], array = NULL, room;
+napi_value mappings(napi_env env, struct held *held) {
+    napi_value array = NULL, room;
     void *place;
-    if (!words_of(env, info, 1, words)) return NULL;
-    struct held *held = map_of(env, words[0]);
-    if (!held) return NULL;
     smap_bytes bytes = {0};
     if (smap_map_mappings(&held->map, &bytes) != SMAP_DONE) return refuse(env, "out of memory");
     smap_text text = SMAP_TEXT;
@@ -20,21 +17,48 @@ napi_value mappings(napi_env env, napi_callback_info info) {
     return array ? array : refuse(env, "out of memory");
 }
 
+void end_list(struct addon *addon) {
+    if (addon->listed.at) smap_bytes_free(&addon->listed);
+    addon->listed.at = NULL;
+}
+
+/* listMappings(map): begins to hand out the mappings of the map piece by piece. Gives the line of the last one, or -1 where there is none. */
+napi_value list_mappings(napi_env env, struct held *held) {
+    struct addon *addon = addon_of(env);
+    smap_bytes bytes = {0};
+    smap_text text = SMAP_TEXT;
+    end_list(addon);
+    if (smap_map_mappings(&held->map, &bytes) != SMAP_DONE) return refuse(env, "out of memory");
+    smap_bytes_text(&bytes, &text);
+    addon->listed = bytes, addon->handed = 0;
+    const smap_mapping *end = (const smap_mapping *)(text.bytes + text.length);
+    return number(env, text.length ? (double)end[-1].line : -1);
+}
+
+/* nextMappings(numbers): puts the next ones into a Uint32Array, as `mappings` has them, and gives how many numbers those are. Where that is 0,
+ * nothing is kept of them any more. */
+napi_value next_mappings(napi_env env, struct numbers given) {
+    smap_text text = SMAP_TEXT;
+    struct addon *addon = addon_of(env);
+    if (addon->listed.at) smap_bytes_text(&addon->listed, &text);
+    size_t left = addon->listed.at ? text.length - addon->handed : 0, size = given.count * sizeof *given.at;
+    size -= size % sizeof(smap_mapping);
+    if (size > left) size = left;
+    memcpy(given.at, text.bytes + (size ? addon->handed : 0), size);
+    addon->handed += size;
+    if (!size) end_list(addon);
+    return number(env, (double)(size / sizeof *given.at));
+}
+
 /* encode(mappings, refusal): the text of mappings in a Uint32Array, as `mappings` has them, as a Buffer; or null, with the
- * numbers of the refusal and of the mapping in a Float64Array of 2. */
-napi_value encode(napi_env env, napi_callback_info info) {
-    napi_value words[WORDS];
-    uint32_t *given;
-    size_t length;
-    double *numbers;
-    if (!words_of(env, info, 2, words) || !numbers_of(env, words[0], &given, &length) || !(numbers = doubles_of(env, words[1], 2)))
-        return NULL;
+ * code of the refusal and the number of the mapping in a Float64Array of 2. */
+napi_value encode(napi_env env, struct numbers given, double *numbers) {
     smap_encode_refusal refusal = {0};
     smap_bytes bytes = {0};
-    const size_t count = length / (sizeof(smap_mapping) / sizeof(uint32_t));
-    uint32_t status = smap_encode((const smap_mapping *)given, count, &bytes, &refusal);
+    const size_t count = given.count / (sizeof(smap_mapping) / sizeof(uint32_t));
+    uint32_t status = smap_encode((const smap_mapping *)given.at, count, &bytes, &refusal);
     if (status == SMAP_DONE) return buffer(env, &bytes);
     if (status != SMAP_REFUSED) return refuse(env, "out of memory");
-    numbers[0] = refusal.number, numbers[1] = (double)refusal.mapping;
+    numbers[0] = refusal.code, numbers[1] = (double)refusal.mapping;
     return null(env);
 }

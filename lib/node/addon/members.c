@@ -137,16 +137,25 @@ bool outline_of(const uint8_t *text, size_t length, char **outline, size_t *byte
     return true;
 }
 
+/* outline(bytes, numbers): what a TraceMap has of the text of a regular map beside the library's, as JSON, and how many bytes of the text
+ * that is, in a Float64Array; or null where that is not found so. */
+napi_value outline(napi_env env, smap_text text, double *numbers) {
+    size_t kept = 0;
+    char *found = NULL;
+    /* No map has less. */
+    if (text.length < 4) return null(env);
+    if (!outline_of(text.bytes, text.length, &found, &kept)) return refuse(env, "out of memory");
+    numbers[0] = (double)kept;
+    napi_value result = found ? string(env, (smap_text){(const uint8_t *)found, strlen(found)}) : null(env);
+    free(found);
+    return result;
+}
+
 /* members(bytes, at): of the object or the list that begins at this byte, or behind blanks, where each key and its value begin
  * and end; in a list the keys have no byte. Four numbers each, as a Uint32Array. */
-napi_value members(napi_env env, napi_callback_info info) {
-    napi_value words[WORDS];
-    const uint8_t *text;
-    size_t length;
-    uint32_t at;
+napi_value members(napi_env env, smap_text text, uint32_t at) {
     struct parts parts = {0};
-    if (!words_of(env, info, 2, words) || !bytes_of(env, words[0], &text, &length) || !number_of(env, words[1], &at)) return NULL;
-    bool whole = find_parts(text, length, at, &parts);
+    bool whole = find_parts(text.bytes, text.length, at, &parts);
     napi_value array = whole ? array_of_parts(env, &parts) : refuse(env, "out of memory");
     free(parts.numbers);
     return array;

@@ -25,22 +25,6 @@ static napi_value texts_of(napi_env env, struct addon *addon) {
 }
 
 NAPI_MODULE_INIT() {
-    const struct { const char *name; napi_callback call; } calls[] = {
-        {"read", read_map}, {"refusalText", refusal_text}, {"refusalExplain", refusal_explain}, {"closeMap", close_map},
-        {"closeTable", close_table}, {"closeInners", close_inners}, {"lookUp", look_up}, {"lookUpMany", look_up_many},
-        {"generated", generated}, {"mappings", mappings}, {"encode", encode}, {"bytesBySource", bytes_by_source}, {"fit", fit},
-        {"members", members}, {"counts", counts}, {"size", size}, {"usePaths", use_paths}, {"sourceName", source_name}, {"sourceContent", source_content},
-        {"sourceLines", source_lines}, {"isIgnored", is_ignored},
-        {"name", name}, {"file", file}, {"write", write_map}, {"compose", compose}, {"newInners", new_inners},
-        {"putInner", put_inner}, {"nextInner", next_inner}, {"innerName", inner_name}, {"composeAll", compose_all}, {"newTable", new_table},
-        {"add", add}, {"isBadUrl", is_bad_url}, {"put", put}, {"readInto", read_into}, {"putNone", put_none}, {"forget", forget}, {"tableCounts", table_counts},
-        {"findPlace", find_place}, {"wanted", wanted}, {"keyOfMap", key_of_map}, {"mapAt", map_at}, {"newRewriting", new_rewriting},
-        {"give", give}, {"run", run}, {"takeText", take_text}, {"stripped", stripped}, {"locations", locations}, {"folderPath", folder_path},
-        {"readLater", read_later}, {"composeRefusalText", compose_refusal_text},
-        {"tableRefusalText", table_refusal_text}, {"generatedRefusalText", generated_refusal_text},
-        {"rewriteRefusalText", rewrite_refusal_text}, {"writeRefusalText", write_refusal_text},
-        {"encodeRefusalText", encode_refusal_text},
-    };
     struct addon *addon = calloc(1, sizeof *addon);
     if (!addon || napi_set_instance_data(env, addon, drop_addon, NULL) != napi_ok) {
         free(addon);
@@ -48,8 +32,8 @@ NAPI_MODULE_INIT() {
     }
     napi_value room = room_of(env, addon);
     napi_value texts = room ? texts_of(env, addon) : NULL;
-    if (!room || !define(env, exports, "room", room) || !define(env, exports, "texts", texts)) return NULL;
-    for (size_t i = 0; i < sizeof calls / sizeof *calls; i++) {
+    if (!room || !define(env, exports, "room", room) || !define(env, exports, "texts", texts) || !define(env, exports, "codes", codes_of(env))) return NULL;
+    for (size_t i = 0; i < CALLS; i++) {
         napi_value function;
         if (napi_create_function(env, calls[i].name, NAPI_AUTO_LENGTH, calls[i].call, NULL, &function) != napi_ok ||
             !define(env, exports, calls[i].name, function))

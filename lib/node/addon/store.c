@@ -4,9 +4,7 @@
 #include <stdlib.h>
 #include <string.h>
 
-/* The table that a call is asked of, and the URL that is its only argument. One without bytes has no map, and is not asked for: `none` is
- * null then, and else no value. */
-static struct held *asked(napi_env env, napi_callback_info info, napi_value *text, struct url *url, napi_value *none) {
+struct held *asked(napi_env env, napi_callback_info info, napi_value *text, struct url *url, napi_value *none) {
     napi_value words[WORDS];
     bool has_bytes = false;
     *none = NULL;
@@ -37,10 +35,7 @@ static void report_store(napi_env env, struct held *held) {
 }
 
 /* newTable(most): a table without maps, and a store of so many bytes beside it. */
-napi_value new_table(napi_env env, napi_callback_info info) {
-    napi_value words[WORDS];
-    uint64_t most;
-    if (!words_of(env, info, 1, words) || !count_of(env, words[0], &most)) return NULL;
+napi_value new_table(napi_env env, uint64_t most) {
     struct held *held = calloc(1, sizeof *held);
     if (held && smap_table_new(&held->table) == SMAP_DONE) {
         held->kind = TABLE;
@@ -51,18 +46,10 @@ napi_value new_table(napi_env env, napi_callback_info info) {
     return refuse(env, "out of memory");
 }
 
-/* add(table, url, map): nothing, and the map is closed then; or the number of the refusal. */
-napi_value add(napi_env env, napi_callback_info info) {
-    napi_value words[WORDS];
-    const uint8_t *url;
-    size_t length;
-    uint32_t why = 0;
-    if (!words_of(env, info, 3, words)) return NULL;
-    struct held *table = held_of(env, words[0], TABLE);
-    if (!table || !bytes_of(env, words[1], &url, &length)) return NULL;
-    struct held *held = map_of(env, words[2]);
-    if (!held) return NULL;
-    uint32_t status = smap_table_add(&table->table, url, length, &held->map, &why);
+/* add(table, url, map): nothing, and the map is closed then; or the code of the refusal. */
+napi_value add(napi_env env, struct held *table, smap_text url, struct held *held) {
+    smap_code why = 0;
+    uint32_t status = smap_table_add(&table->table, url.bytes, url.length, &held->map, &why);
     if (status == SMAP_REFUSED) return number(env, why);
     if (status == SMAP_DONE) {
         table->given += held->size;
@@ -74,93 +61,64 @@ napi_value add(napi_env env, napi_callback_info info) {
     return refuse(env, "out of memory");
 }
 
-/* isBadUrl(url, map): whether no frame can name this URL, by the number of the refusal of a table; or nothing. */
-napi_value is_bad_url(napi_env env, napi_callback_info info) {
-    napi_value words[WORDS];
-    struct url url;
+/* isBadUrl(url, map): why no frame can name this URL, as a code; or nothing. */
+napi_value is_bad_url(napi_env env, const struct url *url, struct held *held) {
     smap_table table = {0};
-    uint32_t why = 0, status = SMAP_NO_MEMORY;
-    if (!words_of(env, info, 2, words)) return NULL;
-    struct held *held = map_of(env, words[1]);
-    if (!held || !whole_url_of(env, words[0], &url)) return NULL;
+    uint32_t status = SMAP_NO_MEMORY;
+    smap_code why = 0;
     if (smap_table_new(&table) == SMAP_DONE) {
-        status = smap_table_add_shared(&table, url.bytes, url.length, &held->map, &why);
+        status = smap_table_add_shared(&table, url->bytes, url->length, &held->map, &why);
         smap_table_free(&table);
     }
-    free_url(&url);
     if (status == SMAP_NO_MEMORY) return refuse(env, "out of memory");
     return status == SMAP_REFUSED ? number(env, why) : NULL;
 }
 
 /* put(table, url, map, bytes): the store has the map, too, and it counts for so many bytes. */
-napi_value put(napi_env env, napi_callback_info info) {
-    napi_value words[WORDS];
-    struct url url;
-    uint64_t bytes;
-    if (!words_of(env, info, 4, words)) return NULL;
-    struct held *table = held_of(env, words[0], TABLE), *held = table ? map_of(env, words[2]) : NULL;
-    if (!held || !count_of(env, words[3], &bytes) || !whole_url_of(env, words[1], &url)) return NULL;
-    uint32_t status = smap_store_put(&table->store, url.bytes, url.length, &held->map, bytes);
-    free_url(&url);
+napi_value put(napi_env env, struct held *table, const struct url *url, struct held *held, uint64_t bytes) {
+    uint32_t status = smap_store_put(&table->store, url->bytes, url->length, &held->map, bytes);
     report_store(env, table);
     return status == SMAP_DONE ? NULL : refuse(env, "out of memory");
 }
 
-/* readInto(table, url, bytes, base, interval, mostNames, numbers): a map is read, and the store has it. What else its text has, as JSON, or
- * null where that is not found so, with for how much it counts in the last of seven numbers; or nothing, and those of the refusal. */
-napi_value read_into(napi_env env, napi_callback_info info) {
-    napi_value words[WORDS], result = NULL;
-    const uint8_t *bytes, *base;
-    size_t length, base_length, kept = 0;
-    uint32_t interval;
-    uint64_t most, size = 0;
-    double *numbers;
-    struct url url;
-    if (!words_of(env, info, 7, words)) return NULL;
-    struct held *table = held_of(env, words[0], TABLE);
-    if (!table || !bytes_of(env, words[2], &bytes, &length) || !bytes_of(env, words[3], &base, &base_length) ||
-        !number_of(env, words[4], &interval) || !count_of(env, words[5], &most) || !(numbers = doubles_of(env, words[6], 7)) ||
-        !whole_url_of(env, words[1], &url))
-        return NULL;
+/* readInto(table, url, bytes, base, orAtNone, interval, mostNames, numbers): a map is read, and the store has it. What else its text has, as
+ * JSON, or null where that is not found so, with how many bytes that are in the first of seven numbers, and in the last for how much the map
+ * counts; or nothing, and those of the refusal. */
+napi_value read_into(napi_env env, struct held *table, const struct url *url, smap_text bytes, smap_text base,
+                     bool or_at_none, uint32_t interval, uint64_t most, double *numbers) {
+    napi_value result = NULL;
+    size_t kept = 0;
+    uint64_t size = 0;
     sweep(env, addon_of(env));
     smap_map map = {0};
     smap_refusal refusal = {0};
     char *outline = NULL;
-    uint32_t status = smap_map_read_within(bytes, length, base, base_length, interval, most, &map, &refusal);
+    uint32_t status = read_so(bytes, base, or_at_none, interval, most, &map, &refusal);
     if (status == SMAP_DONE) {
         smap_map_size(&map, &size);
-        bool whole = outline_of(bytes, length, &outline, &kept);
-        status = whole ? smap_store_put(&table->store, url.bytes, url.length, &map, size += kept) : SMAP_NO_MEMORY;
+        bool whole = outline_of(bytes.bytes, bytes.length, &outline, &kept);
+        status = whole ? smap_store_put(&table->store, url->bytes, url->length, &map, size += kept) : SMAP_NO_MEMORY;
         smap_map_free(&map);
         report_store(env, table);
     }
     if (status == SMAP_DONE) {
-        numbers[6] = (double)size;
+        numbers[0] = (double)kept, numbers[6] = (double)size;
         result = outline ? string(env, (smap_text){(const uint8_t *)outline, strlen(outline)}) : null(env);
     } else if (status == SMAP_REFUSED) {
-        numbers[0] = refusal.number, numbers[1] = refusal.fault, numbers[2] = refusal.line;
-        numbers[3] = refusal.build, numbers[4] = (double)refusal.section, numbers[5] = (double)refusal.byte;
+        put_refusal(&refusal, numbers);
     } else {
         refuse(env, "out of memory");
     }
     free(outline);
-    free_url(&url);
     return result;
 }
 
 /* putNone(table, url, why, time): that the URL has no map, for so many milliseconds, one at least, or for ever where that is null. */
-napi_value put_none(napi_env env, napi_callback_info info) {
-    napi_value words[WORDS];
+napi_value put_none(napi_env env, struct held *table, const struct url *url, uint32_t why, napi_value until) {
     napi_valuetype type;
-    struct url url;
-    uint32_t why;
     uint64_t time = 0;
-    if (!words_of(env, info, 4, words) || napi_typeof(env, words[3], &type) != napi_ok) return NULL;
-    struct held *table = held_of(env, words[0], TABLE);
-    if (!table || !number_of(env, words[2], &why)) return NULL;
-    if ((type != napi_null && !count_of(env, words[3], &time)) || !whole_url_of(env, words[1], &url)) return NULL;
-    uint32_t status = smap_store_put_none(&table->store, url.bytes, url.length, why, type != napi_null, time_now() + time + !time);
-    free_url(&url);
+    if (napi_typeof(env, until, &type) != napi_ok || (type != napi_null && !count_of(env, until, &time))) return NULL;
+    uint32_t status = smap_store_put_none(&table->store, url->bytes, url->length, why, type != napi_null, time_now() + time + !time);
     report_store(env, table);
     if (status == SMAP_REFUSED) return refuse_range(env, "no such reason");
     return status == SMAP_DONE ? NULL : refuse(env, "out of memory");
@@ -174,32 +132,23 @@ static napi_value key_of(napi_env env, struct held *table, napi_value text, cons
 }
 
 /* forget(url): the store forgets what it knows of it. Gives its key. */
-napi_value forget(napi_env env, napi_callback_info info) {
-    napi_value text, none;
-    struct url url;
-    struct held *table = asked(env, info, &text, &url, &none);
-    if (!table) return none;
-    napi_value key = key_of(env, table, text, &url);
+napi_value forget(napi_env env, struct held *table, napi_value text, const struct url *url) {
+    napi_value key = key_of(env, table, text, url);
     smap_text bytes = SMAP_TEXT;
-    smap_store_key(&table->store, url.bytes, url.length, &bytes);
+    smap_store_key(&table->store, url->bytes, url->length, &bytes);
     smap_store_forget(&table->store, bytes.bytes, bytes.length);
-    free_url(&url);
     report_store(env, table);
     return key;
 }
 
 /* tableCounts(table, counts): the seven of smap_store_counts in a Float64Array. */
-napi_value table_counts(napi_env env, napi_callback_info info) {
-    napi_value words[WORDS];
-    if (!words_of(env, info, 2, words)) return NULL;
-    struct held *table = held_of(env, words[0], TABLE);
-    double *numbers = table ? doubles_of(env, words[1], 7) : NULL;
-    if (!numbers) return NULL;
+napi_value table_counts(napi_env env, struct held *table, napi_value array, double *numbers) {
+    (void)env;
     smap_store_counts counts = {0};
     smap_store_count(&table->store, &counts);
     const uint64_t all[] = {counts.bytes, counts.count, counts.none_bytes, counts.none_count, counts.asked, counts.hits, counts.dropped};
     for (size_t i = 0; i < 7; i++) numbers[i] = (double)all[i];
-    return words[1];
+    return array;
 }
 
 /* URLs are looked up in the table with or without query and fragment. */
@@ -228,17 +177,13 @@ static bool is_location(const struct url *url) {
 
 /* findPlace(url): where a place of this file comes from, which is asked for in the room as of a map: the name of the source, or null,
  * with the numbers in the room and the name in the texts; undefined where it is not known what map the URL has, and it is a location. */
-napi_value find_place(napi_env env, napi_callback_info info) {
-    napi_value text, texts, name, none;
-    struct url url;
+napi_value find_place(napi_env env, struct held *table, napi_value text, const struct url *url) {
+    (void)text;
+    napi_value texts, name;
     struct answer answer;
-    struct held *table = asked(env, info, &text, &url, &none);
-    if (!table) return none;
     struct addon *addon = table->addon;
-    uint32_t *room = addon->room, status = answer_of(table, &url, room[0], room[1], true, &answer);
-    bool is_wanted = status == SMAP_WANTED && is_location(&url);
-    free_url(&url);
-    if (is_wanted) return undefined(env);
+    uint32_t *room = addon->room, status = answer_of(table, url, room[0], room[1], true, &answer);
+    if (status == SMAP_WANTED && is_location(url)) return undefined(env);
     if (status != SMAP_DONE) answer.found.kind = 0;
     memcpy(room + 3, &answer.found, sizeof answer.found);
     room[ROOM_IGNORED] = answer.source.ignored;
@@ -251,41 +196,26 @@ napi_value find_place(napi_env env, napi_callback_info info) {
 
 /* wanted(url): the key under which a map is to be put, if one may be asked for; or null. Whether one is known, or that there is none,
  * stands in the room: 0, 1, or 2 where that is not known. */
-napi_value wanted(napi_env env, napi_callback_info info) {
-    napi_value text, none;
-    struct url url;
+napi_value wanted(napi_env env, struct held *table, napi_value text, const struct url *url) {
     struct answer answer;
-    struct held *table = asked(env, info, &text, &url, &none);
-    if (!table) return none;
-    uint32_t status = table->addon->room[3] = answer_of(table, &url, 0, 0, false, &answer);
-    napi_value key = status == SMAP_WANTED && is_location(&url) ? key_of(env, table, text, &url) : null(env);
-    free_url(&url);
-    return key;
+    uint32_t status = table->addon->room[3] = answer_of(table, url, 0, 0, false, &answer);
+    return status == SMAP_WANTED && is_location(url) ? key_of(env, table, text, url) : null(env);
 }
 
 /* keyOfMap(url): the key of the map that the store has for a URL, which is a use of it; or null. */
-napi_value key_of_map(napi_env env, napi_callback_info info) {
-    napi_value text, none;
-    struct url url;
+napi_value key_of_map(napi_env env, struct held *table, napi_value text, const struct url *url) {
     uint32_t why = 0;
-    struct held *table = asked(env, info, &text, &url, &none);
-    if (!table) return none;
-    bool has = smap_store_ask(&table->store, url.bytes, url.length, time_now(), &why) == SMAP_DONE;
-    napi_value key = has ? key_of(env, table, text, &url) : null(env);
-    free_url(&url);
-    return key;
+    bool has = smap_store_ask(&table->store, url->bytes, url->length, time_now(), &why) == SMAP_DONE;
+    return has ? key_of(env, table, text, url) : null(env);
 }
 
 /* mapAt(url): the map that the store has for a URL, held by itself; or null. */
-napi_value map_at(napi_env env, napi_callback_info info) {
-    napi_value text, none;
-    struct url url;
+napi_value map_at(napi_env env, struct held *table, napi_value text, const struct url *url) {
+    (void)text;
     uint32_t why = 0;
     uint64_t bytes = 0;
-    struct held *table = asked(env, info, &text, &url, &none), *held = table ? calloc(1, sizeof *held) : NULL;
-    if (!table) return none;
-    uint32_t status = held ? smap_store_map(&table->store, url.bytes, url.length, time_now(), &held->map, &why) : SMAP_NO_MEMORY;
-    free_url(&url);
+    struct held *held = calloc(1, sizeof *held);
+    uint32_t status = held ? smap_store_map(&table->store, url->bytes, url->length, time_now(), &held->map, &why) : SMAP_NO_MEMORY;
     if (status == SMAP_DONE) {
         smap_map_size(&held->map, &bytes);
         return object_of(env, held, (int64_t)bytes);

@@ -47,6 +47,9 @@ bool words_of(PyObject *const *given, Py_ssize_t count, PyObject *named, const c
 /* A line or a column. Past the greatest number there is as much as at it: nothing. */
 bool place_of(PyObject *value, const char *what, uint32_t *place);
 
+/* The bytes of a URL, which is a text, and may have half of a surrogate pair. What is given back holds them. */
+PyObject *url_of(PyObject *value, struct given *url);
+
 /* The number of a source or a name. One that none can have is the greatest, which none has. */
 bool index_of(PyObject *value, const char *what, uint32_t *index);
 
@@ -63,8 +66,8 @@ PyObject *tuple_of(PyTypeObject *class, Py_ssize_t count, PyObject **items);
 /* Bytes that were handed out, which are freed. */
 PyObject *taken(smap_bytes *bytes);
 
-/* What a call gives that hands bytes out: the bytes, or the number of a refusal. */
-PyObject *taken_or_refused(uint32_t status, smap_bytes *bytes, uint32_t refusal);
+/* What a call gives that hands bytes out: the bytes, or the code of a refusal. */
+PyObject *taken_or_refused(uint32_t status, smap_bytes *bytes, smap_code refusal);
 
 /* held.c: a map, a table with a store, a rewriting or inner maps, used by one call at a time. It is full where it is open. A call that lets other threads go on is at
  * work with it while it is busy, and has its lock. A short call needs none, since it is alone until it returns. */
@@ -112,26 +115,18 @@ PyObject *place_found(const smap_found *found, const smap_source_text *source, s
 /* Whether there is such a source, which was asked for by this value. Its texts are lent. */
 bool has_source(const struct held *held, uint32_t index, PyObject *value, smap_source_text *source);
 
+/* About how many bytes of memory an open map takes, with its index of originals where that is made. */
+uint64_t size_of_map(const struct held *map);
+
 /* Methods of the map: all mappings (mappings.c), and lists (lists.c): the generated places of an original one, or of a whole line where no
  * column is given, and the lines around a line of a source with at which of them it stands, or None. */
 PyObject *map_mappings(PyObject *self, PyObject *unused);
 PyObject *map_generated(PyObject *self, PyObject *words);
-PyObject *map_lines(PyObject *self, PyObject *words);
 
-/* The functions of the module. */
-PyObject *encode(PyObject *module, PyObject *data);
-PyObject *frame_urls(PyObject *module, PyObject *words);
-PyObject *folder_path(PyObject *module, PyObject *words);
-PyObject *url_refusal(PyObject *module, PyObject *words);
-PyObject *compose(PyObject *module, PyObject *words);
+/* Functions of the module, and those that lib/calls has. */
 PyObject *refusal_of(const smap_refusal *refusal);
-PyObject *refusal_text(PyObject *module, PyObject *words);
 PyObject *explained(PyObject *module, PyObject *words);
-PyObject *compose_refusal_text(PyObject *module, PyObject *value);
-PyObject *table_refusal_text(PyObject *module, PyObject *value);
-PyObject *generated_refusal_text(PyObject *module, PyObject *value);
-PyObject *rewrite_refusal_text(PyObject *module, PyObject *value);
-PyObject *write_refusal_text(PyObject *module, PyObject *value);
-PyObject *encode_refusal_text(PyObject *module, PyObject *value);
+
+#include "calls.h"
 
 #endif

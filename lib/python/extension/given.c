@@ -50,7 +50,7 @@ PyObject *taken(smap_bytes *bytes) {
     return result;
 }
 
-PyObject *taken_or_refused(uint32_t status, smap_bytes *bytes, uint32_t refusal) {
+PyObject *taken_or_refused(uint32_t status, smap_bytes *bytes, smap_code refusal) {
     if (status == SMAP_DONE) return taken(bytes);
     return status == SMAP_REFUSED ? PyLong_FromUnsignedLong(refusal) : PyErr_NoMemory();
 }

@@ -40,82 +40,58 @@ static PyObject *inners_close(PyObject *self, PyObject *unused) {
 }
 
 /* Puts a map into the place of a source, where that is free; the map is closed then. Gives whether it was. */
-static PyObject *inners_put(PyObject *self, PyObject *words) {
-    struct held *inners = (struct held *)self, *map;
-    PyObject *source, *value;
-    uint32_t index;
-    if (!PyArg_ParseTuple(words, "OO!", &source, map_type, &value) || !index_of(source, "source", &index)) return NULL;
-    map = (struct held *)value;
-    if (!ready((struct held *[]){inners, map}, 2)) return NULL;
-    bool put = smap_inners_put(&inners->inners, index, &map->map) == SMAP_DONE;
+PyObject *inners_put(struct held *inners, uint32_t source, struct held *map) {
+    bool put = smap_inners_put(&inners->inners, source, &map->map) == SMAP_DONE;
     if (put) hand_over(map, inners);
     return PyBool_FromLong(put);
 }
 
-/* Begins with the inner maps and the outer one, which may be long at work. */
-static bool begun(PyObject *self, PyObject *outer, struct held **both) {
-    both[0] = (struct held *)self;
-    both[1] = (struct held *)outer;
-    if (!ready(both, 2)) return false;
-    begin(both[0]);
-    begin(both[1]);
-    return true;
+/* Begins and ends with the inner maps and the outer one, which may be long at work. */
+static PyThreadState *begun(struct held *inners, struct held *outer) {
+    begin(inners);
+    begin(outer);
+    return let_go(true);
 }
 
-static void ended(struct held **both) {
-    end(both[1]);
-    end(both[0]);
-}
-
-/* The source of which a map is wanted next, or None; or the number of the refusal, below 0. */
-static PyObject *inners_next(PyObject *self, PyObject *words) {
-    PyObject *outer;
-    struct held *both[2];
-    uint32_t source = 0, refusal = 0;
-    if (!PyArg_ParseTuple(words, "O!", map_type, &outer) || !begun(self, outer, both)) return NULL;
-    PyThreadState *state = let_go(true);
-    uint32_t status = smap_inners_next(&both[1]->map, &both[0]->inners, &source, &refusal);
+static void ended(struct held *inners, struct held *outer, PyThreadState *state) {
     come_back(state);
-    ended(both);
+    end(outer);
+    end(inners);
+}
+
+/* The source of which a map is wanted next, or None; or the code of the refusal, below 0. */
+PyObject *inners_next(struct held *inners, struct held *outer) {
+    uint32_t source = 0;
+    smap_code refusal = 0;
+    PyThreadState *state = begun(inners, outer);
+    uint32_t status = smap_inners_next(&outer->map, &inners->inners, &source, &refusal);
+    ended(inners, outer, state);
     if (status == SMAP_DONE) return PyLong_FromUnsignedLong(source);
     if (status != SMAP_REFUSED) return PyErr_NoMemory();
     return refusal ? PyLong_FromLongLong(-(long long)refusal) : none();
 }
 
 /* The name of a source, or None. */
-static PyObject *inners_name(PyObject *self, PyObject *words) {
-    PyObject *outer, *source;
-    uint32_t index;
-    if (!PyArg_ParseTuple(words, "O!O", map_type, &outer, &source) || !index_of(source, "source", &index)) return NULL;
-    struct held *both[] = {(struct held *)self, (struct held *)outer};
-    if (!ready(both, 2)) return NULL;
+PyObject *inners_name(struct held *inners, struct held *outer, uint32_t source) {
     smap_text text = SMAP_TEXT;
-    bool is = smap_inners_name(&both[1]->map, &both[0]->inners, index, &text) == SMAP_DONE;
+    bool is = smap_inners_name(&outer->map, &inners->inners, source, &text) == SMAP_DONE;
     return text_if(is, text);
 }
 
-/* The text of what the maps come to, or the number of the refusal. */
-static PyObject *inners_composed(PyObject *self, PyObject *words) {
-    PyObject *outer;
-    struct held *both[2];
-    int prune, no_content;
-    if (!PyArg_ParseTuple(words, "O!pp", map_type, &outer, &prune, &no_content) || !begun(self, outer, both)) return NULL;
+/* The text of what the maps come to, or the code of the refusal. */
+PyObject *inners_composed(struct held *inners, struct held *outer, bool prune, bool no_content) {
     const smap_compose_options options = {prune, no_content};
     smap_bytes bytes = {0};
-    uint32_t refusal = 0;
-    PyThreadState *state = let_go(true);
-    uint32_t status = smap_compose_all(&both[1]->map, &both[0]->inners, &options, &bytes, &refusal);
-    come_back(state);
-    ended(both);
+    smap_code refusal = 0;
+    PyThreadState *state = begun(inners, outer);
+    uint32_t status = smap_compose_all(&outer->map, &inners->inners, &options, &bytes, &refusal);
+    ended(inners, outer, state);
     return taken_or_refused(status, &bytes, refusal);
 }
 
 static PyMethodDef inners_methods[] = {
     {"close", inners_close, METH_NOARGS, "close($self)\n--\n\nFrees the maps."},
-    {"put", inners_put, METH_VARARGS, NULL},
-    {"next", inners_next, METH_VARARGS, NULL},
-    {"name", inners_name, METH_VARARGS, NULL},
-    {"composed", inners_composed, METH_VARARGS, NULL},
+    CHECKED_inners_put, CHECKED_inners_next, CHECKED_inners_name, CHECKED_inners_composed,
     {NULL, NULL, 0, NULL},
 };
 

@@ -101,21 +101,16 @@ static PyObject *list_of_lines(smap_text content, const smap_line_bytes *lines, 
     return list;
 }
 
-PyObject *map_lines(PyObject *self, PyObject *words) {
-    struct held *held = (struct held *)self;
-    PyObject *source, *line;
-    unsigned int index, number, before, after;
-    if (!PyArg_ParseTuple(words, "OOII", &source, &line, &before, &after)) return NULL;
-    if (!index_of(source, "a source", &index) || !place_of(line, "line", &number) || !ready(&held, 1)) return NULL;
+PyObject *map_lines(struct held *held, PyObject *value, uint32_t source, uint32_t line, uint32_t before, uint32_t after) {
     smap_source_text text = SMAP_SOURCE;
-    if (!has_source(held, index, source, &text)) return NULL;
+    if (!has_source(held, source, value, &text)) return NULL;
     size_t places = (size_t)before + 1 + after;
     smap_line_bytes *lines = calloc(places, sizeof *lines);
     if (!lines) return PyErr_NoMemory();
     smap_line_range range = {0};
-    bool is = smap_source_lines(&held->map, index, number, before, after, lines, places, &range) == SMAP_DONE;
+    bool is = smap_source_lines(&held->map, source, line, before, after, lines, places, &range) == SMAP_DONE;
     PyObject *list = is ? list_of_lines(text.content, lines, range.count) : NULL;
     free(lines);
     if (!is) return none();
-    return list ? Py_BuildValue("NI", list, number - range.first) : NULL;
+    return list ? Py_BuildValue("NI", list, line - range.first) : NULL;
 }

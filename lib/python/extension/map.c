@@ -221,40 +221,38 @@ static PyObject *map_file(PyObject *self, void *unused) {
     return text_if(is, text);
 }
 
-static PyObject *map_nbytes(PyObject *self, void *unused) {
-    (void)unused;
-    struct held *held = (struct held *)self;
-    if (!ready(&held, 1)) return NULL;
+uint64_t size_of_map(const struct held *held) {
     uint64_t size = 0;
     smap_count count = {0};
     smap_map_size(&held->map, &size);
+    if (!held->originals.at) return size;
     smap_counts(&held->map, &count);
-    if (held->originals.at) size += 16 * count.segments + 24 * count.sources;
-    return PyLong_FromUnsignedLongLong(size);
+    return size + 16 * count.segments + 24 * count.sources;
 }
 
-static PyObject *map_written(PyObject *self, PyObject *unused) {
+static PyObject *map_nbytes(PyObject *self, void *unused) {
     (void)unused;
     struct held *held = (struct held *)self;
-    if (!ready(&held, 1)) return NULL;
+    return ready(&held, 1) ? PyLong_FromUnsignedLongLong(size_of_map(held)) : NULL;
+}
+
+PyObject *map_written(struct held *held) {
     smap_bytes bytes = {0};
     begin(held);
     PyThreadState *state = let_go(true);
     uint32_t status = smap_map_write(&held->map, &bytes);
     come_back(state);
     end(held);
-    return status == SMAP_REFUSED ? none() : taken_or_refused(status, &bytes, 0);
+    return taken_or_refused(status, &bytes, SMAP_CODE_O1);
 }
 
-static PyObject *map_bytes_by_source(PyObject *self, PyObject *data) {
-    struct held *held = (struct held *)self;
-    struct given given;
-    if (!bytes_of(data, &given) || !ready(&held, 1)) return NULL;
+PyObject *map_bytes_by_source(struct held *held, struct given given) {
     smap_count count = {0};
     smap_counts(&held->map, &count);
     size_t places = (size_t)count.sources;
     uint64_t *sources = calloc(places + 1, sizeof *sources), unmapped = 0;
-    uint32_t refusal = 0, status = SMAP_NO_MEMORY;
+    uint32_t status = SMAP_NO_MEMORY;
+    smap_code refusal = 0;
     begin(held);
     if (sources) {
         PyThreadState *state = let_go(given.steady);
@@ -274,12 +272,9 @@ static PyObject *map_bytes_by_source(PyObject *self, PyObject *data) {
     return PyErr_Occurred() ? NULL : PyErr_NoMemory();
 }
 
-static PyObject *map_fit(PyObject *self, PyObject *data) {
-    struct held *held = (struct held *)self;
-    struct given given;
-    if (!bytes_of(data, &given) || !ready(&held, 1)) return NULL;
+PyObject *map_fit(struct held *held, struct given given) {
     smap_fit_count fit = {0};
-    uint32_t refusal = 0;
+    smap_code refusal = 0;
     begin(held);
     PyThreadState *state = let_go(given.steady);
     uint32_t status = smap_fit(&held->map, given.bytes, given.length, &fit, &refusal);
@@ -310,10 +305,7 @@ static PyObject *map_shared(PyObject *self, PyObject *unused) {
 }
 
 /* Names the sources by the URL, where that is an absolute path. Nothing else holds the map. */
-static PyObject *map_use_paths(PyObject *self, PyObject *data) {
-    struct held *held = (struct held *)self;
-    struct given url;
-    if (!bytes_of(data, &url) || !ready(&held, 1)) return NULL;
+PyObject *map_use_paths(struct held *held, struct given url) {
     return smap_map_use_paths(&held->map, url.bytes, url.length) == SMAP_DONE ? none() : PyErr_NoMemory();
 }
 
@@ -339,14 +331,10 @@ static PyMethodDef map_methods[] = {
      "name($self, index)\n--\n\nThis name, from 0, and None for None, as an answer without a name has it. Raises `IndexError` "
      "where there is none."},
     {"_read", map_read, METH_VARARGS, NULL},
-    {"_lines", map_lines, METH_VARARGS, NULL},
     {"_look_up_many", map_look_up_many, METH_VARARGS, NULL},
     {"_generated", map_generated, METH_VARARGS, NULL},
-    {"_written", map_written, METH_NOARGS, NULL},
-    {"_bytes_by_source", map_bytes_by_source, METH_O, NULL},
-    {"_fit", map_fit, METH_O, NULL},
+    CHECKED_map_lines, CHECKED_map_written, CHECKED_map_bytes_by_source, CHECKED_map_fit, CHECKED_map_use_paths,
     {"_shared", map_shared, METH_NOARGS, NULL},
-    {"_use_paths", map_use_paths, METH_O, NULL},
     {NULL, NULL, 0, NULL},
 };
 

@@ -89,12 +89,9 @@ static PyType_Slot mappings_slots[] = {
 
 PyType_Spec mappings_spec = {"smap._smap.Mappings", sizeof(struct mappings), 0, Py_TPFLAGS_DEFAULT, mappings_slots};
 
-/* The text of mappings, whose numbers are given as smap_mapping has them; or the numbers of the refusal and of the mapping. */
-PyObject *encode(PyObject *module, PyObject *data) {
-    (void)module;
-    struct given given;
+/* The text of mappings, whose numbers are given as smap_mapping has them; or the code of the refusal and the number of the mapping. */
+PyObject *encode(struct given given) {
     void *copy = NULL;
-    if (!bytes_of(data, &given)) return NULL;
     if (!given.steady || (uintptr_t)given.bytes % sizeof(uint32_t)) {
         copy = malloc(given.length + 1);
         if (!copy) return PyErr_NoMemory();
@@ -108,5 +105,5 @@ PyObject *encode(PyObject *module, PyObject *data) {
     come_back(state);
     free(copy);
     if (status != SMAP_REFUSED) return taken_or_refused(status, &bytes, 0);
-    return Py_BuildValue("IK", (unsigned int)refusal.number, (unsigned long long)refusal.mapping);
+    return Py_BuildValue("IK", (unsigned int)refusal.code, (unsigned long long)refusal.mapping);
 }

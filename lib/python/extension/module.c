@@ -8,19 +8,8 @@ PyTypeObject *map_type, *store_type, *rewriting_type, *inners_type, *mappings_ty
 PyObject *monotonic_ns;
 
 static PyMethodDef functions[] = {
-    {"frame_urls", frame_urls, METH_VARARGS, NULL},
-    {"folder_path", folder_path, METH_VARARGS, NULL},
-    {"url_refusal", url_refusal, METH_VARARGS, NULL},
-    {"compose", compose, METH_VARARGS, NULL},
-    {"encode", encode, METH_O, NULL},
-    {"refusal_text", refusal_text, METH_VARARGS, NULL},
+    CHECKED_FUNCTIONS,
     {"explained", explained, METH_VARARGS, NULL},
-    {"compose_refusal_text", compose_refusal_text, METH_O, NULL},
-    {"table_refusal_text", table_refusal_text, METH_O, NULL},
-    {"generated_refusal_text", generated_refusal_text, METH_O, NULL},
-    {"rewrite_refusal_text", rewrite_refusal_text, METH_O, NULL},
-    {"write_refusal_text", write_refusal_text, METH_O, NULL},
-    {"encode_refusal_text", encode_refusal_text, METH_O, NULL},
     {NULL, NULL, 0, NULL},
 };
 
@@ -28,7 +17,7 @@ static struct PyModuleDef definition = {
     PyModuleDef_HEAD_INIT, "_smap", "The library libsmap.", -1, functions, NULL, NULL, NULL, NULL,
 };
 
-/* The classes of _answers.py, the clock, the types of this module, and the version of the library. */
+/* The classes of _answers.py, the clock, the types of this module, the codes that its callers ask for, and the version of the library. */
 static bool filled(PyObject *module) {
     static const struct { const char *name; PyTypeObject **class; } classes[] = {
         {"Answer", &answer_class}, {"Counts", &counts_class}, {"Generated", &generated_class}, {"Mapping", &mapping_class},
@@ -38,6 +27,10 @@ static bool filled(PyObject *module) {
     static const struct { PyType_Spec *spec; PyTypeObject **type; } types[] = {
         {&map_spec, &map_type}, {&store_spec, &store_type}, {&rewriting_spec, &rewriting_type}, {&inners_spec, &inners_type},
         {&mappings_spec, &mappings_type},
+    };
+    static const struct { const char *name; smap_code code; } codes[] = {
+        {"C1", SMAP_CODE_C1}, {"C4", SMAP_CODE_C4}, {"E3", SMAP_CODE_E3}, {"M2", SMAP_CODE_M2}, {"M14", SMAP_CODE_M14},
+        {"U1", SMAP_CODE_U1}, {"USAGE", SMAP_CODE_USAGE}, {"X5", SMAP_CODE_X5},
     };
     PyObject *answers = PyImport_ImportModule("smap._answers"), *time = PyImport_ImportModule("time");
     monotonic_ns = time ? PyObject_GetAttrString(time, "monotonic_ns") : NULL;
@@ -55,6 +48,8 @@ static bool filled(PyObject *module) {
         Py_INCREF(type);
         if (PyModule_AddObject(module, strrchr(types[i].spec->name, '.') + 1, type) < 0) return false;
     }
+    for (size_t i = 0; i < sizeof codes / sizeof *codes; i++)
+        if (PyModule_AddIntConstant(module, codes[i].name, codes[i].code) < 0) return false;
     smap_text version = SMAP_TEXT;
     smap_version(&version);
     return PyModule_AddObject(module, "version", text_if(true, version)) == 0;

@@ -3,18 +3,18 @@
 
 PyObject *refusal_of(const smap_refusal *refusal) {
     PyObject *items[] = {
-        PyLong_FromUnsignedLong(refusal->number), PyLong_FromUnsignedLong(refusal->fault),
-        PyLong_FromUnsignedLong(refusal->line), PyLong_FromUnsignedLong(refusal->build),
+        PyLong_FromUnsignedLong(refusal->code), PyLong_FromUnsignedLong(refusal->cause),
+        PyLong_FromUnsignedLong(refusal->line), PyLong_FromUnsignedLong(refusal->has_section),
         PyLong_FromUnsignedLongLong(refusal->section), PyLong_FromUnsignedLongLong(refusal->byte),
     };
     return tuple_of(refusal_class, 6, items);
 }
 
 static bool refusal_from(PyObject *words, smap_refusal *refusal, PyObject **data) {
-    unsigned int number, fault, line, build;
+    unsigned int code, cause, line, has_section;
     unsigned long long section, byte;
-    if (!PyArg_ParseTuple(words, "(IIIIKK)|O", &number, &fault, &line, &build, &section, &byte, data)) return false;
-    *refusal = (smap_refusal){number, fault, line, build, section, byte};
+    if (!PyArg_ParseTuple(words, "(IIIIKK)O", &code, &cause, &line, &has_section, &section, &byte, data)) return false;
+    *refusal = (smap_refusal){code, cause, line, has_section, section, byte};
     return true;
 }
 
@@ -25,25 +25,14 @@ static PyObject *text_of(smap_bytes *bytes) {
     return text;
 }
 
-PyObject *refusal_text(PyObject *module, PyObject *words) {
-    (void)module;
-    smap_refusal refusal;
-    PyObject *data = NULL;
-    if (!refusal_from(words, &refusal, &data)) return NULL;
-    smap_bytes bytes = {0};
-    uint32_t status = smap_refusal_text(&refusal, &bytes);
-    if (status == SMAP_REFUSED) return none();
-    return status == SMAP_DONE ? text_of(&bytes) : PyErr_NoMemory();
-}
-
 static PyObject *signed_if(bool is, int64_t number) { return is ? PyLong_FromLongLong(number) : none(); }
 
 PyObject *explained(PyObject *module, PyObject *words) {
     (void)module;
     smap_refusal refusal;
-    PyObject *data = NULL;
+    PyObject *data;
     struct given given;
-    if (!refusal_from(words, &refusal, &data) || !bytes_of(data ? data : Py_None, &given)) return NULL;
+    if (!refusal_from(words, &refusal, &data) || !bytes_of(data, &given)) return NULL;
     smap_bytes bytes = {0};
     smap_reason reason = {0};
     PyThreadState *state = let_go(given.steady);
@@ -58,40 +47,8 @@ PyObject *explained(PyObject *module, PyObject *words) {
     return tuple_of(reason_class, 5, items);
 }
 
-static PyObject *lent(PyObject *value, uint32_t (*call)(uint32_t, smap_text *)) {
-    uint32_t number;
-    if (!index_of(value, "a refusal", &number)) return NULL;
+PyObject *code_text(uint32_t code) {
     smap_text text = SMAP_TEXT;
-    bool is = call(number, &text) == SMAP_DONE;
+    bool is = smap_code_text(code, &text) == SMAP_DONE;
     return text_if(is, text);
-}
-
-PyObject *compose_refusal_text(PyObject *module, PyObject *value) {
-    (void)module;
-    return lent(value, smap_compose_refusal_text);
-}
-
-PyObject *table_refusal_text(PyObject *module, PyObject *value) {
-    (void)module;
-    return lent(value, smap_table_refusal_text);
-}
-
-PyObject *generated_refusal_text(PyObject *module, PyObject *value) {
-    (void)module;
-    return lent(value, smap_generated_refusal_text);
-}
-
-PyObject *rewrite_refusal_text(PyObject *module, PyObject *value) {
-    (void)module;
-    return lent(value, smap_rewrite_refusal_text);
-}
-
-PyObject *write_refusal_text(PyObject *module, PyObject *value) {
-    (void)module;
-    return lent(value, smap_write_refusal_text);
-}
-
-PyObject *encode_refusal_text(PyObject *module, PyObject *value) {
-    (void)module;
-    return lent(value, smap_encode_refusal_text);
 }

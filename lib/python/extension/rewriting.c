@@ -42,12 +42,8 @@ static PyObject *rewriting_give(PyObject *self, PyObject *data) {
 
 /* Goes on over maps: gives None where all that was given is done, or the URL that is wanted, or the refusal. What is wanted and is no
  * text has no map until this is done. */
-static PyObject *rewriting_run(PyObject *self, PyObject *words) {
-    struct held *held = (struct held *)self, *store;
-    PyObject *value, *key = NULL;
-    unsigned long long now;
-    if (!PyArg_ParseTuple(words, "O!K", store_type, &value, &now)) return NULL;
-    store = (struct held *)value;
+PyObject *rewriting_run(struct held *held, struct held *store, uint64_t now) {
+    PyObject *key = NULL;
     while (!key) {
         smap_rewrite_refusal refusal = {0};
         smap_text url = SMAP_TEXT, lent = SMAP_TEXT;
@@ -61,7 +57,7 @@ static PyObject *rewriting_run(PyObject *self, PyObject *words) {
         if (is_long) end(held), end(store);
         if (status == SMAP_DONE) return none();
         if (status == SMAP_REFUSED) {
-            PyObject *items[] = {PyLong_FromUnsignedLong(refusal.number), PyLong_FromUnsignedLongLong(refusal.lines)};
+            PyObject *items[] = {PyLong_FromUnsignedLong(refusal.code), PyLong_FromUnsignedLongLong(refusal.lines)};
             return tuple_of(text_refusal_class, 2, items);
         }
         if (status != SMAP_WANTED) return PyErr_NoMemory();
@@ -76,11 +72,8 @@ static PyObject *rewriting_run(PyObject *self, PyObject *words) {
 }
 
 /* What is written, which goes out of it. */
-static PyObject *rewriting_take(PyObject *self, PyObject *unused) {
-    (void)unused;
-    struct held *held = (struct held *)self;
+PyObject *rewriting_take(struct held *held) {
     smap_text text = SMAP_TEXT;
-    if (!ready(&held, 1)) return NULL;
     smap_rewriting_text(&held->rewriting, &text);
     PyObject *bytes = PyBytes_FromStringAndSize((const char *)text.bytes, (Py_ssize_t)text.length);
     if (bytes) smap_rewriting_clear(&held->rewriting);
@@ -88,11 +81,8 @@ static PyObject *rewriting_take(PyObject *self, PyObject *unused) {
 }
 
 /* How many lines, frames or places, mapped and hidden ones there were. */
-static PyObject *rewriting_counts(PyObject *self, PyObject *unused) {
-    (void)unused;
-    struct held *held = (struct held *)self;
+PyObject *rewriting_counts(struct held *held) {
     smap_trace_count count = {0};
-    if (!ready(&held, 1)) return NULL;
     smap_rewriting_count(&held->rewriting, &count);
     return Py_BuildValue("(KKKK)", (unsigned long long)count.lines, (unsigned long long)count.frames, (unsigned long long)count.mapped,
                          (unsigned long long)count.hidden);
@@ -123,12 +113,7 @@ static bool put_url(PyObject *urls, const uint8_t *bytes, size_t length, bool is
 
 /* The URLs for whose maps a loader is asked where the frames of a text are rewritten, or its places anywhere, each once, in their
  * order. */
-PyObject *frame_urls(PyObject *module, PyObject *words) {
-    (void)module;
-    PyObject *data;
-    int anywhere;
-    struct given given;
-    if (!PyArg_ParseTuple(words, "Op", &data, &anywhere) || !bytes_of(data, &given)) return NULL;
+PyObject *frame_urls(struct given given, bool anywhere) {
     PyObject *urls = PyDict_New();
     smap_url_finder finder = {0};
     smap_frame_url frame = {0};
@@ -149,9 +134,7 @@ PyObject *frame_urls(PyObject *module, PyObject *words) {
 
 static PyMethodDef rewriting_methods[] = {
     {"give", rewriting_give, METH_O, NULL},
-    {"run", rewriting_run, METH_VARARGS, NULL},
-    {"take", rewriting_take, METH_NOARGS, NULL},
-    {"counts", rewriting_counts, METH_NOARGS, NULL},
+    CHECKED_rewriting_run, CHECKED_rewriting_take, CHECKED_rewriting_counts,
     {NULL, NULL, 0, NULL},
 };
 

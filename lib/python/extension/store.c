@@ -43,8 +43,7 @@ static PyObject *store_bound(PyObject *self, PyObject *value) {
     return PyErr_NoMemory();
 }
 
-/* The bytes of a URL, which is a text, and may have half of a surrogate pair. What is given back holds them. */
-static PyObject *url_of(PyObject *value, struct given *url) {
+PyObject *url_of(PyObject *value, struct given *url) {
     if (!PyUnicode_Check(value)) {
         PyObject *name = PyObject_GetAttrString((PyObject *)Py_TYPE(value), "__name__");
         if (name) PyErr_Format(PyExc_TypeError, "a URL is a str, not %S", name);
@@ -169,17 +168,10 @@ static PyObject *store_knows(PyObject *self, PyObject *value) {
 }
 
 /* The URL under which stands what the store knows of a URL. */
-static PyObject *store_key(PyObject *self, PyObject *value) {
-    struct held *held = (struct held *)self;
-    struct given url;
-    PyObject *bytes = url_of(value, &url), *result = NULL;
-    if (bytes && ready(&held, 1)) {
-        smap_text key = SMAP_TEXT;
-        smap_store_key(&held->store, url.bytes, url.length, &key);
-        result = PyUnicode_Decode((const char *)key.bytes, (Py_ssize_t)key.length, "utf-8", "surrogatepass");
-    }
-    Py_XDECREF(bytes);
-    return result;
+PyObject *store_key(struct held *held, struct given url) {
+    smap_text key = SMAP_TEXT;
+    smap_store_key(&held->store, url.bytes, url.length, &key);
+    return PyUnicode_Decode((const char *)key.bytes, (Py_ssize_t)key.length, "utf-8", "surrogatepass");
 }
 
 /* How much a store holds. What was dropped from it may go back to the system. */
@@ -196,111 +188,57 @@ static PyObject *put_in(struct held *held, uint32_t status) {
     return none();
 }
 
-/* Why no map stands under a URL or a pattern, in the number of the table; or None. */
-PyObject *url_refusal(PyObject *module, PyObject *words) {
-    (void)module;
-    PyObject *url_value, *map_value, *bytes, *result = NULL;
-    struct given url;
-    if (!PyArg_ParseTuple(words, "OO!", &url_value, map_type, &map_value) || !(bytes = url_of(url_value, &url))) return NULL;
-    struct held *map = (struct held *)map_value;
+/* Why no map stands under a URL or a pattern, as a code; or None. */
+PyObject *url_refusal(struct given url, struct held *map) {
     smap_table table = {0};
-    uint32_t refusal = 0;
-    if (ready(&map, 1)) {
-        uint32_t status = smap_table_new(&table);
-        if (status == SMAP_DONE) {
-            status = smap_table_add_shared(&table, url.bytes, url.length, &map->map, &refusal);
-            smap_table_free(&table);
-        }
-        if (status == SMAP_NO_MEMORY) PyErr_NoMemory();
-        else result = number_if(status == SMAP_REFUSED, refusal);
+    smap_code refusal = 0;
+    uint32_t status = smap_table_new(&table);
+    if (status == SMAP_DONE) {
+        status = smap_table_add_shared(&table, url.bytes, url.length, &map->map, &refusal);
+        smap_table_free(&table);
     }
-    Py_DECREF(bytes);
-    return result;
+    return status == SMAP_NO_MEMORY ? PyErr_NoMemory() : number_if(status == SMAP_REFUSED, refusal);
 }
 
 /* Puts a map, which stays open, into the store under this very URL; or with `is_named` into the table, under a URL or a pattern. */
-static PyObject *store_put(PyObject *self, PyObject *words) {
-    struct held *held = (struct held *)self, *map;
-    PyObject *url_value, *map_value, *bytes, *result = NULL;
-    struct given url;
-    int is_named;
-    uint32_t status, refusal = 0;
-    uint64_t size = 0;
-    if (!PyArg_ParseTuple(words, "OO!p", &url_value, map_type, &map_value, &is_named) || !(bytes = url_of(url_value, &url))) return NULL;
-    map = (struct held *)map_value;
-    if (ready((struct held *[]){held, map}, 2)) {
-        smap_map_size(&map->map, &size);
-        held->size += (size_t)size;
-        map->size = 0;
-        if (is_named) {
-            status = smap_table_add_shared(&held->table, url.bytes, url.length, &map->map, &refusal);
-            held->is_named |= status == SMAP_DONE;
-            if (status == SMAP_REFUSED) PyErr_Format(PyExc_ValueError, "the table takes no map under %R", url_value);
-            else result = status == SMAP_DONE ? none() : PyErr_NoMemory();
-        } else {
-            result = put_in(held, smap_store_put(&held->store, url.bytes, url.length, &map->map, size));
-        }
-    }
-    Py_DECREF(bytes);
-    return result;
+PyObject *store_put(struct held *held, PyObject *url_value, struct given url, struct held *map, bool is_named) {
+    smap_code refusal = 0;
+    const uint64_t size = size_of_map(map);
+    held->size += (size_t)size;
+    map->size = 0;
+    if (!is_named) return put_in(held, smap_store_put(&held->store, url.bytes, url.length, &map->map, size));
+    uint32_t status = smap_table_add_shared(&held->table, url.bytes, url.length, &map->map, &refusal);
+    held->is_named |= status == SMAP_DONE;
+    if (status == SMAP_REFUSED) return PyErr_Format(PyExc_ValueError, "the table takes no map under %R", url_value);
+    return status == SMAP_DONE ? none() : PyErr_NoMemory();
 }
 
 /* Puts into the store that this very URL has no map, which is missing or failed, before a time, or where that is 0 for ever. */
-static PyObject *store_put_none(PyObject *self, PyObject *words) {
-    struct held *held = (struct held *)self;
-    PyObject *value, *bytes, *result = NULL;
-    struct given url;
-    int has_failed;
-    unsigned long long until;
-    if (!PyArg_ParseTuple(words, "OpK", &value, &has_failed, &until) || !(bytes = url_of(value, &url))) return NULL;
-    if (ready(&held, 1))
-        result = put_in(held, smap_store_put_none(&held->store, url.bytes, url.length, has_failed ? SMAP_FAILED : SMAP_MISSING,
-                                                  until != 0, until));
-    Py_DECREF(bytes);
-    return result;
+PyObject *store_put_none(struct held *held, struct given url, bool has_failed, uint64_t until) {
+    const uint32_t why = has_failed ? SMAP_FAILED : SMAP_MISSING;
+    return put_in(held, smap_store_put_none(&held->store, url.bytes, url.length, why, until != 0, until));
 }
 
-static PyObject *store_forget(PyObject *self, PyObject *value) {
-    struct held *held = (struct held *)self;
-    struct given url;
-    PyObject *bytes = url_of(value, &url), *result = NULL;
-    if (bytes && ready(&held, 1)) result = put_in(held, smap_store_forget(&held->store, url.bytes, url.length));
-    Py_XDECREF(bytes);
-    return result;
+PyObject *store_forget(struct held *held, struct given url) {
+    return put_in(held, smap_store_forget(&held->store, url.bytes, url.length));
 }
 
 /* How many maps the store has, and for how many bytes it counts. */
-static PyObject *store_counted(PyObject *self, PyObject *unused) {
-    (void)unused;
-    struct held *held = (struct held *)self;
+PyObject *store_counted(struct held *held) {
     smap_store_counts counts = {0};
-    if (!ready(&held, 1)) return NULL;
     smap_store_count(&held->store, &counts);
     return Py_BuildValue("KK", (unsigned long long)counts.count, (unsigned long long)(counts.bytes + counts.none_bytes));
 }
 
 /* The path in a folder of the map of a URL that begins with a prefix, or None. */
-PyObject *folder_path(PyObject *module, PyObject *words) {
-    (void)module;
-    PyObject *prefix_value, *url_value, *prefix_bytes, *bytes, *result = NULL;
-    struct given prefix, url;
-    if (!PyArg_ParseTuple(words, "OO", &prefix_value, &url_value)) return NULL;
-    prefix_bytes = url_of(prefix_value, &prefix);
-    bytes = prefix_bytes ? url_of(url_value, &url) : NULL;
-    if (bytes) {
-        smap_bytes path = {0};
-        smap_text text = SMAP_TEXT;
-        uint32_t status = smap_folder_path(prefix.bytes, prefix.length, url.bytes + url.length, 0, url.bytes, url.length, &path);
-        if (status == SMAP_NO_MEMORY) PyErr_NoMemory();
-        else if (status == SMAP_REFUSED) result = none();
-        else {
-            smap_bytes_text(&path, &text);
-            result = text_if(true, text);
-            smap_bytes_free(&path);
-        }
-    }
-    Py_XDECREF(bytes);
-    Py_XDECREF(prefix_bytes);
+PyObject *folder_path(struct given prefix, struct given url) {
+    smap_bytes path = {0};
+    smap_text text = SMAP_TEXT;
+    uint32_t status = smap_folder_path(prefix.bytes, prefix.length, url.bytes + url.length, 0, url.bytes, url.length, &path);
+    if (status != SMAP_DONE) return status == SMAP_REFUSED ? none() : PyErr_NoMemory();
+    smap_bytes_text(&path, &text);
+    PyObject *result = text_if(true, text);
+    smap_bytes_free(&path);
     return result;
 }
 
@@ -310,11 +248,7 @@ static PyMethodDef store_methods[] = {
     {"_look_up", (PyCFunction)(void (*)(void))store_look_up, METH_FASTCALL, NULL},
     {"_map", store_map, METH_VARARGS, NULL},
     {"_knows", store_knows, METH_O, NULL},
-    {"_key", store_key, METH_O, NULL},
-    {"_put", store_put, METH_VARARGS, NULL},
-    {"_put_none", store_put_none, METH_VARARGS, NULL},
-    {"_forget", store_forget, METH_O, NULL},
-    {"_counted", store_counted, METH_NOARGS, NULL},
+    CHECKED_store_key, CHECKED_store_put, CHECKED_store_put_none, CHECKED_store_forget, CHECKED_store_counted,
     {NULL, NULL, 0, NULL},
 };
 

@@ -87,10 +87,10 @@ class Fit(NamedTuple):
 class Refusal(NamedTuple):
     """Why a map is not read, in the library's numbers. What the refusal has not is 0."""
 
-    number: int
-    fault: int
+    code: int
+    cause: int
     line: int
-    build: int
+    has_section: int
     section: int
     byte: int
 
@@ -98,15 +98,16 @@ class Refusal(NamedTuple):
 class TextRefusal(NamedTuple):
     """Why a text is not rewritten, in the library's number, and how many whole lines of what would come out fit."""
 
-    number: int
+    code: int
     lines: int
 
 
 class Reason(NamedTuple):
-    """What is known of why a map is refused: the value that is wrong, what it may be, the segment's column, and sentences."""
+    """What is known of why a map is refused: the value that is wrong, what it may be, the segment's column, and what the program
+    prints, with sentences below it."""
 
     value: Optional[int]
     least: Optional[int]
     most: Optional[int]
     column: Optional[int]
-    sentences: str
+    lines: str

@@ -6,10 +6,7 @@ from typing import Callable, Dict, List, Mapping, Optional, Union
 
 from . import _given, _smap
 from ._maps import SourceMap
-from ._reported import refused_composition, refused_source
-
-# The number of C1.
-_NO_SOURCE = 1
+from ._reported import refused_as
 
 # The map of a source.
 Given = Union[_given.FileData, SourceMap]
@@ -40,7 +37,7 @@ def compose_all(outer: SourceMap, inners: Optional[Mapping[Union[str, int], Give
             _ask(outer, places, load)
         text = places.composed(outer, bool(prune), bool(no_content))
     if isinstance(text, int):
-        raise refused_composition(text)
+        raise refused_as(text)
     return text
 
 
@@ -52,7 +49,7 @@ def _by_number(names: List[Optional[str]], inners: Mapping[Union[str, int], Give
     placed: Dict[int, Given] = {}
     for key, given in inners.items():
         if isinstance(key, str) and key not in named:
-            raise refused_source(key)
+            raise refused_as(_smap.C4, f" {key}")
         for number in named[key] if isinstance(key, str) else [_given.index(key, "source")]:
             if number in placed:
                 raise ValueError(f"source {number} has two maps")
@@ -66,7 +63,7 @@ def _ask(outer: SourceMap, places: _smap.Inners, load: Load) -> None:
     number = places.next(outer)
     while number is not None:
         if number < 0:
-            raise refused_composition(-number)
+            raise refused_as(-number)
         name = places.name(outer, number)
         if name is not None and name not in loaded:
             loaded[name] = load(name)
@@ -84,4 +81,4 @@ def _put(places: _smap.Inners, number: int, name: Optional[str], given: Given) -
         read = SourceMap(given) if name is None else SourceMap._under(name, given)
     with read:
         if not places.put(number, read):
-            raise refused_composition(_NO_SOURCE)
+            raise refused_as(_smap.C1)

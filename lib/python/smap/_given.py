@@ -80,7 +80,7 @@ def seconds(value: Any, what: str) -> Optional[float]:
 
 def file_bytes(data: Any, what: str) -> Held:
     """The bytes of a file: those that are given, which are not copied, a text in UTF-8, or those of the file at a path."""
-    if isinstance(data, os.PathLike):
+    if not isinstance(data, (bytes, str)) and isinstance(data, os.PathLike):
         with open(data, "rb") as file:
             return file.read()
     return _bytes(data, f"{what} is bytes, a str or a Path")

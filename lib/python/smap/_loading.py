@@ -24,15 +24,18 @@ _MOST_REFUSALS, _MOST_FAILURES = 100, 10000
 _LONGEST = 600.0
 # A text is rewritten in pieces of so many bytes, between which others have the store.
 _PIECE = 1 << 18
+# What is counted in it.
+_OF_FRAMES, _OF_PLACES = ("lines", "frames", "mapped", "hidden"), ("lines", "places", "mapped")
 
 
 class Flight:
     """A load that is under way, for which threads wait. It waits for others that its loader asks for."""
 
+    holds = may_be_there = True
+    waits: "Tuple[Flight, ...]" = ()
+
     def __init__(self, owner: "Loading") -> None:
-        self.owner, self.holds, self.may_be_there = owner, True, True
-        self.waits: Tuple[Flight, ...] = ()
-        self._lock = Lock()
+        self.owner, self._lock = owner, Lock()
         self._lock.acquire()
 
     def land(self) -> None:
@@ -112,11 +115,9 @@ class Loading(_smap.Store):
     async def _found(self, url: str, call: "Callable[[], Union[_Found, str, None]]") -> Optional[_Found]:
         if self._is_fresh is not None:
             await self._renew([url])
-        found = call()
-        while isinstance(found, str):
+        while isinstance(found := call(), str):
             if not await self._loaded(found):
                 return None
-            found = call()
         return found
 
     async def _rewritten(self, trace: _given.Trace, hide_ignored: bool, anywhere: bool, strip_ansi: bool, max_output: int) -> bytes:
@@ -134,17 +135,13 @@ class Loading(_smap.Store):
             rewriting.give(text[begin:begin + _PIECE])
             if begin + _PIECE > len(text):
                 rewriting.give(None)
-            wanted = rewriting.run(self, now)
-            while isinstance(wanted, str):
+            while isinstance(wanted := rewriting.run(self, now), str):
                 await self._loaded(wanted)
-                wanted = rewriting.run(self, now)
             if isinstance(wanted, TextRefusal):
-                raise refused_text(*wanted) if wanted.number else ValueError("* with anywhere")
+                raise ValueError("* with anywhere") if wanted.code == _smap.USAGE else refused_text(*wanted)
             done.append(rewriting.take())
             await self._rest()
-        lines, places, mapped, hidden = rewriting.counts()
-        self.counts = {"lines": lines, "places": places, "mapped": mapped} if anywhere else {
-            "lines": lines, "frames": places, "mapped": mapped, "hidden": hidden}
+        self.counts = dict(zip(_OF_PLACES if anywhere else _OF_FRAMES, rewriting.counts()))
         return b"".join(done)
 
     # Has the map loaded that is to be put under a URL, or waits for whom has. Gives whether there may be one then.
@@ -156,10 +153,7 @@ class Loading(_smap.Store):
         if around:
             flight.tie(around)
         try:
-            if flight is mine:
-                await self._fly(key, mine, False)
-            else:
-                await flight.landed()
+            await (self._fly(key, mine, False) if flight is mine else flight.landed())
         finally:
             if around:
                 flight.untie(around)
@@ -186,7 +180,7 @@ class Loading(_smap.Store):
                     if self._awaits and given is not None:
                         given = await given
                     if given is not None:
-                        found = await self._made(url, given)
+                        found = await self._made(url, given) if self._awaits else self._read(url, given)
                     is_over = True
             except Exception as raised:
                 error, is_over = raised, True

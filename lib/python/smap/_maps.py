@@ -4,13 +4,13 @@ import os
 import re
 from array import array
 from pathlib import Path
-from typing import Iterable, List, Optional, Tuple, Type, TypeVar, Union
+from threading import Lock
+from typing import Callable, Iterable, List, Optional, Tuple, Type, TypeVar, Union
 
 from . import _given, _smap
 from ._answers import Context, Fit, Generated, Mapping, Source
 from ._paths import placed
-from ._reported import (BAD_BASE, Refused, refused_base, refused_composition, refused_encoding, refused_generated,
-                        refused_map, refused_writing)
+from ._reported import Refused, refused_as, refused_base, refused_encoding, refused_map
 
 # How an absolute path begins.
 _PATH = re.compile(r"/|[A-Za-z]:[/\\]")
@@ -21,8 +21,30 @@ _Map = TypeVar("_Map", bound="SourceMap")
 Base = Union[str, "os.PathLike[str]"]
 
 
+class Originals:
+    """The index of originals that all have which are handed out of one map of `Maps`: that of a map that is asked in their place."""
+
+    source_map: "Optional[SourceMap]" = None
+    _is_told = False
+
+    def __init__(self, made: "Callable[[Originals], object]") -> None:
+        self._made, self._lock = made, Lock()
+
+    def generated(self, given: "SourceMap", source: int, line: int, column: Optional[int], after: bool) -> List[Generated]:
+        """What a map that was handed out answers. It is told when the index is made."""
+        with self._lock:
+            self.source_map = self.source_map or given._shared()
+        found = self.source_map._generated(source, line, column, after)
+        if not self._is_told:
+            self._is_told = True
+            self._made(self)
+        return found
+
+
 class SourceMap(_smap.Map):
     """A source map that was read. It is freed by `close`, at the end of a `with`, or when nothing names it any more."""
+
+    _originals: Optional[Originals] = None
 
     def __init__(self, data: _given.FileData, base: Optional[Base] = None, interval: int = 64, *,
                  max_names: int = _given.NAME_BYTES) -> None:
@@ -54,7 +76,8 @@ class SourceMap(_smap.Map):
         # whose URL is an absolute path stands at none, and has its sources named by that.
         by_path = paths and _PATH.match(url) is not None
         if not isinstance(given, SourceMap):
-            source_map = cls._standing(None if by_path else url, url, given, most_names)
+            source_map, held = cls.__new__(cls), _given.file_bytes(given, "a map")
+            source_map._take(held, None if by_path else url, 64, most_names, url, url, or_at_none=True)
         else:
             # Who gave the map has its names as they are. They were within a bound already.
             source_map = SourceMap(given.write(), max_names=_given.MOST_BYTES) if by_path else given
@@ -62,28 +85,20 @@ class SourceMap(_smap.Map):
             source_map._use_paths(url.encode(errors="surrogatepass"))
         return source_map
 
-    @classmethod
-    def _standing(cls, base: Optional[str], url: str, data: _given.FileData, most_names: int) -> "SourceMap":
-        held, self = _given.file_bytes(data, "a map"), cls.__new__(cls)
-        try:
-            self._take(held, base, 64, most_names, url, url)
-        except Refused as refused:
-            if refused.number != BAD_BASE:
-                raise
-            self._take(held, None, 64, most_names, url, url)
-        return self
-
+    # Reads a map, which stands at the base; or at none where that is no URL, if that may be.
     def _take(self, held: _given.Held, base: Optional[str], interval: int, most_names: int, name: Optional[str],
-              url: Optional[str], hint: str = "") -> None:
+              url: Optional[str], hint: str = "", or_at_none: bool = False) -> None:
         base_bytes = b""
         if base is not None:
             try:
                 base_bytes = _given.text(base, "base").encode()
             except UnicodeEncodeError:
-                raise refused_base(BAD_BASE, base, url) from None
-            if not base_bytes:
-                raise refused_base(BAD_BASE, base, url)
+                pass
+            if not base_bytes and not or_at_none:
+                raise refused_base(_smap.USAGE, base, url)
         refusal = self._read(held, base_bytes, interval, most_names)
+        if refusal is not None and refusal.code == _smap.USAGE and or_at_none:
+            refusal = self._read(held, b"", interval, most_names)
         if refusal is not None:
             raise refused_map(held, refusal, name, base or "", url, hint)
 
@@ -112,7 +127,15 @@ class SourceMap(_smap.Map):
         column at or before `column`, or with `after` at the least at or after it, in the order of the file; and without a
         column all of the line, by original columns. The first call makes an index of 16 bytes a mapping. Raises `IndexError` where
         there is no such source."""
-        return self._generated(source, line, column, after)
+        if self._originals is None or self.closed:
+            return self._generated(source, line, column, after)
+        return self._originals.generated(self, source, line, column, after)
+
+    @property
+    def nbytes(self) -> int:
+        """About how many bytes of memory the map takes, with its index of originals once that is made."""
+        size, originals = super().nbytes, self._originals
+        return size if originals is None or originals.source_map is None else originals.source_map.nbytes
 
     def context(self, source: int, line: int, before: int = 2, after: int = 2) -> Optional[Context]:
         """A line of this source with up to so many lines before and after it, at most 65,535 each, or None where its content has no
@@ -145,7 +168,7 @@ class SourceMap(_smap.Map):
         The file is given as a map is. Raises `Refused` where it is not UTF-8 or too large."""
         reported = self._bytes_by_source(_given.file_bytes(generated, "a generated file"))
         if isinstance(reported, int):
-            raise refused_generated(reported, _given.file_name(generated))
+            raise refused_as(reported, name=_given.file_name(generated))
         return reported
 
     def fit(self, generated: _given.FileData) -> Fit:
@@ -153,14 +176,14 @@ class SourceMap(_smap.Map):
         or inside a word of it. Raises `Refused` where the file is not UTF-8 or too large."""
         reported = self._fit(_given.file_bytes(generated, "a generated file"))
         if isinstance(reported, int):
-            raise refused_generated(reported, _given.file_name(generated))
+            raise refused_as(reported, name=_given.file_name(generated))
         return Fit(*reported)
 
     def write(self) -> bytes:
         """The map as the text of one regular map."""
         text = self._written()
-        if text is None:
-            raise refused_writing()
+        if isinstance(text, int):
+            raise refused_as(text)
         return text
 
 
@@ -184,5 +207,5 @@ def compose(outer: SourceMap, source: int, inner: SourceMap) -> bytes:
     number = _given.index(source, "source")
     text = _smap.compose(outer, number, inner._shared() if outer is inner else inner)
     if isinstance(text, int):
-        raise refused_composition(text)
+        raise refused_as(text)
     return text

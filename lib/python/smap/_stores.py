@@ -3,18 +3,21 @@
 import asyncio
 import os
 import time
+import weakref
 from typing import Dict, Optional, Tuple, Union, cast
 
 from . import _given, _smap
 from ._answers import Place
 from ._loading import AsyncLoad, Flight, Given, Load, Loading, Seconds, Told, driven, until_over
-from ._maps import SourceMap
+from ._maps import Originals, SourceMap
 from ._traces import Blocking
 
 # A map file with more bytes is refused, and read no further.
 _MOST_FILE = 67108864
 # What has more bytes takes long to read.
 _LARGE = 1 << 20
+# Of so many URLs those that have their maps share what is made of one.
+_MOST_SHARED = 1000
 
 
 class _Kept(Loading):
@@ -28,6 +31,9 @@ class _Kept(Loading):
         self._max_bytes = max_bytes
         # Until when the file of a URL is taken to be what it was, and the stamp that it had when it was read.
         self._seen: Dict[str, Tuple[int, object]] = {}
+        # What those share that were handed out of what is kept, and where it has its index already.
+        self._shared: Dict[str, Originals] = {}
+        self._indexed: Dict[str, Originals] = {}
 
     @property
     def max_bytes(self) -> int:
@@ -64,6 +70,31 @@ class _Kept(Loading):
             self._outdate(key)
             self._failures.pop(key, None)
             self._forget(key)
+            self._part(key)
+
+    # The map of a URL, or the URL that is wanted. Nothing is put meanwhile, so what it shares is of this very map.
+    def _got(self, url: str) -> Union[SourceMap, str, None]:
+        with self._changing:
+            found = self._map(SourceMap, url)
+            if isinstance(found, SourceMap):
+                key, this = self._key(url), weakref.ref(self)
+                originals = self._shared.pop(key, None) or Originals(lambda made: _index_made(this(), key, made))
+                found._originals = self._shared[key] = originals
+                if len(self._shared) > _MOST_SHARED:
+                    del self._shared[next(iter(self._shared))]
+            return found
+
+    # What is handed out under a URL from now on shares nothing with what was. An index goes where its map was dropped, too.
+    def _part(self, *keys: str) -> None:
+        for key in (*keys, *[key for key in self._indexed if not self._knows(key)]):
+            self._shared.pop(key, None)
+            self._indexed.pop(key, None)
+
+    def _learned(self, key: str, found: Optional[SourceMap], error: Optional[Exception]) -> bool:
+        is_there = super()._learned(key, found, error)
+        if (self._shared or self._indexed) and (found is not None or not is_there):
+            self._part(key)
+        return is_there
 
 
 class Maps(Blocking, _Kept):
@@ -116,8 +147,8 @@ class Maps(Blocking, _Kept):
     def get(self, url: str) -> Optional[SourceMap]:
         """The map of a URL or, where none was added under it, of that without its query and its fragment; or None. It stays open where it
         is dropped here."""
-        found = self._map(SourceMap, url) if self._is_fresh is None else ""
-        return driven(self._found(url, lambda: self._map(SourceMap, url))) if isinstance(found, str) else found
+        found = self._got(url) if self._is_fresh is None else ""
+        return driven(self._found(url, lambda: self._got(url))) if isinstance(found, str) else found
 
 
 class _AsyncFlight(Flight):
@@ -152,7 +183,7 @@ class AsyncMaps(_Kept):
 
     async def get(self, url: str) -> Optional[SourceMap]:
         """As that of `Maps`."""
-        return await self._found(url, lambda: self._map(SourceMap, url))
+        return await self._found(url, lambda: self._got(url))
 
     async def look_up(self, url: str, line: int, column: int) -> Optional[Place]:
         """As that of `Maps`."""
@@ -162,6 +193,17 @@ class AsyncMaps(_Kept):
                       max_output: int = _given.OUTPUT_BYTES) -> bytes:
         """As that of `Maps`."""
         return await self._rewritten(trace, hide_ignored, anywhere, strip_ansi, max_output)
+
+
+# An index was made, for which what is kept counts from now on.
+def _index_made(maps: Optional[_Kept], key: str, originals: Originals) -> None:
+    if maps is None or originals.source_map is None:
+        return
+    with maps._changing:
+        if maps._shared.get(key) is originals and maps._knows(key):
+            maps._indexed[key] = originals
+            maps._put(key, originals.source_map, False)
+            maps._part()
 
 
 # By what a file is known to be the same.

@@ -32,12 +32,11 @@ impl Error {
     ///
     /// ```
     /// let error = smap::SourceMap::from_slice(b"no JSON").unwrap_err();
-    /// let code = error.code().unwrap();
-    /// assert_eq!((code.letter, code.number, code.name), ('M', 2, "NotJson"));
+    /// assert_eq!(error.code(), Some("M2"));
     /// ```
-    pub fn code(&self) -> Option<Code<'_>> {
+    pub fn code(&self) -> Option<&'static str> {
         match self {
-            Error::Refused(refused) => refused.code(),
+            Error::Refused(refused) => Some(refused.code()),
             _ => None,
         }
     }
@@ -85,29 +84,6 @@ impl From<io::Error> for Error {
     }
 }
 
-/// A code of a refusal, as the program prints it: `M2 NotJson` has the letter `M`, the number 2 and
-/// the name `NotJson`. `smap explain M2` says what it means.
-///
-/// ```
-/// let error = smap::SourceMap::from_slice(b"[]").unwrap_err();
-/// assert_eq!(error.code().unwrap().to_string(), "M3 NotObject");
-/// ```
-#[derive(Clone, Copy, Debug, PartialEq, Eq, Hash)]
-pub struct Code<'a> {
-    /// Its letter.
-    pub letter: char,
-    /// Its number.
-    pub number: u32,
-    /// Its name.
-    pub name: &'a str,
-}
-
-impl fmt::Display for Code<'_> {
-    fn fmt(&self, to: &mut fmt::Formatter<'_>) -> fmt::Result {
-        write!(to, "{}{} {}", self.letter, self.number, self.name)
-    }
-}
-
 /// What is refused, and why.
 ///
 /// It is displayed as the program prints it, behind a base that is refused, or the URL or source
@@ -120,22 +96,25 @@ impl fmt::Display for Code<'_> {
 /// ```
 #[derive(Clone, Debug)]
 pub struct Refused {
-    text: String,
+    code: sys::smap_code,
+    /// What is said of it: those of the code, or others.
+    words: &'static str,
     name: Option<String>,
     map: Option<sys::smap_refusal>,
     lines: Option<u64>,
 }
 
 impl Refused {
-    /// The code, which a refused base has none of, nor a refused generated file.
+    /// The code, as `smap explain` takes it: of a base that is no URL `usage`, and of one that is too
+    /// long `U1`.
     ///
     /// ```
     /// # let error = smap::SourceMap::from_slice(b"no JSON").unwrap_err();
     /// # let refused = match error { smap::Error::Refused(refused) => refused, other => panic!("{}", other) };
-    /// assert_eq!(refused.code().map(|code| code.number), Some(2));
+    /// assert_eq!(refused.code(), "M2");
     /// ```
-    pub fn code(&self) -> Option<Code<'_>> {
-        self.codes().next()
+    pub fn code(&self) -> &'static str {
+        label(library::code_text(self.code))
     }
 
     /// The code of what is wrong within: the fault of the mappings, F1 to F11, of M14, and why no
@@ -144,24 +123,21 @@ impl Refused {
     /// ```
     /// # let error = smap::SourceMap::from_slice(br#"{"version":3,"sources":[],"mappings":"AAAA"}"#).unwrap_err();
     /// # let refused = match error { smap::Error::Refused(refused) => refused, other => panic!("{}", other) };
-    /// assert_eq!(refused.cause().unwrap().to_string(), "F10 SourceIndex");
+    /// assert_eq!(refused.cause(), Some("F10"));
     /// ```
-    pub fn cause(&self) -> Option<Code<'_>> {
-        self.codes().nth(1)
+    pub fn cause(&self) -> Option<&'static str> {
+        self.cause_text().map(label)
     }
 
-    fn codes(&self) -> impl Iterator<Item = Code<'_>> {
-        let words = self.text.split(' ');
-        words.clone().zip(words.skip(1)).filter_map(|(word, name)| {
-            let mut rest = word.chars();
-            let letter = rest.next().filter(char::is_ascii_uppercase)?;
-            let number = rest.as_str().parse().ok()?;
-            Some(Code {
-                letter,
-                number,
-                name,
-            })
-        })
+    fn cause_text(&self) -> Option<&'static str> {
+        let map = self.map.as_ref().filter(|map| map.cause != 0);
+        map.map(|map| library::code_text(map.cause))
+    }
+
+    /// The refusal, where it is that of a faulty segment.
+    fn fault(&self) -> Option<&sys::smap_refusal> {
+        let map = self.map.as_ref();
+        map.filter(|map| map.code == sys::SMAP_CODE_M14)
     }
 
     /// The section of the map, from 0, where the refusal is of one.
@@ -172,8 +148,8 @@ impl Refused {
     /// assert_eq!(refused.section(), Some(0));
     /// ```
     pub fn section(&self) -> Option<u64> {
-        let map = self.map.as_ref()?;
-        (matches!(map.number, 6 | 7 | 14) || matches!(map.build, 2..=4)).then_some(map.section)
+        let map = self.map.as_ref().filter(|map| map.has_section != 0);
+        map.map(|map| map.section)
     }
 
     /// The generated line of a faulty segment, from 0.
@@ -184,10 +160,7 @@ impl Refused {
     /// assert_eq!((refused.line(), refused.byte()), (Some(1), Some(1)));
     /// ```
     pub fn line(&self) -> Option<u32> {
-        self.map
-            .as_ref()
-            .filter(|map| map.fault != 0)
-            .map(|map| map.line)
+        self.fault().map(|map| map.line)
     }
 
     /// Where a faulty segment begins in the mappings, in bytes from 0.
@@ -198,10 +171,7 @@ impl Refused {
     /// assert_eq!(refused.byte(), Some(5));
     /// ```
     pub fn byte(&self) -> Option<u64> {
-        self.map
-            .as_ref()
-            .filter(|map| map.fault != 0)
-            .map(|map| map.byte)
+        self.fault().map(|map| map.byte)
     }
 
     /// Why the map of these bytes was refused so. It is read again, which takes as long and as much
@@ -241,11 +211,32 @@ impl Refused {
 
 impl fmt::Display for Refused {
     fn fmt(&self, to: &mut fmt::Formatter<'_>) -> fmt::Result {
-        match &self.name {
-            Some(name) => write!(to, "{}: {}", name, self.text),
-            None => to.write_str(&self.text),
+        if let Some(name) = &self.name {
+            write!(to, "{}: ", name)?;
+        }
+        let (section, cause) = (self.section(), self.cause_text());
+        match (section, cause, self.fault()) {
+            (Some(section), Some(cause), Some(fault)) => {
+                let (line, byte) = (u64::from(fault.line) + 1, fault.byte);
+                write!(
+                    to,
+                    "{} {} {} line {} byte {}",
+                    self.words, section, cause, line, byte
+                )
+            }
+            (Some(section), Some(cause), None) => {
+                write!(to, "{} {} {}", self.words, cause, section)
+            }
+            (Some(section), None, _) => write!(to, "{} {}", self.words, section),
+            (None, Some(cause), _) => write!(to, "{} {}", self.words, cause),
+            (None, None, _) => to.write_str(self.words),
         }
     }
+}
+
+/// The letter and the number of what is printed of a code, or its word.
+fn label(text: &'static str) -> &'static str {
+    text.split(' ').next().unwrap_or_default()
 }
 
 /// What is known of why a map is refused: the value of a faulty segment, what it may be, and

@@ -35,7 +35,7 @@ mod token;
 mod urls;
 
 pub use compose::ComposeOptions;
-pub use error::{Code, Error, Reason, Refused};
+pub use error::{Error, Reason, Refused};
 pub use map::{BytesBySource, Fit, SourceMap};
 pub use maps::{Found, Maps, MapsCounts};
 pub use originals::{Generated, Originals};

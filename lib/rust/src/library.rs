@@ -22,17 +22,11 @@ pub(crate) use originals::Originals;
 pub(crate) use rewriting::{Rewriting, Stop};
 pub(crate) use store::{Found, Known, Store};
 pub(crate) use table::{path_below, Table};
-pub(crate) use texts::{
-    compose_refusal_text, generated_refusal_text, reason, refusal_text, rewrite_refusal_text,
-    table_refusal_text, version, write_refusal_text,
-};
+pub(crate) use texts::{code_text, reason, version};
 
 use crate::error::Error;
 use crate::sys;
 use std::slice;
-
-/// The number of C1.
-const NO_SOURCE: u32 = 1;
 
 /// Where a pointer to no bytes leads.
 static NOTHING: u8 = 0;

@@ -1,4 +1,4 @@
-//! What `smap.h` declares, in its order. The test beside this compares both.
+//! What `smap.h` declares, in its order: lib/declare has written it.
 #![allow(non_camel_case_types, dead_code)]
 
 use std::os::raw::c_void;
@@ -8,14 +8,75 @@ pub const SMAP_REFUSED: u32 = 1;
 pub const SMAP_WANTED: u32 = 2;
 pub const SMAP_NO_MEMORY: u32 = 3;
 
-pub const SMAP_BASE_NO_URL: u32 = 0;
-pub const SMAP_BASE_TOO_LONG: u32 = 19;
-
 pub const SMAP_AT_OR_BEFORE: u32 = 0;
 pub const SMAP_AT_OR_AFTER: u32 = 1;
 
 pub const SMAP_MISSING: u32 = 0;
 pub const SMAP_FAILED: u32 = 1;
+
+pub type smap_code = u32;
+pub const SMAP_CODE_M1: smap_code = 1;
+pub const SMAP_CODE_M2: smap_code = 2;
+pub const SMAP_CODE_M3: smap_code = 3;
+pub const SMAP_CODE_M4: smap_code = 4;
+pub const SMAP_CODE_M5: smap_code = 5;
+pub const SMAP_CODE_M6: smap_code = 6;
+pub const SMAP_CODE_M7: smap_code = 7;
+pub const SMAP_CODE_M8: smap_code = 8;
+pub const SMAP_CODE_M9: smap_code = 9;
+pub const SMAP_CODE_M10: smap_code = 10;
+pub const SMAP_CODE_M11: smap_code = 11;
+pub const SMAP_CODE_M12: smap_code = 12;
+pub const SMAP_CODE_M13: smap_code = 13;
+pub const SMAP_CODE_M14: smap_code = 14;
+pub const SMAP_CODE_M15: smap_code = 15;
+pub const SMAP_CODE_M16: smap_code = 16;
+pub const SMAP_CODE_M17: smap_code = 17;
+pub const SMAP_CODE_M18: smap_code = 18;
+pub const SMAP_CODE_F1: smap_code = 19;
+pub const SMAP_CODE_F2: smap_code = 20;
+pub const SMAP_CODE_F3: smap_code = 21;
+pub const SMAP_CODE_F4: smap_code = 22;
+pub const SMAP_CODE_F5: smap_code = 23;
+pub const SMAP_CODE_F6: smap_code = 24;
+pub const SMAP_CODE_F7: smap_code = 25;
+pub const SMAP_CODE_F8: smap_code = 26;
+pub const SMAP_CODE_F9: smap_code = 27;
+pub const SMAP_CODE_F10: smap_code = 28;
+pub const SMAP_CODE_F11: smap_code = 29;
+pub const SMAP_CODE_B1: smap_code = 30;
+pub const SMAP_CODE_B2: smap_code = 31;
+pub const SMAP_CODE_B3: smap_code = 32;
+pub const SMAP_CODE_B4: smap_code = 33;
+pub const SMAP_CODE_B5: smap_code = 34;
+pub const SMAP_CODE_O1: smap_code = 35;
+pub const SMAP_CODE_O2: smap_code = 36;
+pub const SMAP_CODE_C1: smap_code = 37;
+pub const SMAP_CODE_C2: smap_code = 38;
+pub const SMAP_CODE_C3: smap_code = 39;
+pub const SMAP_CODE_C4: smap_code = 40;
+pub const SMAP_CODE_E1: smap_code = 41;
+pub const SMAP_CODE_E2: smap_code = 42;
+pub const SMAP_CODE_E3: smap_code = 43;
+pub const SMAP_CODE_E4: smap_code = 44;
+pub const SMAP_CODE_U1: smap_code = 45;
+pub const SMAP_CODE_U2: smap_code = 46;
+pub const SMAP_CODE_A1: smap_code = 47;
+pub const SMAP_CODE_A2: smap_code = 48;
+pub const SMAP_CODE_A3: smap_code = 49;
+pub const SMAP_CODE_P1: smap_code = 50;
+pub const SMAP_CODE_P2: smap_code = 51;
+pub const SMAP_CODE_X1: smap_code = 52;
+pub const SMAP_CODE_X2: smap_code = 53;
+pub const SMAP_CODE_X3: smap_code = 54;
+pub const SMAP_CODE_X4: smap_code = 55;
+pub const SMAP_CODE_X5: smap_code = 56;
+pub const SMAP_CODE_TEXT_TOO_LONG: smap_code = 57;
+pub const SMAP_CODE_NOT_UTF8: smap_code = 58;
+pub const SMAP_CODE_DEVICE: smap_code = 59;
+pub const SMAP_CODE_MEMORY: smap_code = 60;
+pub const SMAP_CODE_USAGE: smap_code = 61;
+pub const SMAP_CODE_REFUSED: smap_code = 62;
 
 #[repr(C)]
 pub struct smap_map {
@@ -66,16 +127,16 @@ pub struct smap_text {
 #[repr(C)]
 #[derive(Clone, Copy, Debug, Default)]
 pub struct smap_refusal {
-    pub number: u32,
-    pub fault: u32,
+    pub code: smap_code,
+    pub cause: smap_code,
     pub line: u32,
-    pub build: u32,
+    pub has_section: u32,
     pub section: u64,
     pub byte: u64,
 }
 
 #[repr(C)]
-#[derive(Default)]
+#[derive(Clone, Copy, Debug, Default)]
 pub struct smap_reason {
     pub value: i64,
     pub least: i64,
@@ -88,7 +149,7 @@ pub struct smap_reason {
 }
 
 #[repr(C)]
-#[derive(Default)]
+#[derive(Clone, Copy, Debug, Default)]
 pub struct smap_found {
     pub kind: u32,
     pub generated_column: u32,
@@ -100,6 +161,7 @@ pub struct smap_found {
 }
 
 #[repr(C)]
+#[derive(Clone, Copy, Debug, Default)]
 pub struct smap_mapping {
     pub line: u32,
     pub column: u32,
@@ -112,18 +174,21 @@ pub struct smap_mapping {
 }
 
 #[repr(C)]
+#[derive(Clone, Copy, Debug, Default)]
 pub struct smap_encode_refusal {
-    pub number: u32,
+    pub code: smap_code,
     pub mapping: u64,
 }
 
 #[repr(C)]
+#[derive(Clone, Copy, Debug, Default)]
 pub struct smap_position {
     pub line: u32,
     pub column: u32,
 }
 
 #[repr(C)]
+#[derive(Clone, Copy, Debug, Default)]
 pub struct smap_generated_place {
     pub line: u32,
     pub column: u32,
@@ -138,7 +203,7 @@ pub struct smap_generated_places {
 }
 
 #[repr(C)]
-#[derive(Default)]
+#[derive(Clone, Copy, Debug, Default)]
 pub struct smap_count {
     pub sections: u64,
     pub sources: u64,
@@ -149,7 +214,7 @@ pub struct smap_count {
 }
 
 #[repr(C)]
-#[derive(Default)]
+#[derive(Clone, Copy, Debug, Default)]
 pub struct smap_fit_count {
     pub mappings: u64,
     pub past: u64,
@@ -170,18 +235,21 @@ pub struct smap_source_text {
 }
 
 #[repr(C)]
+#[derive(Clone, Copy, Debug, Default)]
 pub struct smap_compose_options {
     pub prune: bool,
     pub no_content: bool,
 }
 
 #[repr(C)]
+#[derive(Clone, Copy, Debug, Default)]
 pub struct smap_table_options {
     pub after: bool,
     pub cut: bool,
 }
 
 #[repr(C)]
+#[derive(Clone, Copy, Debug, Default)]
 pub struct smap_line_bytes {
     pub start: usize,
     pub length: usize,
@@ -189,12 +257,14 @@ pub struct smap_line_bytes {
 }
 
 #[repr(C)]
+#[derive(Clone, Copy, Debug, Default)]
 pub struct smap_line_range {
     pub first: u32,
     pub count: usize,
 }
 
 #[repr(C)]
+#[derive(Clone, Copy, Debug, Default)]
 pub struct smap_rewrite_options {
     pub hide_ignored: bool,
     pub anywhere: bool,
@@ -203,7 +273,7 @@ pub struct smap_rewrite_options {
 }
 
 #[repr(C)]
-#[derive(Default)]
+#[derive(Clone, Copy, Debug, Default)]
 pub struct smap_trace_count {
     pub lines: u64,
     pub frames: u64,
@@ -212,14 +282,14 @@ pub struct smap_trace_count {
 }
 
 #[repr(C)]
-#[derive(Default)]
+#[derive(Clone, Copy, Debug, Default)]
 pub struct smap_rewrite_refusal {
-    pub number: u32,
+    pub code: smap_code,
     pub lines: u64,
 }
 
 #[repr(C)]
-#[derive(Default)]
+#[derive(Clone, Copy, Debug, Default)]
 pub struct smap_store_counts {
     pub bytes: u64,
     pub count: u64,
@@ -232,6 +302,7 @@ pub struct smap_store_counts {
 }
 
 #[repr(C)]
+#[derive(Clone, Copy, Debug, Default)]
 pub struct smap_rewriting_options {
     pub hide_ignored: bool,
     pub anywhere: bool,
@@ -242,7 +313,7 @@ pub struct smap_rewriting_options {
 }
 
 #[repr(C)]
-#[derive(Default)]
+#[derive(Clone, Copy, Debug, Default)]
 pub struct smap_frame_url {
     pub start: usize,
     pub length: usize,
@@ -250,7 +321,7 @@ pub struct smap_frame_url {
 }
 
 #[repr(C)]
-#[derive(Default)]
+#[derive(Clone, Copy, Debug, Default)]
 pub struct smap_place_url {
     pub start: usize,
     pub length: usize,
@@ -281,7 +352,7 @@ extern "C" {
     pub fn smap_map_use_paths(map: *mut smap_map, url: *const u8, length: usize) -> u32;
     pub fn smap_map_share(map: *mut smap_map, other: *mut smap_map) -> u32;
     pub fn smap_map_free(map: *mut smap_map);
-    pub fn smap_refusal_text(refusal: *const smap_refusal, bytes: *mut smap_bytes) -> u32;
+    pub fn smap_code_text(code: smap_code, text: *mut smap_text) -> u32;
     pub fn smap_refusal_explain(
         bytes: *const u8,
         length: usize,
@@ -325,7 +396,6 @@ extern "C" {
         bytes: *mut smap_bytes,
         refusal: *mut smap_encode_refusal,
     ) -> u32;
-    pub fn smap_encode_refusal_text(refusal: u32, text: *mut smap_text) -> u32;
     pub fn smap_bytes_by_source(
         map: *mut smap_map,
         generated: *const u8,
@@ -333,16 +403,15 @@ extern "C" {
         sources: *mut u64,
         places: usize,
         unmapped: *mut u64,
-        refusal: *mut u32,
+        refusal: *mut smap_code,
     ) -> u32;
     pub fn smap_fit(
         map: *mut smap_map,
         generated: *const u8,
         length: usize,
         counts: *mut smap_fit_count,
-        refusal: *mut u32,
+        refusal: *mut smap_code,
     ) -> u32;
-    pub fn smap_generated_refusal_text(refusal: u32, text: *mut smap_text) -> u32;
     pub fn smap_counts(map: *const smap_map, counts: *mut smap_count) -> u32;
     pub fn smap_map_size(map: *const smap_map, size: *mut u64) -> u32;
     pub fn smap_source(map: *const smap_map, index: u32, source: *mut smap_source_text) -> u32;
@@ -364,7 +433,7 @@ extern "C" {
         source: u32,
         inner: *mut smap_map,
         bytes: *mut smap_bytes,
-        refusal: *mut u32,
+        refusal: *mut smap_code,
     ) -> u32;
     pub fn smap_inners_new(outer: *mut smap_map, inners: *mut smap_inners) -> u32;
     pub fn smap_inners_put(inners: *mut smap_inners, source: u32, map: *mut smap_map) -> u32;
@@ -373,7 +442,7 @@ extern "C" {
         outer: *mut smap_map,
         inners: *mut smap_inners,
         source: *mut u32,
-        refusal: *mut u32,
+        refusal: *mut smap_code,
     ) -> u32;
     pub fn smap_inners_name(
         outer: *mut smap_map,
@@ -386,11 +455,9 @@ extern "C" {
         inners: *mut smap_inners,
         options: *const smap_compose_options,
         bytes: *mut smap_bytes,
-        refusal: *mut u32,
+        refusal: *mut smap_code,
     ) -> u32;
     pub fn smap_inners_free(inners: *mut smap_inners);
-    pub fn smap_compose_refusal_text(refusal: u32, text: *mut smap_text) -> u32;
-    pub fn smap_write_refusal_text(refusal: u32, text: *mut smap_text) -> u32;
     pub fn smap_bytes_text(bytes: *mut smap_bytes, text: *mut smap_text) -> u32;
     pub fn smap_bytes_free(bytes: *mut smap_bytes);
     pub fn smap_version(version: *mut smap_text) -> u32;
@@ -400,16 +467,15 @@ extern "C" {
         url: *const u8,
         url_length: usize,
         map: *mut smap_map,
-        refusal: *mut u32,
+        refusal: *mut smap_code,
     ) -> u32;
     pub fn smap_table_add_shared(
         table: *mut smap_table,
         url: *const u8,
         url_length: usize,
         map: *mut smap_map,
-        refusal: *mut u32,
+        refusal: *mut smap_code,
     ) -> u32;
-    pub fn smap_table_refusal_text(refusal: u32, text: *mut smap_text) -> u32;
     pub fn smap_table_look_up(
         table: *const smap_table,
         url: *const u8,
@@ -456,7 +522,6 @@ extern "C" {
         counts: *mut smap_trace_count,
         refusal: *mut smap_rewrite_refusal,
     ) -> u32;
-    pub fn smap_rewrite_refusal_text(refusal: u32, text: *mut smap_text) -> u32;
     pub fn smap_next_frame_url(
         trace: *const u8,
         length: usize,

@@ -261,10 +261,7 @@ fn a_file_that_is_not_there_is_no_map_and_another_is_told() {
         told,
         ["https://ex.test/bad.js", "https://ex.test/folder.js"]
     );
-    assert_eq!(
-        table.refusals()[0].1.code().map(|code| code.number),
-        Some(2)
-    );
+    assert_eq!(table.refusals()[0].1.code(), Some("M2"));
     assert!(matches!(table.refusals()[1].1, Error::Io(_)));
 }
 

@@ -96,7 +96,7 @@ fn a_base_resolves_sources_or_is_refused() {
             .read(map)
             .expect_err("no URL");
         assert_eq!(error.to_string(), format!("{}: the base is no URL", base));
-        assert_eq!(error.code(), None);
+        assert_eq!(error.code(), Some("usage"));
     }
 }
 
@@ -105,13 +105,7 @@ fn a_refusal_has_its_code_and_its_place() {
     let map = br#"{"version":3,"sources":["a"],"mappings":";;AAAA,C,!"}"#;
     let why = refused(map);
     assert_eq!(why.to_string(), "M14 Text 0 F1 BadDigit line 3 byte 9");
-    let code = why.code().expect("a code");
-    assert_eq!((code.letter, code.number, code.name), ('M', 14, "Text"));
-    assert_eq!(
-        why.cause()
-            .map(|cause| (cause.letter, cause.number, cause.name)),
-        Some(('F', 1, "BadDigit"))
-    );
+    assert_eq!((why.code(), why.cause()), ("M14", Some("F1")));
     assert_eq!(
         (why.section(), why.line(), why.byte()),
         (Some(0), Some(2), Some(9))
@@ -133,7 +127,38 @@ fn a_refusal_has_its_code_and_its_place() {
         ),
         ("M2 NotJson", None, None, None)
     );
-    assert_eq!(refused(b"[]").code().map(|code| code.number), Some(3));
+    assert_eq!(refused(b"[]").code(), "M3");
+    let parts = |map: &str| {
+        let why = refused(map.as_bytes());
+        (why.to_string(), why.code(), why.cause(), why.section())
+    };
+    let section =
+        r#"{"offset":{"line":0,"column":0},"map":{"version":3,"sources":[],"mappings":""}}"#;
+    let told = parts(r#"{"version":3,"sections":[{}]}"#);
+    assert_eq!(told, ("M5 Sections".to_string(), "M5", None, None));
+    let told = parts(&format!(
+        r#"{{"version":3,"sections":[{},{}]}}"#,
+        section,
+        section.replace("\"line\":0", "\"line\":-1")
+    ));
+    assert_eq!(
+        told,
+        ("M6 SectionOffset 1".to_string(), "M6", None, Some(1))
+    );
+    let after = section.replace("\"line\":0", "\"line\":7");
+    let told = parts(&format!(
+        r#"{{"version":3,"sections":[{},{}]}}"#,
+        after, section
+    ));
+    let wanted = "M15 Build B2 SectionOrder 1".to_string();
+    assert_eq!(told, (wanted, "M15", Some("B2"), Some(1)));
+    let why = ReadOptions::new()
+        .with_interval(0)
+        .read(b"{\"version\":3,\"sources\":[],\"mappings\":\"\"}");
+    assert_eq!(
+        why.expect_err("no interval").to_string(),
+        "M15 Build B1 Interval"
+    );
 }
 
 #[test]
@@ -212,7 +237,7 @@ fn what_a_loader_says_ends_the_composition() {
         .compose_all(options, |_| Ok(Some("no JSON")))
         .expect_err("no map");
     assert_eq!(error.to_string(), "https://ex.test/js/a.js: M2 NotJson");
-    assert_eq!(error.code().map(|code| code.number), Some(2));
+    assert_eq!(error.code(), Some("M2"));
     let failed = |_: &str| -> io::Result<Option<Vec<u8>>> {
         Err(io::Error::new(io::ErrorKind::Other, "gone"))
     };
@@ -240,7 +265,7 @@ fn the_bytes_of_a_generated_file_are_those_of_its_sources() {
     let error = map.bytes_by_source(b"\xff").expect_err("no UTF-8");
     assert_eq!(
         (error.to_string().as_str(), error.code()),
-        ("NotUtf8", None)
+        ("NotUtf8", Some("NotUtf8"))
     );
 }
 
@@ -255,7 +280,7 @@ fn a_map_is_put_to_a_generated_file() {
     let error = map.fit(b"\xff").expect_err("no UTF-8");
     assert_eq!(
         (error.to_string().as_str(), error.code()),
-        ("NotUtf8", None)
+        ("NotUtf8", Some("NotUtf8"))
     );
 }
 

@@ -1,10 +1,10 @@
 //! The bounds that a caller gives: on what comes out of a rewriting, and on the names of a map.
 ghost use Rattle.std.specs.Prelude.{IsSome};
 
+use super::codes::{assert_code, no_refusal};
 use super::places::table_of;
 use super::{assert_bytes, assert_done, assert_refused, no_bytes, no_map};
 use crate::read::smap_map_read_within;
-use crate::refusal::numbered;
 use crate::trace::{RewriteOptions, RewriteRefusal, TraceCounts, smap_rewrite_within};
 use std::test::Fail;
 
@@ -24,10 +24,7 @@ fn no_more_comes_out_than_is_asked(rt: HostRuntime) -> Result<(), Fail> {
         mapped: 9,
         hidden: 9,
     };
-    let mut refusal = RewriteRefusal {
-        number: 9,
-        lines: 9,
-    };
+    let mut refusal = RewriteRefusal { code: 9, lines: 9 };
     // It becomes 29 bytes, of which the first line has 9.
     let trace = b"Error: x\n    at g (https://h.test/out.js:1:2)\n";
     let mut bytes = no_bytes(alloc)?;
@@ -42,7 +39,8 @@ fn no_more_comes_out_than_is_asked(rt: HostRuntime) -> Result<(), Fail> {
         &mut refusal,
     );
     assert_refused(&rt, status);
-    assert!(&rt; refusal.number == 5 && refusal.lines == 1 && counts.lines == 9);
+    assert_code(&rt, refusal.code, "X5 LongOutput");
+    assert!(&rt; refusal.lines == 1 && counts.lines == 9);
     let status = smap_rewrite_within(
         alloc,
         &mut table,
@@ -66,10 +64,11 @@ fn names_are_no_longer_than_is_asked(rt: HostRuntime) -> Result<(), Fail> {
     let text = br#"{"version":3,"sourceRoot":"src","sources":["a.ts",null,"b.ts"],"mappings":""}"#;
     let base = b"https://h.test/";
     let mut map = no_map(alloc)?;
-    let mut refusal = numbered(9, 9);
+    let mut refusal = no_refusal();
     let status = smap_map_read_within(alloc, text, base, 64, 45, &mut map, &mut refusal);
     assert_refused(&rt, status);
-    assert!(&rt; refusal.number == 18 && refusal.section == 0);
+    assert_code(&rt, refusal.code, "M18 LongNames");
+    assert_eq!(&rt; refusal.section, 0);
     let status = smap_map_read_within(alloc, text, base, 64, 46, &mut map, &mut refusal);
     assert_done(&rt, status);
     Ok(())

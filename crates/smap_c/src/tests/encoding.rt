@@ -1,8 +1,8 @@
 //! Mappings that are given, as text.
 
-use crate::encoding::{EncodeNumbers, MappingNumbers, smap_encode, smap_encode_refusal_text};
-use crate::tests::{assert_bytes, assert_done, assert_refused, assert_text, no_bytes};
-use crate::texts::Text;
+use crate::encoding::{EncodeNumbers, MappingNumbers, smap_encode};
+use crate::tests::codes::assert_code;
+use crate::tests::{assert_bytes, assert_done, assert_refused, no_bytes};
 use std::test::Fail;
 
 // The mapping of this line and column, of source 1 at 3:21, with a name where that is asked.
@@ -24,7 +24,7 @@ fn mappings_are_encoded(rt: HostRuntime) -> Result<(), Fail> {
     let alloc = rt.alloc();
     let mut bytes = no_bytes(alloc)?;
     let mut refusal = EncodeNumbers {
-        number: 9,
+        code: 9,
         mapping: 9,
     };
     let unmapped = MappingNumbers {
@@ -34,19 +34,17 @@ fn mappings_are_encoded(rt: HostRuntime) -> Result<(), Fail> {
     let list = [unmapped, mapped(2, 2, 1), mapped(2, 3, 0)];
     assert_done(&rt, smap_encode(alloc, &list, &mut bytes, &mut refusal));
     assert_bytes(&rt, &mut bytes, "4S;;ECGqBC,CAAA");
-    assert!(&rt; refusal.number == 9 && refusal.mapping == 9);
+    assert!(&rt; refusal.code == 9 && refusal.mapping == 9);
     let falling = [mapped(2, 2, 0), mapped(2, 1, 0)];
     let mut none = no_bytes(alloc)?;
     assert_refused(&rt, smap_encode(alloc, &falling, &mut none, &mut refusal));
-    assert!(&rt; refusal.number == 1 && refusal.mapping == 1);
+    assert_code(&rt, refusal.code, "E1 NotSorted");
+    assert_eq!(&rt; refusal.mapping, 1);
     assert_refused(
         &rt,
         smap_encode(alloc, &[mapped(2147483648, 0, 0)], &mut none, &mut refusal),
     );
-    assert!(&rt; refusal.number == 2 && refusal.mapping == 0);
-    let mut text = Text { text: b"" };
-    assert_done(&rt, smap_encode_refusal_text(1, &mut text));
-    assert_text(&rt, &text, "E1 NotSorted");
-    assert_refused(&rt, smap_encode_refusal_text(4, &mut text));
+    assert_code(&rt, refusal.code, "E2 OutOfRange");
+    assert_eq!(&rt; refusal.mapping, 0);
     Ok(())
 }

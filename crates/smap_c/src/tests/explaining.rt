@@ -2,8 +2,8 @@
 
 use crate::read::smap_map_read;
 use crate::reason::{Reason, smap_refusal_explain};
-use crate::refusal::numbered;
 use crate::status::{DONE, REFUSED};
+use crate::tests::codes::{assert_code, no_refusal};
 use crate::tests::{assert_bytes, no_bytes, no_map};
 use std::test::Fail;
 
@@ -15,9 +15,11 @@ fn a_refusal_is_explained(rt: HostRuntime) -> Result<(), Fail> {
     let alloc = rt.alloc();
     let bytes = SOURCELESS.as_bytes();
     let mut map = no_map(alloc)?;
-    let mut refusal = numbered(9, 9);
+    let mut refusal = no_refusal();
     let status = smap_map_read(alloc, bytes, b"", 2, &mut map, &mut refusal);
-    assert!(&rt; status == REFUSED && refusal.number == 14 && refusal.fault == 10);
+    assert!(&rt; status == REFUSED && refusal.has_section == 1 && refusal.section == 0);
+    assert_code(&rt, refusal.code, "M14 Text");
+    assert_code(&rt, refusal.cause, "F10 SourceIndex");
     let mut reason = Reason {
         value: 9,
         least: 9,
@@ -37,7 +39,7 @@ fn a_refusal_is_explained(rt: HostRuntime) -> Result<(), Fail> {
     assert_bytes(
         &rt,
         &mut reported,
-        "  segment \"EACA\" at line 1, column 3, numbers 2, 0, 1, 0\n  source index 0, and the map has 0 sources\n",
+        "M14 Text 0 F10 SourceIndex line 1 byte 0\n  segment \"EACA\" at line 1, column 3, numbers 2, 0, 1, 0\n  source index 0, and the map has 0 sources\n",
     );
     Ok(())
 }

@@ -1,6 +1,7 @@
 //! Whether a map can be that of a generated file.
 use crate::fit::{FitCounts, smap_fit};
 use crate::status::{DONE, REFUSED};
+use crate::tests::codes::assert_code;
 use crate::tests::read_map;
 use std::test::Fail;
 
@@ -28,6 +29,7 @@ fn a_map_is_put_to_texts(rt: HostRuntime) -> Result<(), Fail> {
     assert!(&rt; counts.compared == 2 && counts.outside == 0 && counts.same == 1);
     assert!(&rt; counts.fits == 1);
     let status = smap_fit(alloc, &mut map, b"\xff", &mut counts, &mut refusal);
-    assert!(&rt; status == REFUSED && refusal == 1 && counts.mappings == 2);
+    assert!(&rt; status == REFUSED && counts.mappings == 2);
+    assert_code(&rt, refusal, "NotUtf8");
     Ok(())
 }

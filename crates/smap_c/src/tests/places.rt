@@ -1,6 +1,7 @@
 //! Look-ups over a table, the lines around one, the size of a map, and texts that are rewritten otherwise.
 ghost use Rattle.std.specs.Prelude.{IfOk, IsSome};
 
+use super::codes::assert_code;
 use super::{assert_bytes, assert_done, assert_refused, assert_text, no_bytes, no_table, read_map};
 use crate::frames::smap_cut_url;
 use crate::handles::TableHandle;
@@ -194,7 +195,7 @@ fn patterns_have_many_urls(rt: HostRuntime) -> Result<(), Fail> {
     let twice = b"*js/out.js";
     let status = smap_table_add(alloc, &mut table, twice, &mut map, &mut refusal);
     assert_refused(&rt, status);
-    assert_eq!(&rt; refusal, 2);
+    assert_code(&rt, refusal, "A2 Twice");
     let mut counts = TraceCounts {
         lines: 9,
         frames: 9,

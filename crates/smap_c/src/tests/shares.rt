@@ -5,6 +5,7 @@ use crate::counts::{Counts, smap_counts};
 use crate::handles::MapHandle;
 use crate::shares::smap_bytes_by_source;
 use crate::status::{DONE, REFUSED};
+use crate::tests::codes::assert_code;
 use crate::tests::read_map;
 use std::alloc::Global;
 use std::test::Fail;
@@ -59,6 +60,7 @@ fn bytes_are_counted_by_source(rt: HostRuntime) -> Result<(), Fail> {
         &mut unmapped,
         &mut refusal,
     );
-    assert!(&rt; status == REFUSED && refusal == 1 && unmapped == 13);
+    assert!(&rt; status == REFUSED && unmapped == 13);
+    assert_code(&rt, refusal, "NotUtf8");
     Ok(())
 }

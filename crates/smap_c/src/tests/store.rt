@@ -188,10 +188,7 @@ fn run(
 {
     let mut table = no_table(alloc)?;
     assert_done(rt, smap_table_new(alloc, &mut table));
-    let mut refusal = RewriteRefusal {
-        number: 9,
-        lines: 9,
-    };
+    let mut refusal = RewriteRefusal { code: 9, lines: 9 };
     let status = smap_rewriting_run(alloc, rewriting, &mut table, store, 0, &mut refusal);
     assert!(rt; refusal.lines == lines);
     smap_table_free(alloc, &mut table);

@@ -1,6 +1,6 @@
 //! The maps of the sources of a map.
 
-use super::{copied, done, no_text, Bytes, Map, NO_SOURCE};
+use super::{copied, done, no_text, Bytes, Map};
 use crate::error::{Error, Refused};
 use crate::sys;
 use std::cell::Cell;
@@ -30,7 +30,7 @@ impl<'a> Inners<'a> {
             // The handle is as it was.
             drop(Map::full(map));
         }
-        done(status, || Refused::composition(NO_SOURCE))
+        done(status, || Refused::new(sys::SMAP_CODE_C1))
     }
 
     /// The next source of which a map is wanted.
@@ -43,7 +43,7 @@ impl<'a> Inners<'a> {
         if status == sys::SMAP_REFUSED && refusal == 0 {
             return Ok(None);
         }
-        done(status, || Refused::composition(refusal))?;
+        done(status, || Refused::new(refusal))?;
         Ok(Some(source))
     }
 
@@ -62,7 +62,7 @@ impl<'a> Inners<'a> {
         let call = |bytes| unsafe {
             sys::smap_compose_all(outer, inners, &options, bytes, refusal.as_ptr())
         };
-        Bytes::of(call, || Refused::composition(refusal.get()))
+        Bytes::of(call, || Refused::new(refusal.get()))
     }
 }
 

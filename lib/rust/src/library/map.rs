@@ -24,10 +24,10 @@ impl Reading {
 }
 
 const NO_URL: sys::smap_refusal = sys::smap_refusal {
-    number: sys::SMAP_BASE_NO_URL,
-    fault: 0,
+    code: sys::SMAP_CODE_USAGE,
+    cause: 0,
     line: 0,
-    build: 0,
+    has_section: 0,
     section: 0,
     byte: 0,
 };
@@ -50,7 +50,7 @@ impl Map {
     pub(crate) fn read(bytes: &[u8], base: Option<&str>, how: Reading) -> Result<Map, Error> {
         let (base_bytes, base_length) = match base {
             // To the library that would be none.
-            Some("") => return Err(Refused::map(NO_URL, base)),
+            Some("") => return Err(Refused::map(NO_URL, base).into()),
             Some(base) => (base.as_ptr(), base.len()),
             None => (&NOTHING as *const u8, 0),
         };
@@ -163,7 +163,7 @@ impl Map {
 
     pub(crate) fn written(&self) -> Result<Bytes, Error> {
         let call = |bytes| unsafe { sys::smap_map_write(self.handle(), bytes) };
-        Bytes::of(call, Refused::writing)
+        Bytes::of(call, || Refused::new(sys::SMAP_CODE_O1))
     }
 
     /// How many bytes of the generated file each source makes, and how many none does.
@@ -176,7 +176,7 @@ impl Map {
             let (rest, why) = (&mut unmapped, &mut refusal);
             sys::smap_bytes_by_source(self.handle(), bytes, length, numbers, places, rest, why)
         };
-        done(status, || Refused::generated(refusal))?;
+        done(status, || Refused::new(refusal))?;
         Ok((sources, unmapped))
     }
 
@@ -188,7 +188,7 @@ impl Map {
             let (bytes, length) = (generated.as_ptr(), generated.len());
             sys::smap_fit(self.handle(), bytes, length, &mut counts, &mut refusal)
         };
-        done(status, || Refused::generated(refusal))?;
+        done(status, || Refused::new(refusal))?;
         Ok(counts)
     }
 
@@ -201,7 +201,7 @@ impl Map {
         let (outer, inner, refusal) = (self.handle(), inner.handle(), Cell::new(0));
         let call =
             |bytes| unsafe { sys::smap_compose(outer, source, inner, bytes, refusal.as_ptr()) };
-        Bytes::of(call, || Refused::composition(refusal.get()))
+        Bytes::of(call, || Refused::new(refusal.get()))
     }
 
     /// A handle of its own of the same map, which another thread may have.

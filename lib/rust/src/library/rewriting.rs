@@ -33,7 +33,7 @@ impl Rewriting {
     pub(crate) fn give(&mut self, bytes: &[u8]) -> Result<(), Error> {
         let (text, start) = (&mut self.handle, bytes.as_ptr());
         let status = unsafe { sys::smap_rewriting_give(text, start, bytes.len()) };
-        done(status, Refused::too_much)
+        done(status, || Refused::new(sys::SMAP_CODE_X3))
     }
 
     /// Tells it that the text ends.

@@ -35,7 +35,7 @@ impl Table {
             // The map stays in its handle, and after no other status.
             drop(Map::full(map));
         }
-        done(status, || Refused::table(refusal))
+        done(status, || Refused::new(refusal))
     }
 
     pub(super) fn handle(&mut self) -> &mut sys::smap_table {
@@ -49,7 +49,7 @@ impl Table {
             let (table, url, length) = (&mut self.handle, url.as_ptr(), url.len());
             sys::smap_table_add_shared(table, url, length, map.handle(), &mut refusal)
         };
-        done(status, || Refused::table(refusal))
+        done(status, || Refused::new(refusal))
     }
 
     /// What answers at a position in the map of a URL, which has one by itself, without its query and

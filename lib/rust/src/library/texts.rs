@@ -1,13 +1,18 @@
 //! What the library says of refusals, and of itself.
 
-use super::{copied, no_text, Bytes};
+use super::{copied, lent, no_text, Bytes};
 use crate::error::{Error, Reason, Refused};
 use crate::sys;
+use std::str;
 
-/// What is said of a refusal of a map file.
-pub(crate) fn refusal_text(refusal: &sys::smap_refusal) -> Result<String, Error> {
-    let call = |bytes| unsafe { sys::smap_refusal_text(refusal, bytes) };
-    Ok(Bytes::of(call, Refused::nothing)?.to_text())
+/// What the program prints of a code, which stays where it is.
+pub(crate) fn code_text(code: sys::smap_code) -> &'static str {
+    let mut text = no_text();
+    let words = unsafe {
+        sys::smap_code_text(code, &mut text);
+        lent(&text)
+    };
+    str::from_utf8(words).unwrap_or_default()
 }
 
 /// Why the file of these bytes is refused so. Of a refusal that no map has, nothing.
@@ -16,8 +21,8 @@ pub(crate) fn reason(bytes: &[u8], refusal: &sys::smap_refusal) -> Result<Option
     let call = |text| unsafe {
         sys::smap_refusal_explain(bytes.as_ptr(), bytes.len(), refusal, &mut known, text)
     };
-    let text = match Bytes::of(call, Refused::nothing) {
-        Ok(text) => text.to_text(),
+    let lines = match Bytes::of(call, Refused::nothing) {
+        Ok(lines) => lines.to_text(),
         Err(Error::Refused(_)) => return Ok(None),
         Err(error) => return Err(error),
     };
@@ -26,40 +31,12 @@ pub(crate) fn reason(bytes: &[u8], refusal: &sys::smap_refusal) -> Result<Option
         least: (known.has_least != 0).then_some(known.least),
         most: (known.has_most != 0).then_some(known.most),
         column: (known.has_column != 0).then_some(known.generated_column),
-        text,
+        // The first line is that of the refusal.
+        text: lines
+            .split_once('\n')
+            .map_or("", |(_, text)| text)
+            .to_string(),
     }))
-}
-
-/// What a call lends that says something of a number.
-fn said(
-    call: unsafe extern "C" fn(u32, *mut sys::smap_text) -> u32,
-    number: u32,
-) -> Option<String> {
-    let mut text = no_text();
-    unsafe {
-        let status = call(number, &mut text);
-        (status == sys::SMAP_DONE).then(|| copied(&text))
-    }
-}
-
-pub(crate) fn compose_refusal_text(number: u32) -> Option<String> {
-    said(sys::smap_compose_refusal_text, number)
-}
-
-pub(crate) fn generated_refusal_text(number: u32) -> Option<String> {
-    said(sys::smap_generated_refusal_text, number)
-}
-
-pub(crate) fn rewrite_refusal_text(number: u32) -> Option<String> {
-    said(sys::smap_rewrite_refusal_text, number)
-}
-
-pub(crate) fn table_refusal_text(number: u32) -> Option<String> {
-    said(sys::smap_table_refusal_text, number)
-}
-
-pub(crate) fn write_refusal_text(number: u32) -> Option<String> {
-    said(sys::smap_write_refusal_text, number)
 }
 
 /// The version, which stays where it is.

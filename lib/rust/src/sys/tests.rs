@@ -66,10 +66,17 @@ fn wanted(header: &str) -> BTreeSet<String> {
     let mut parts: Vec<_> = header.lines().filter_map(constant).collect();
     let mut rest = code.as_str();
     while let Some((before, after)) = rest.split_once(';') {
-        if let Some((name, _)) = before.split_once('{') {
+        if let Some(codes) = before.trim().strip_prefix("enum{") {
+            parts.extend(numbered(codes.trim_end_matches('}')));
+            rest = after;
+        } else if let Some((name, _)) = before.split_once('{') {
             let (fields, after) = rest.split_once('}').expect("a struct ends");
             parts.push(structure(name, &fields[name.len() + 1..]));
             rest = after.split_once(';').expect("a typedef ends").1;
+        } else if let Some(alias) = before.trim().strip_prefix("typedef ") {
+            let (of, name) = alias.split_once(' ').expect("a type has a name");
+            parts.push(format!("pub type {} = {}", name, rust_type(of, 0)));
+            rest = after;
         } else {
             parts.push(function(before));
             rest = after;
@@ -86,6 +93,13 @@ fn constant(line: &str) -> Option<String> {
         }
         _ => None,
     }
+}
+
+/// The codes, the first of which has the number 1.
+fn numbered(codes: &str) -> Vec<String> {
+    let names = codes.split(',').map(|code| code.trim_end_matches(" = 1"));
+    let code = |(place, name)| format!("pub const {}: smap_code = {}", name, place + 1);
+    names.enumerate().map(code).collect()
 }
 
 fn structure(name: &str, fields: &str) -> String {
@@ -125,7 +139,7 @@ fn begins_part(line: &str) -> bool {
     let is_constant =
         line.starts_with("#define SMAP_") && !line.contains('{') && line != "#define SMAP_H";
     is_constant
-        || line.starts_with("typedef struct ")
+        || line.starts_with("typedef ")
         || line.starts_with("uint32_t smap_")
         || line.starts_with("void smap_")
 }
@@ -135,7 +149,8 @@ fn declarations_are_those_of_the_header() {
     let header = std::fs::read_to_string(env!("SMAP_HEADER")).expect("the header is there");
     let (wanted, given) = (wanted(&header), given(include_str!("../sys.rs")));
     let laid_out = include_str!("../sys.rs").matches("#[repr(C)]").count();
-    let parts = header.lines().filter(|line| begins_part(line)).count();
+    let codes = header.matches("SMAP_CODE_").count();
+    let parts = codes + header.lines().filter(|line| begins_part(line)).count();
     assert_eq!(wanted.len(), parts, "the header is not understood");
     assert_eq!(laid_out, header.matches("typedef struct").count());
     let missing: Vec<_> = wanted.difference(&given).collect();
@@ -189,11 +204,11 @@ fn sizes_and_offsets_are_those_of_the_c_compiler() {
         smap_store: at;
         smap_rewriting: at;
         smap_text: bytes length;
-        smap_refusal: number fault line build section byte;
+        smap_refusal: code cause line has_section section byte;
         smap_reason: value least most generated_column has_value has_least has_most has_column;
         smap_found: kind generated_column source line column named name;
         smap_mapping: line column kind source original_line original_column named name;
-        smap_encode_refusal: number mapping;
+        smap_encode_refusal: code mapping;
         smap_position: line column;
         smap_generated_place: line column original_line original_column;
         smap_generated_places: places count;
@@ -206,7 +221,7 @@ fn sizes_and_offsets_are_those_of_the_c_compiler() {
         smap_line_range: first count;
         smap_rewrite_options: hide_ignored anywhere strip_ansi cut;
         smap_trace_count: lines frames mapped hidden;
-        smap_rewrite_refusal: number lines;
+        smap_rewrite_refusal: code lines;
         smap_store_counts: bytes count none_bytes none_count asked hits dropped own_bytes;
         smap_rewriting_options: hide_ignored anywhere strip_ansi asks most most_output;
         smap_frame_url: start length next;

@@ -1,4 +1,5 @@
 use Rattle.std.proofs.Common.{◌≡◌, ◌∙◌, ◌<◌, ℕ, ap, arith, inl, inr, length, sym, take}
+use Rattle.smap_codes.specs.declared.code.Code.TheVariants.{X5}
 use Rattle.smap_c.specs.Trace.{IsRefusedFor, line_ends, rewrite_refused, text_read}
 use Rattle.smap_c.proofs.RewriteLaws.{front_of, if_held, is_long, too_much_read}
 use Rattle.smap_c.proofs.trace.smap_rewrite_within.Goals as goal
@@ -16,7 +17,7 @@ returns-then-len-most-clause-refused c =
     (λ _. inr (inr (
       sym c.is_for_all.ensures ∙ c.if-is_for_all.false,
       is_long options table read written front c.args.most _ over
-          (c.refused-then-len-most.ensures ∙ (λ i. rewrite_refused (c.number.ensures i) (lines i))),
+          (c.refused-then-len-most.ensures ∙ ap (rewrite_refused X5) lines),
     )))
 
 pub returns-clause-refused : goal.returns-clause-refused
