@@ -1,6 +1,5 @@
 //! What texts, URLs and prefixes begin with in common.
-use smap_locations::{ByText, common_front};
-use smap_locations::Locations;
+use smap_locations::{ByText, Locations, common_front};
 use smap_record::MapFile;
 use smap_trace::Table;
 use std::test::Fail;

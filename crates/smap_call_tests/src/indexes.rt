@@ -1,8 +1,8 @@
 //! Indexes: what they hold, what they answer, and with how many comparisons and segments.
 use crate::same::assert_same;
 use crate::shown::{answer_text, held_text};
-use smap_index::{Answer, Index, Part};
-use smap_mappings::{Meter, PackedText};
+use smap_index::{Answer, Index, MarkedText, Part};
+use smap_mappings::{Meter, PackedText, TextCheck};
 use std::alloc::{AllocError, Global};
 use std::process::Abort;
 use std::test::Fail;
@@ -150,4 +150,50 @@ fn an_index_of_no_part_is_empty(rt: HostRuntime) -> Result<(), Fail> {
         assert!(&rt; index.checkpoints() == 0);
     }
     Ok(())
+}
+
+#[test]
+fn a_text_is_checked_and_marked_at_once(rt: HostRuntime) -> Result<(), Fail> {
+    // Four segments, two, none and one stand on its lines.
+    let text = String::from_str(rt.alloc(), "AAAA,C,C,C;C,C;;C")?;
+    let Ok(marked) = MarkedText::check(rt.alloc(), text, 1, 0, 2) else {
+        return Err(Fail::new("the text is refused"));
+    };
+    let index = Index::of_text(rt.alloc(), marked)?;
+    assert!(&rt; index.checkpoints() == 4 && index.segments() == 7 && index.used_lines() == 3);
+    let (answer, meter) = asked(rt.alloc(), &index, Direction::Before, 0, 3);
+    assert!(&rt; answer == Answer::Unmapped { column: 3 } && meter.segments() == 1);
+    Ok(())
+}
+
+#[test]
+fn a_long_line_is_marked(rt: HostRuntime) -> Result<(), Fail> {
+    let mut text = String::from_str(rt.alloc(), "AAAA")?;
+    for _ in 0..99 {
+        text.push_str(",CAAC")?;
+    }
+    let Ok(marked) = MarkedText::check(rt.alloc(), text, 1, 0, 10) else {
+        return Err(Fail::new("the text is refused"));
+    };
+    let index = Index::of_text(rt.alloc(), marked)?;
+    assert!(&rt; index.checkpoints() == 10 && index.segments() == 100 && index.used_lines() == 1);
+    Ok(())
+}
+
+#[test]
+fn a_check_gives_segments_and_the_text(rt: HostRuntime) -> Result<(), Fail> {
+    let Ok(mut check) = TextCheck::begin(String::from_str(rt.alloc(), "AAAA,D")?, 1, 0) else {
+        return Err(Fail::new("the text is short"));
+    };
+    let Some((_, after)) = check.next() else {
+        return Err(Fail::new("the first segment has no fault"));
+    };
+    assert!(&rt; after.cursor().place == 4 && check.pass(9) == 0 && check.next().is_none());
+    match check.finish() {
+        Ok(_) => Err(Fail::new("the column falls")),
+        Err((fault, text)) => {
+            assert!(&rt; fault.byte == 5 && text.as_str() == "AAAA,D");
+            Ok(())
+        }
+    }
 }

@@ -1,6 +1,5 @@
 //! A map that several hold.
-use smap_record::{Answer, MapFile, Meter, SourceName};
-use smap_record::SharedMap;
+use smap_record::{Answer, MapFile, Meter, SharedMap, SourceName};
 use std::alloc::{AllocError, Global};
 use std::process::Abort;
 use std::test::Fail;

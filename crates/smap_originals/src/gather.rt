@@ -8,9 +8,9 @@ ghost use Rattle.smap_originals.specs.Private.Run.{IsColumnInRange};
 
 use crate::place::GeneratedPlace;
 use crate::places::Places;
+use smap_fit::segments_by_source;
 use smap_mappings::Mapping;
 use smap_record::MapFile;
-use smap_fit::segments_by_source;
 use std::alloc::{AllocError, Global};
 
 // The places of each source in the order of the map. Their room is made once.

@@ -12,9 +12,8 @@ ghost use Rattle.smap_text.specs.Lines.{lines_behind, lines_of};
 
 use crate::map_text::put_json_text;
 use crate::output::Output;
-use smap_text::{rest_from, shown_bytes};
 use smap_record::SourceEntry;
-use smap_text::split_line;
+use smap_text::{rest_from, shown_bytes, split_line};
 
 /// Puts the member with the lines of a source around this one, from 0, up to so many on each side, where they are asked for
 /// and the map has the line.

@@ -17,9 +17,8 @@ use crate::map_text::put_json_text;
 use crate::output::{Output, put_number};
 use crate::text_form::put_source;
 use smap_command::{Form, SourceOptions};
-use smap_fit::fit_of;
+use smap_fit::{SourceRow, fit_of, source_table};
 use smap_record::{MapFile, SourceEntry, is_ignored, source_name};
-use smap_fit::{SourceRow, source_table};
 use std::alloc::{AllocError, Global};
 
 /// What is printed of the sources of a map, a line each as JSON or as text: its index, how many segments it has and, where
