@@ -7,8 +7,8 @@ use crate::status::{DONE, REFUSED};
 use crate::texts::Text;
 use smap_codes::{Code, all};
 
-/// Lends what the program prints of the code of this number, as `M14 Text`. There is no code of the number 0, nor of one that
-/// is more than there are.
+/// Lends what the program prints of the code of this number, as `M14 Text`. There is no code of the number 0, nor of one
+/// that is more than there are.
 #[unsafe(no_mangle)]
 pub extern "C" fn smap_code_text(number: u32, text: &mut Text<'_>) -> u32
     ensures { MatchOption (code_at number) ((result ≡ 1) × (text.new ≡ text.old))

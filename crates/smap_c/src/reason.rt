@@ -29,9 +29,9 @@ pub struct Reason {
     pub has_column: u32,
 }
 
-/// Says why the map file of these bytes, which is refused so, is refused: by what the program prints behind the path, in a line;
-/// in indented lines below it, none where nothing more is known; and by the value that is wrong. Each line ends with an LF. The
-/// file is read again.
+/// Says why the map file of these bytes, which is refused so, is refused: by what the program prints behind the path, in a
+/// line; in indented lines below it, none where nothing more is known; and by the value that is wrong. Each line ends with
+/// an LF. The file is read again.
 #[unsafe(no_mangle)]
 pub extern "C" fn smap_refusal_explain(
     alloc: Global,

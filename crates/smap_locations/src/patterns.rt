@@ -20,8 +20,8 @@ use crate::text_places::TextPlaces;
 use std::alloc::{AllocError, Global};
 use std::marker::Model;
 
-/// Patterns, in the order in which they were added. A URL's are found by their texts: in the time of a look-up for each length
-/// that they have, and, of those of folders, for each piece of the URL.
+/// Patterns, in the order in which they were added. A URL's are found by their texts: in the time of a look-up for each
+/// length that they have, and, of those of folders, for each piece of the URL.
 #[derive(Drop)]
 pub struct Patterns {
     all: Vec<Pattern>,

@@ -68,7 +68,8 @@ impl TextPlaces {
 // Puts a length among others, where it is not there.
 fn add_length(lengths: &mut Vec<usize>, length: usize) -> Result<(), AllocError>
     ensures has { OnOk result (Contains lengths.new.items length) }
-    ensures others { (other : ℕ) → Contains lengths.old.items other → Contains lengths.new.items other }
+    ensures others { (other : ℕ) → Contains lengths.old.items other →
+        Contains lengths.new.items other }
 {
     match lengths.binary_search(&length) {
         Ok(_) => Ok(()),
