@@ -25,5 +25,6 @@ pub mod WalkLaws
 pub mod JoinedLaws
 pub mod PartLaws
 pub mod WholeTextLaws
+pub mod MarkedLaws
 pub mod SameLimits
 pub mod Examples

@@ -1,6 +1,6 @@
 //! An index: the parts of a map, and the table of checkpoints from which positions are looked up in them.
 
-ghost use Rattle.std.specs.Prelude.{◌≡◌, ℕ, ◌+◌, ◌-◌, ◌*◌, ◌/◌, ◌^◌, ◌<◌, ◌≤◌, ◌∷◌, [], length, IfOk, OnOk, false, option_map, string_bytes};
+ghost use Rattle.std.specs.Prelude.{◌≡◌, ℕ, ◌+◌, ◌-◌, ◌*◌, ◌/◌, ◌^◌, ◌<◌, ◌≤◌, None, Err, length, IfOk, OnOk, false, option_map, string_bytes};
 ghost use Rattle.std.specs.Option.{option_copied};
 ghost use Rattle.smap_index.specs.Checkpoint.{mapping_of};
 ghost use Rattle.std.specs.List.{All, list_any};
@@ -11,7 +11,8 @@ ghost use Rattle.smap_mappings.specs.Canonical.{canonical_text};
 ghost use Rattle.smap_mappings.specs.Exact.{IsExactOr};
 ghost use Rattle.smap_mappings.specs.Meter.{HasRoom};
 ghost use Rattle.smap_mappings.specs.Order.{IsInOrder};
-ghost use Rattle.smap_index.specs.Parts.{most_parts, joined, bytes_in, whole_text};
+ghost use Rattle.smap_index.specs.Marked.{AreMarksOf};
+ghost use Rattle.smap_index.specs.Parts.{most_parts, joined, bytes_in};
 ghost use Rattle.smap_index.specs.Marks.{marks, used_lines_in, HasFewMarksOnEachLine};
 ghost use Rattle.smap_index.specs.Faults.{build_fault, encode_all_fault};
 ghost use Rattle.smap_mappings.specs.Range.{is_mapping_past_limit};
@@ -26,7 +27,7 @@ use crate::encode::{encode_only, length_of_parts, only_text, write_parts};
 use crate::interval::is_interval;
 use crate::joined::{JoinedMappings, joined};
 use crate::mark::mark_parts;
-use crate::marked::MarkedText;
+use crate::marked::TextMarks;
 use crate::order::first_out_of_order;
 use crate::part::Part;
 use crate::refusal::{BuildRefusal, EncodeAllRefusal};
@@ -34,7 +35,7 @@ use crate::resume::decode_after;
 use crate::search::nearest_checkpoints;
 use crate::totals::{most_checkpoints, totals_of};
 use smap_mappings::laws::{accepted_texts_have_no_fault, lists_in_order_have_no_fault};
-use smap_mappings::{Mapping, Meter, PackedText};
+use smap_mappings::{Mapping, Meter};
 use std::alloc::{AllocError, Global};
 use std::marker::Model;
 
@@ -99,28 +100,28 @@ impl Index {
         })
     }
 
-    /// Builds the index of a text that is the one part and begins at the start, as `build` does, with the checkpoints that
-    /// were made when the text was checked.
-    pub fn of_text(alloc: Global, marked: MarkedText) -> Result<Index, BuildRefusal>
-        ensures { IsExactOr BuildRefusal.Memory result
-            (build_fault (whole_text marked.text ∷ []) marked.k)
-            (λ index. IsIndexOf index (whole_text marked.text ∷ []) marked.k) }
+    /// Builds the index of parts that are one text, as `build` does, with the checkpoints that were made when the text was
+    /// checked. The call takes no memory: `Memory` says that there was no room for the checkpoints.
+    pub fn of_marks(parts: Vec<Part>, marks: TextMarks) -> Result<Index, BuildRefusal>
+        requires { AreMarksOf parts.items marks }
+        ensures index { IsExactOr BuildRefusal.Memory result (build_fault parts.items marks.k)
+            (λ index. IsIndexOf index parts.items marks.k) }
+        ensures memory { result ≡ Err BuildRefusal.Memory → marks.checkpoints ≡ None }
     {
-        let k = marked.k();
+        let (k, table) = marks.into_fields();
         if !is_interval(k) {
             return Err(BuildRefusal::Interval);
         }
-        let (text, table, has_room) = marked.into_fields();
         // By this law no number of a text itself is past the limit.
         accepted_texts_have_no_fault();
         // The contract of `start` says that the text is accepted.
-        let _start = text.start();
-        let Ok(parts) = whole_parts(alloc, text) else {
+        let _start = match parts.first() {
+            Some(part) => part.text.start(),
+            None => unreachable!("the parts are one text"),
+        };
+        let Some(table) = table else {
             return Err(BuildRefusal::Memory);
         };
-        if !has_room {
-            return Err(BuildRefusal::Memory);
-        }
         let totals = totals_of(&parts);
         Ok(Index {
             parts,
@@ -297,21 +298,6 @@ impl Index {
             Err(_) => Err(EncodeAllRefusal::Memory),
         }
     }
-}
-
-// A text as the one part, which begins at the start.
-fn whole_parts(alloc: Global, text: PackedText) -> Result<Vec<Part>, AllocError>
-    ensures { IfOk result (λ parts. parts.items ≡ whole_text text ∷ []) }
-{
-    let mut parts = Vec::new(alloc);
-    parts.push(Part {
-        line: 0,
-        column: 0,
-        text,
-        source_base: 0,
-        name_base: 0,
-    })?;
-    Ok(parts)
 }
 
 #[inline(always)]

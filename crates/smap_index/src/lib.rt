@@ -37,7 +37,7 @@ pub use answer::{Answer, Neighbours};
 pub use index::Index;
 pub use interval::MOST_INTERVAL;
 pub use joined::JoinedMappings;
-pub use marked::MarkedText;
+pub use marked::{MarkedText, TextMarks};
 pub use part::Part;
 pub use refusal::{BuildRefusal, EncodeAllRefusal};
 pub use refused::{first_after_offset, first_past_limit};

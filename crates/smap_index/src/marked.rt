@@ -12,7 +12,8 @@ ghost use Rattle.smap_mappings.specs.State.{mapping_at};
 ghost use Rattle.smap_mappings.specs.Within.{IsWithin};
 ghost use Rattle.smap_mappings.specs.declared.fault.Fault.{Fault};
 ghost use Rattle.smap_mappings.specs.declared.packed_text.TextRefusal.{TextRefusal};
-ghost use Rattle.smap_index.specs.Marks.{marked_segments, AreCheckpointsOf, IsCheckpointIn};
+ghost use Rattle.smap_index.specs.Marked.{AreMarksOf};
+ghost use Rattle.smap_index.specs.Marks.{marked_segments, IsCheckpointIn};
 ghost use Rattle.smap_index.specs.Parts.{placed, whole_text};
 ghost use Rattle.smap_index.specs.Private.Walk.{checkpoint_at};
 
@@ -24,33 +25,54 @@ use smap_mappings::{Cursor, Kind, PackedText, TextCheck, TextRefusal};
 use std::alloc::Global;
 use std::marker::Model;
 
-/// A text that was checked, with the checkpoints that an index at the interval `k` has of it where it is the one part and
-/// begins at the start.
+/// The checkpoints that an index at the interval `k` has of a text that is its one part and begins at the start, or that
+/// there was no room for them.
+#[derive(Drop)]
+pub struct TextMarks {
+    k: u32,
+    table: Option<Checkpoints>,
+}
+
+impl Model for TextMarks {
+    ghost use Rattle.smap_index.specs.Marked.{MarksContents};
+
+    ghost Value = { MarksContents };
+
+    ghost view = { λ m. record { k = m.k; checkpoints = m.table } };
+}
+
+impl TextMarks {
+    // The interval, and the checkpoints where there was room for them.
+    pub(crate) fn into_fields(self) -> (u32, Option<Checkpoints>)
+        ensures interval { result.0 ≡ self.k }
+        ensures table { result.1 ≡ self.checkpoints }
+    {
+        (self.k, self.table)
+    }
+}
+
+/// A text that was checked, with its checkpoints.
 #[derive(Drop)]
 pub struct MarkedText {
     text: PackedText,
-    k: u32,
-    table: Checkpoints,
-    has_room: bool,
+    marks: TextMarks,
 }
 
 impl Model for MarkedText {
-    ghost use Rattle.std.specs.Prelude.{◌≡◌, ◌∷◌, [], true};
-    ghost use Rattle.smap_index.specs.Marks.{AreCheckpointsOf};
-    ghost use Rattle.smap_index.specs.Marked.{MarkedContents};
+    ghost use Rattle.std.specs.Prelude.{◌∷◌, []};
+    ghost use Rattle.smap_index.specs.Marked.{AreMarksOf, MarkedContents};
     ghost use Rattle.smap_index.specs.Parts.{whole_text};
 
     ghost Value = { MarkedContents };
 
-    ghost view = { λ m. record { text = m.text; k = m.k } };
+    ghost view = { λ m. record { text = m.text; marks = m.marks } };
 
-    ghost invariant = { λ m. m.has_room ≡ true →
-        AreCheckpointsOf (whole_text m.text ∷ []) m.k m.table };
+    ghost invariant = { λ m. AreMarksOf (whole_text m.text ∷ []) m.marks };
 }
 
 impl MarkedText {
     /// Takes a text as `PackedText::check` does, and goes through it once for its faults and for the checkpoints of its
-    /// index at the interval `k`. It refuses what that call refuses, and nothing else: `Index::of_text` says where the
+    /// index at the interval `k`. It refuses what that call refuses, and nothing else: `Index::of_marks` says where the
     /// interval is none, or where there was no room for the checkpoints.
     pub fn check(
         alloc: Global,
@@ -62,7 +84,8 @@ impl MarkedText {
         ensures accepted { IsOk result ↔ ((length (string_bytes text) ≤ most_text_bytes)
             × IsAccepted (string_bytes text) sources names) }
         ensures inside { IfOk result (λ marked.
-            (marked.text ≡ string_bytes text) × (marked.k ≡ k)) }
+            (marked.text ≡ string_bytes text) × (marked.marks.k ≡ k)) }
+        ensures clean { OnOk result (first_fault (string_bytes text) sources names ≡ None) }
         ensures within { OnOk result (All (IsWithin sources names)
             (mappings_of (string_bytes text))) }
         ensures too_long { IfErr result (λ e.
@@ -83,29 +106,23 @@ impl MarkedText {
                 let _start = text.start();
                 Ok(MarkedText {
                     text,
-                    k,
-                    table,
-                    has_room,
+                    marks: TextMarks {
+                        k,
+                        table: if has_room { Some(table) } else { None },
+                    },
                 })
             }
             Err((fault, text)) => Err((TextRefusal::Fault(fault), text)),
         }
     }
 
-    // The text, its checkpoints and whether there was room for them.
-    pub(crate) fn into_fields(self) -> (PackedText, Checkpoints, bool)
+    /// The text and its checkpoints.
+    pub fn into_fields(self) -> (PackedText, TextMarks)
         ensures text { result.0 ≡ self.text }
-        ensures marked { IsTrue result.2 →
-            AreCheckpointsOf (whole_text self.text ∷ []) self.k result.1 }
+        ensures marks { result.1 ≡ self.marks }
+        ensures marked { AreMarksOf (whole_text self.text ∷ []) self.marks }
     {
-        (self.text, self.table, self.has_room)
-    }
-
-    // The interval.
-    pub(crate) fn k(&self) -> u32
-        ensures { result ≡ self.now.k }
-    {
-        self.k
+        (self.text, self.marks)
     }
 }
 

@@ -18,10 +18,8 @@ use Rattle.smap_mappings.specs.Private.Step.{faulty_from, IsStep}
 use Rattle.smap_mappings.specs.Private.Walk.{ChecksUpTo, WalksUpTo}
 use Rattle.smap_mappings.specs.declared.cursor.Cursor.{Cursor}
 use Rattle.smap_mappings.specs.declared.cursor.TheConstants.Cursor.{START}
-use Rattle.smap_mappings.specs.declared.fault.Fault.{Fault}
 use Rattle.smap_mappings.specs.declared.fault.FaultKind.{FaultKind}
 use Rattle.smap_mappings.specs.declared.mapping.Mapping.{Mapping}
-use Rattle.smap_mappings.specs.declared.walk.Walk.{Walk}
 use Rattle.smap_mappings.specs.declared.walk.TheConstants.Walk.{START as NO_SEGMENT}
 use Rattle.smap_mappings.proofs.SegmentLaws.{segments_at_end}
 use Rattle.smap_mappings.proofs.DeltaLaws.{below_line}

@@ -1,8 +1,8 @@
 -- The numbers of a segment, cut after each digit that ends one.
-use Rattle.std.proofs.Common.{◌≡◌, ℕ, ◌+◌, ◌-◌, ◌<◌, ◌≤◌, Bool, true, false, List, [], ◌∷◌, ◌++◌, length, get_or, take, drop, Option, Some, None, refl}
-use Rattle.std.proofs.Common.{◌*◌, ◌%◌, ◌^◌, zero-add, length-take-le, sym, ap, subst, ◌∙◌, arith, cond, ⊎_elim, length-drop, length-append, get_or-drop, append_assoc}
+use Rattle.std.proofs.Common.{◌≡◌, ℕ, ◌+◌, ◌-◌, ◌<◌, ◌≤◌, true, false, List, [], ◌∷◌, ◌++◌, length, get_or, take, drop, Option, Some, None, refl}
+use Rattle.std.proofs.Common.{◌*◌, ◌%◌, ◌^◌, zero-add, length-take-le, sym, ap, subst, ◌∙◌, arith, length-drop, length-append, get_or-drop, append_assoc}
 use Rattle.std.specs.Prelude.{ℤ, slice_range}
-use Rattle.std.specs.List.{onto_first, list_any, find}
+use Rattle.std.specs.List.{onto_first, list_any}
 use Rattle.std.specs.Option.{option_map}
 use Rattle.std.proofs.lemmas.Bool.{cond-true, cond-false, or_parts, or_from}
 use Rattle.std.proofs.lemmas.List.{take_more, drop_more, take_at, take_all, drop_all}

@@ -109,7 +109,7 @@ impl TextCheck {
             &self.walk,
             self.sources,
             self.names,
-            most,
+            Some(most),
         );
         (self.walk.segments - before) as u32
     }

@@ -1,5 +1,5 @@
 //! The walk through a text that is checked, over segments that have no fault.
-ghost use Rattle.std.specs.Prelude.{◌≡◌, ◌+◌, ◌<◌, ◌≤◌, ℕ, length, slice_index, is_some, IfSome, IfNone, None, true};
+ghost use Rattle.std.specs.Prelude.{◌≡◌, ◌+◌, ◌<◌, ◌≤◌, ℕ, length, slice_index, is_some, IfSome, IfNone, None, false, true};
 ghost use Rattle.smap_mappings.specs.Limits.{most_text_bytes};
 ghost use Rattle.smap_mappings.specs.Accepted.{are_in_range};
 ghost use Rattle.smap_mappings.specs.TextCheck.{AreOnLine};
@@ -42,7 +42,7 @@ pub fn walk_whole(bytes: &[u8], sources: u32, names: u32) -> Walk
 {
     let mut walk = Walk::START;
     while let Some((_, first)) = walk_next(bytes, &walk, sources, names) {
-        walk = walk_line(bytes, &first, sources, names, u32::MAX);
+        walk = walk_line(bytes, &first, sources, names, None);
     }
     walk
 }
@@ -72,24 +72,25 @@ pub fn walk_next(bytes: &[u8], walk: &Walk, sources: u32, names: u32) -> Option<
     ))
 }
 
-// The walk over at most this many further segments of a line, up to one that is not joined to the one before by one `,`
-// alone, or for which the straight way does not do.
+// The walk over further segments of a line, at most this many where there is a bound, up to one that is not joined to the
+// one before by one `,` alone, or for which the straight way does not do. A caller without a bound pays for none, as the
+// call is inlined.
 #[inline(always)]
-pub fn walk_line(bytes: &[u8], walk: &Walk, sources: u32, names: u32, most: u32) -> Walk
+pub fn walk_line(bytes: &[u8], walk: &Walk, sources: u32, names: u32, most: Option<u32>) -> Walk
     requires short { length bytes.now ≤ most_text_bytes }
     requires walked { WalksUpTo bytes.now sources names walk.now }
     requires some { 0 < walk.now.segments }
     ensures walked { WalksUpTo bytes.now sources names result }
     ensures onward { walk.now.at.place ≤ result.at.place }
     ensures further { walk.now.segments ≤ result.segments }
-    ensures few { result.segments ≤ walk.now.segments + most }
+    ensures few { IfSome most (λ most. result.segments ≤ walk.now.segments + most) }
     ensures line { result.at.line ≡ walk.now.at.line }
     ensures on_line { AreOnLine bytes.now walk.now.at.line walk.now.segments result.segments }
 {
-    let end = walk.segments + u64::from(most);
+    let start = walk.segments;
     let mut walk = *walk;
     while is_joined(bytes, walk.at.place) {
-        if walk.segments >= end {
+        if is_at_end(walk.segments - start, most) {
             return walk;
         }
         let next = Cursor {
@@ -106,6 +107,17 @@ pub fn walk_line(bytes: &[u8], walk: &Walk, sources: u32, names: u32, most: u32)
         };
     }
     walk
+}
+
+// Whether a walk has passed as many segments as it may, where there is a bound.
+#[inline(always)]
+fn is_at_end(passed: u64, most: Option<u32>) -> bool
+    ensures { result ≡ false → IfSome most (λ most. passed < most) }
+{
+    match most {
+        Some(most) => passed >= u64::from(most),
+        None => false,
+    }
 }
 
 // What the segment at the state's place has and the state after it, if it has no fault.

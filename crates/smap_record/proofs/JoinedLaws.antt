@@ -1,12 +1,16 @@
 -- The sections of a map, one after another.
-use Rattle.std.proofs.Common.{◌≡◌, ℕ, List, [], ◌∷◌, Ok, length, map, option_map, string_bytes, refl, sym, ap, ◌+◌, ◌∙◌}
+use Rattle.std.proofs.Common.{◌≡◌, ℕ, List, [], ◌∷◌, ◌++◌, ◌⊎◌, inl, inr, Option, Some, None, Ok, length, map, option_map, string_bytes, refl, sym, ap, ◌+◌, ◌∙◌, arith}
+use Rattle.std.specs.Prelude.{IfSome}
 use Rattle.std.specs.List.{sum_by}
 use Rattle.std.proofs.lemmas.List.{length-map}
 use Rattle.std.proofs.lemmas.List.Sums.{sum_by-cons}
+use Rattle.smap_index.specs.Marked.{MarksContents}
+use Rattle.smap_index.specs.Parts.{whole_text}
 use Rattle.smap_index.specs.declared.part.Part.{Part}
 use Rattle.smap_record.specs.IndexMap.{SectionEntry, StatedSections, place_after, sections_after, source_count, with_section}
 use Rattle.smap_record.specs.Refusals.{◌>>=◌}
 use Rattle.smap_record.specs.Section.{StatedSection, section_in}
+use Rattle.smap_record.specs.Private.Marked.{AreMarksAt}
 use Rattle.smap_record.specs.Private.Seen.{sources_seen}
 use Rattle.smap_record.specs.Sources.{StatedSources}
 use Rattle.smap_record.specs.declared.section.SectionPlace.{SectionPlace}
@@ -50,3 +54,13 @@ module _ (before : StatedSections) (entry : SectionEntry) (entries : List Sectio
 pub no_more : (before : StatedSections) → sections_after before [] ≡ Ok before
 unfolding sections_after
 no_more before = refl
+
+-- the checkpoints of the last section are those of all parts, as they are made of the only section alone
+pub marks_of_only : (marks : Option MarksContents) (given interval : Option ℕ) (before : List Part) (part : Part) (text : List ℕ)
+    → IfSome marks (AreMarksAt given (whole_text text ∷ []))
+    → (given ≡ None) ⊎ ((given ≡ interval) × (length before ≡ 0) × (part ≡ whole_text text))
+    → IfSome marks (AreMarksAt interval (before ++ part ∷ []))
+marks_of_only None given interval before part text are only = tt
+marks_of_only (Some marks) given interval before part text are (inl none) = let given_is = are.0 in absurd (cc)
+marks_of_only (Some marks) given interval [] part text are (inr only) = rw (only.2) (sym only.0 ∙ are.0, are.1)
+marks_of_only (Some marks) given interval (first ∷ before) part text are (inr only) = let some = only.1 in absurd (omega (arith, some))

@@ -1,4 +1,5 @@
 -- What contracts of private functions alone cite.
 pub mod PartWithin
+pub mod Marked
 pub mod Seen
 pub mod Renamed

@@ -136,9 +136,9 @@ impl MapFile {
             (option_copied base.entry) interval)) }
     {
         let outer = read_outer(alloc, members)?;
-        let joined = read_sections(alloc, outer.entries)?;
+        let joined = read_sections(alloc, outer.entries, Some(interval))?;
         let sections = joined.parts.len() as u64;
-        let index = build_index(alloc, joined.parts, interval)?;
+        let index = build_index(alloc, joined.parts, joined.marks, interval)?;
         check_names(&joined.sources, base, most_names)?;
         let sources = sources(alloc, joined.sources, base)?;
         Ok(MapFile {

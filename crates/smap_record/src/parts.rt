@@ -20,8 +20,9 @@ pub fn file_parts(alloc: Global, bytes: &[u8]) -> Result<Vec<Part>, MapRefusal>
     let outer = read_outer(alloc, members)?;
     let JoinedSections {
         parts,
+        marks: _,
         sources: _,
         names: _,
-    } = read_sections(alloc, outer.entries)?;
+    } = read_sections(alloc, outer.entries, None)?;
     Ok(parts)
 }

@@ -11,6 +11,8 @@ ghost use Rattle.smap_record.specs.Sources.{source_of};
 
 use super::MapFile;
 use crate::entry::SourceEntry;
+use crate::joined::part;
+use crate::section::SectionPlace;
 use smap_index::laws::one_text_is_its_mappings;
 use smap_index::{BuildRefusal, Index, MarkedText};
 use std::alloc::{AllocError, Global};
@@ -49,7 +51,7 @@ impl MapFile {
 fn checked(alloc: Global, text: String, sources: u32, names: u32, k: u32) -> MarkedText
     requires { IsRegularMap sources names (string_bytes text) }
     ensures text { result.text ≡ string_bytes text }
-    ensures interval { result.k ≡ k }
+    ensures interval { result.marks.k ≡ k }
     ensures within { All (IsWithin sources names) (mappings_of result.text) }
 {
     match MarkedText::check(alloc, text, sources, names, k) {
@@ -59,13 +61,15 @@ fn checked(alloc: Global, text: String, sources: u32, names: u32, k: u32) -> Mar
 }
 
 // The index of a text that is the one part.
-fn index_of(alloc: Global, text: MarkedText) -> Result<Index, AllocError>
-    requires sound { part_fault (whole_text text.text ∷ []) ≡ None }
-    requires interval { is_interval text.k ≡ true }
-    ensures parts { IfOk result (λ index. index.parts ≡ whole_text text.text ∷ []) }
-    ensures interval { IfOk result (λ index. index.k ≡ text.k) }
+fn index_of(alloc: Global, marked: MarkedText) -> Result<Index, AllocError>
+    requires sound { part_fault (whole_text marked.text ∷ []) ≡ None }
+    requires interval { is_interval marked.marks.k ≡ true }
+    ensures parts { IfOk result (λ index. index.parts ≡ whole_text marked.text ∷ []) }
+    ensures interval { IfOk result (λ index. index.k ≡ marked.marks.k) }
 {
-    match Index::of_text(alloc, text) {
+    let (text, marks) = marked.into_fields();
+    let parts = vec![in alloc; part(SectionPlace::START, text)]?;
+    match Index::of_marks(parts, marks) {
         Ok(index) => Ok(index),
         Err(refusal) => Err(no_memory(refusal)),
     }

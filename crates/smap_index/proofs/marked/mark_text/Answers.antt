@@ -1,5 +1,4 @@
-use Rattle.std.proofs.Common.{◌≡◌, ◌+◌, ◌<◌, ◌≤◌, ◌++◌, ◌∷◌, cond, eqb, true, [], length, take, refl, subst, sym, ◌∙◌, ap, arith}
-use Rattle.std.specs.List.{AllZip}
+use Rattle.std.proofs.Common.{◌≡◌, ◌+◌, ◌<◌, ◌≤◌, ◌++◌, ◌∷◌, cond, eqb, true, [], take, refl, subst, sym, ◌∙◌, ap, arith}
 use Rattle.smap_mappings.specs.Counts.{segment_count}
 use Rattle.smap_mappings.specs.Mappings.{mappings_of}
 use Rattle.smap_mappings.specs.Order.{IsInOrder}
@@ -7,7 +6,6 @@ use Rattle.smap_mappings.specs.State.{mapping_at}
 use Rattle.smap_mappings.specs.TextCheck.{AreOnLine}
 use Rattle.smap_mappings.specs.declared.cursor.Cursor.{Cursor}
 use Rattle.std.proofs.lemmas.Bool.{and_parts, leb-true}
-use Rattle.smap_index.specs.Marks.{marked_segments, IsCheckpointIn}
 use Rattle.smap_index.specs.Parts.{placed, whole_text}
 use Rattle.smap_mappings.specs.Faults.{first_fault}
 use Rattle.smap_index.specs.Private.Walk.{checkpoint_at, number_after}
