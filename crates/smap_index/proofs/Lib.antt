@@ -18,6 +18,8 @@ pub mod FewOnLineLaws
 pub mod AnswerLaws
 pub mod ResumeLaws
 pub mod IndexLaws
+pub mod StretchLaws
+pub mod LineStartLaws
 pub mod FaultLaws
 pub mod RefusalLaws
 pub mod OrderLaws

@@ -3,6 +3,7 @@ pub mod Parts
 pub mod Checkpoint
 pub mod Marks
 pub mod Marked
+pub mod LineStarts
 pub mod Answer
 pub mod Faults
 pub mod Index

@@ -1,8 +1,6 @@
 //! An index: the parts of a map, and the table of checkpoints from which positions are looked up in them.
 
-ghost use Rattle.std.specs.Prelude.{◌≡◌, ℕ, ◌+◌, ◌-◌, ◌*◌, ◌/◌, ◌^◌, ◌<◌, ◌≤◌, None, Err, length, IfOk, OnOk, false, option_map, string_bytes};
-ghost use Rattle.std.specs.Option.{option_copied};
-ghost use Rattle.smap_index.specs.Checkpoint.{mapping_of};
+ghost use Rattle.std.specs.Prelude.{◌≡◌, ℕ, ◌+◌, ◌-◌, ◌*◌, ◌/◌, ◌^◌, ◌<◌, ◌≤◌, length, IfOk, OnOk, false, string_bytes};
 ghost use Rattle.std.specs.List.{All, list_any};
 ghost use Rattle.smap_mappings.specs.Mappings.{mappings_of};
 ghost use Rattle.smap_mappings.specs.Accepted.{IsAccepted};
@@ -17,11 +15,11 @@ ghost use Rattle.smap_index.specs.Marks.{marks, used_lines_in, HasFewMarksOnEach
 ghost use Rattle.smap_index.specs.Faults.{build_fault, encode_all_fault};
 ghost use Rattle.smap_mappings.specs.Range.{is_mapping_past_limit};
 ghost use Rattle.smap_index.specs.Answer.{answer_at_or_before, answer_at_or_after, neighbours};
-ghost use Rattle.smap_index.specs.Private.Search.{first_past, from_line, last_up_to};
 
-use crate::answer::{Answer, Neighbours, answer_on};
+mod among;
+
+use crate::answer::{Answer, Neighbours};
 use crate::bound::{Bound, Side};
-use crate::checkpoint::Checkpoint;
 use crate::checkpoints::Checkpoints;
 use crate::encode::{encode_only, length_of_parts, only_text, write_parts};
 use crate::interval::is_interval;
@@ -31,8 +29,6 @@ use crate::marked::TextMarks;
 use crate::order::first_out_of_order;
 use crate::part::Part;
 use crate::refusal::{BuildRefusal, EncodeAllRefusal};
-use crate::resume::decode_after;
-use crate::search::nearest_checkpoints;
 use crate::totals::{most_checkpoints, totals_of};
 use smap_mappings::laws::{accepted_texts_have_no_fault, lists_in_order_have_no_fault};
 use smap_mappings::{Mapping, Meter};
@@ -145,8 +141,7 @@ impl Index {
         ensures onward { (meter.old.comparisons ≤ meter.new.comparisons)
             × (meter.old.segments ≤ meter.new.segments) }
     {
-        let bound = Bound::new(line, column, Side::Through);
-        answer_on(line, self.next_to(&bound, line, meter).before)
+        self.answer_before(self.all_checkpoints(), line, column, meter)
     }
 
     /// Looks a generated position up in the other direction, from 0 and in UTF-16 code units: the first mapping on the
@@ -162,8 +157,7 @@ impl Index {
         ensures onward { (meter.old.comparisons ≤ meter.new.comparisons)
             × (meter.old.segments ≤ meter.new.segments) }
     {
-        let bound = Bound::new(line, column, Side::Before);
-        answer_on(line, self.next_to(&bound, line, meter).after)
+        self.answer_after(self.all_checkpoints(), line, column, meter)
     }
 
     /// The mappings next to a generated position, from 0 and in UTF-16 code units, on any line. Of fewer than 2 ^ b
@@ -179,48 +173,7 @@ impl Index {
             × (meter.old.segments ≤ meter.new.segments) }
     {
         let bound = Bound::new(line, column, Side::Through);
-        self.next_to(&bound, 0, meter)
-    }
-
-    // The mappings next to a bound: the last that stands up to it, where that is on line `from` or on one after it, and
-    // the first that does not. Where the last checkpoint that stands up to it is on a line before `from`, nothing is
-    // decoded: so a look-up, which asks for its line alone, decodes none of another. The call is inlined, since a look-up
-    // asks for one of the two.
-    #[inline(always)]
-    fn next_to(&self, bound: &Bound, from: u32, meter: &mut Meter) -> Neighbours
-        requires room { HasRoom meter.old }
-        requires from { from ≤ bound.now.line }
-        ensures before { result.before
-            ≡ from_line from (last_up_to bound.now (joined self.now.parts)) }
-        ensures after { result.after ≡ first_past bound.now (joined self.now.parts) }
-        ensures ordered { IsInOrder (joined self.now.parts) }
-        ensures compared { (b : ℕ) → length (marks self.now.parts self.now.k) < 2 ^ b →
-            meter.new.comparisons ≤ meter.old.comparisons + b }
-        ensures decoded { meter.new.segments ≤ meter.old.segments + (self.now.k - 1) }
-        ensures onward { (meter.old.comparisons ≤ meter.new.comparisons)
-            × (meter.old.segments ≤ meter.new.segments) }
-    {
-        let nearest = nearest_checkpoints(&self.table, bound, meter);
-        let next = mapping_at(nearest.next);
-        match nearest.last {
-            Some(checkpoint) if checkpoint.line >= from => {
-                let part = &self.parts[checkpoint.part as usize];
-                let end = bound.on(checkpoint.line);
-                let decoded = decode_after(part, checkpoint, self.k - 1, &end, meter);
-                Neighbours {
-                    before: Some(decoded.last),
-                    after: decoded.next.or(next),
-                }
-            }
-            Some(_) => Neighbours {
-                before: None,
-                after: next,
-            },
-            None => Neighbours {
-                before: None,
-                after: next,
-            },
-        }
+        self.next_to(self.all_checkpoints(), &bound, 0, meter)
     }
 
     /// How many checkpoints the table holds.
@@ -297,16 +250,6 @@ impl Index {
             Ok(writer) => Ok(writer.into_text()),
             Err(_) => Err(EncodeAllRefusal::Memory),
         }
-    }
-}
-
-#[inline(always)]
-fn mapping_at(checkpoint: Option<&Checkpoint>) -> Option<Mapping>
-    ensures { result ≡ option_map mapping_of (option_copied checkpoint.entry) }
-{
-    match checkpoint {
-        Some(checkpoint) => Some(checkpoint.mapping()),
-        None => None,
     }
 }
 

@@ -1,12 +1,14 @@
 -- What the search over a table in order finds on either side of a bound, and so the walk after a checkpoint.
-use Rattle.std.specs.Prelude.{ℕ, ◌+◌, List, Option, Some, None, Bool, not, ◌==◌, nat_lt, nat_le, if◌then◌else◌, map, take, slice_get}
+use Rattle.std.specs.Prelude.{ℕ, ◌+◌, ◌≤◌, List, Option, Some, None, Bool, not, ◌==◌, nat_lt, nat_le, if◌then◌else◌, map, take, length, slice_get}
 use Rattle.std.specs.List.{last_or, prefix_len}
+use Rattle.std.specs.Option.{option_map_or}
 use Rattle.smap_mappings.specs.Range.{position_at, stands_before}
 use Rattle.smap_mappings.specs.declared.mapping.Mapping.{Mapping}
 use Rattle.smap_index.specs.declared.bound.Bound.{Bound}
 use Rattle.smap_index.specs.declared.bound.Side.{Side}
 use Rattle.smap_index.specs.declared.bound.Side.TheVariants.{Before, Through}
 use Rattle.smap_index.specs.declared.checkpoint.Checkpoint.{Checkpoint}
+use Rattle.smap_index.specs.declared.stretch.Stretch.{Stretch}
 use Rattle.smap_index.specs.Checkpoint.{mapping_of}
 
 -- the mappings of these checkpoints
@@ -75,3 +77,30 @@ last_checkpoint bound checkpoints = last_or None (take (front_up_to bound (mappi
 -- and the first after it
 abbrev pub next_checkpoint : Bound → List Checkpoint → Option Checkpoint
 next_checkpoint bound checkpoints = slice_get checkpoints (front_up_to bound (mappings_at checkpoints))
+
+-- ---- in a stretch of the table
+
+-- the last of so many checkpoints at the front, where it has this number or a higher one
+abbrev pub last_in : ℕ → ℕ → List Checkpoint → Option Checkpoint
+last_in low count checkpoints = if nat_lt low count then last_or None (take count checkpoints) else None
+
+-- the checkpoint of this number, where it is below that one
+abbrev pub next_in : ℕ → ℕ → List Checkpoint → Option Checkpoint
+next_in place high checkpoints = if nat_lt place high then slice_get checkpoints place else None
+
+-- the stretch has each checkpoint from this line up to that one, the line itself too
+pub record HoldsLines (checkpoints : List Checkpoint) (from to : ℕ) (stretch : Stretch) : Type 0 where
+  pub before : stretch.low ≤ front_up_to (up_to from 0) (mappings_at checkpoints)
+  pub behind : front_up_to (up_to (to + 1) 0) (mappings_at checkpoints) ≤ stretch.high
+  pub within : stretch.high ≤ length checkpoints
+
+-- the lines of these checkpoints
+abbrev pub lines_at : List Checkpoint → List ℕ
+lines_at checkpoints = map (λ checkpoint. checkpoint.line) checkpoints
+
+-- the stretch of a line where these are the starts of the first lines, of so many checkpoints
+abbrev pub stretch_of : List ℕ → ℕ → ℕ → Stretch
+stretch_of starts line count = record {
+  low = option_map_or (λ start. start) (slice_get starts line) 0;
+  high = option_map_or (λ next. next) (slice_get starts (line + 1)) count;
+}
