@@ -110,8 +110,8 @@ fn inner_origin<'m>(
     moved_where(inners, inner, origin, found)
 }
 
-// The origin that a map of its source answers for this one, if it answers with one. The walk goes on, or is a new one where it
-// is not of that source.
+// The origin that a map of its source answers for this one, if it answers with one. The walk goes on, or is a new one where
+// it is not of that source.
 fn found_origin<'m>(
     alloc: Global,
     map: &'m MapFile,

@@ -10,8 +10,8 @@ use smap_index::{BuildRefusal, Part};
 use smap_mappings::Position;
 use std::alloc::Global;
 
-/// What is known of an index that is not built of these parts; nothing where the refusal is of none of them. The call takes no
-/// memory: it walks through the section that the refusal names.
+/// What is known of an index that is not built of these parts; nothing where the refusal is of none of them. The call takes
+/// no memory: it walks through the section that the refusal names.
 pub fn build_facts(alloc: Global, parts: &[Part], refusal: BuildRefusal) -> Option<BuildFacts>
     ensures { result ≡ build_facts parts.now refusal }
 {

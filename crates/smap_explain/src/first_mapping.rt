@@ -32,8 +32,8 @@ pub fn first_after_offset(alloc: Global, part: &Part, next: &Part) -> Option<Pos
     None
 }
 
-/// Where the first mapping of a part, at its place, stands of which a number is past 2147483647. The part is walked through as
-/// far as that mapping, and none of its mappings is held.
+/// Where the first mapping of a part, at its place, stands of which a number is past 2147483647. The part is walked through
+/// as far as that mapping, and none of its mappings is held.
 pub fn first_past_limit(alloc: Global, part: &Part) -> Option<Position>
     ensures first { option_map at_position result
         ≡ option_map position_of_mapping (find is_mapping_past_limit (placed part.now)) }
