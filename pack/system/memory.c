@@ -38,6 +38,19 @@ static inline void copy_few(unsigned char *to, const unsigned char *from, size_t
     }
 }
 
+/* It stands apart, since its arrays would have the copies of fewer bytes guard a stack that they do not use. */
+static __attribute__((noinline)) void copy_many(unsigned char *to, const unsigned char *from, size_t count) {
+    if ((uintptr_t)to - (uintptr_t)from >= count) {
+        sixty_four last = load(from + count - 64);
+        for (size_t i = 0; i < count - 64; i += 64) store(to + i, load(from + i));
+        store(to + count - 64, last);
+    } else {
+        sixty_four first = load(from);
+        for (size_t i = count; i > 64; i -= 64) store(to + i - 64, load(from + i - 64));
+        store(to, first);
+    }
+}
+
 static inline void copy(unsigned char *to, const unsigned char *from, size_t count) {
     if (count <= 32) {
         copy_few(to, from, count);
@@ -46,14 +59,8 @@ static inline void copy(unsigned char *to, const unsigned char *from, size_t cou
         COPY_ENDS(sixteen);
         *(sixteen *)(to + 16) = second;
         *(sixteen *)(to + count - 32) = third;
-    } else if ((uintptr_t)to - (uintptr_t)from >= count) {
-        sixty_four last = load(from + count - 64);
-        for (size_t i = 0; i < count - 64; i += 64) store(to + i, load(from + i));
-        store(to + count - 64, last);
     } else {
-        sixty_four first = load(from);
-        for (size_t i = count; i > 64; i -= 64) store(to + i - 64, load(from + i - 64));
-        store(to, first);
+        copy_many(to, from, count);
     }
 }
 

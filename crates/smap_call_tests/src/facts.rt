@@ -96,7 +96,7 @@ const OVERLAPPING: &[u8] =
 #[test]
 fn a_mapping_past_the_next_section_is_reported(rt: HostRuntime) -> Result<(), Fail> {
     let parts = file_parts(rt.alloc(), OVERLAPPING)?;
-    let facts = build_facts(rt.alloc(), &parts, BuildRefusal::SectionOverlap(1))?;
+    let facts = build_facts(rt.alloc(), &parts, BuildRefusal::SectionOverlap(1));
     let facts = facts.ok_or("no facts")?;
     assert!(&rt; facts.section == 1 && facts.offset.line == 1 && facts.offset.column == 11);
     let mapping = facts.mapping.ok_or("no mapping")?;

@@ -6,11 +6,12 @@ ghost use Rattle.smap_mappings.specs.Encode.{list_fault};
 ghost use Rattle.smap_mappings.specs.Within.{IsOriginWithin, IsWithin};
 ghost use Rattle.smap_compose.specs.Follow.{moved_origin, with_origin};
 ghost use Rattle.smap_compose.specs.FollowAll.{origin_through, origin_through_all};
+ghost use Rattle.smap_record.specs.Record.{answer_of_map};
 ghost use Rattle.smap_compose.specs.Private.Placed.{AreFew, ArePlaced, FitsIn, inners_seen, placed_seen};
-ghost use Rattle.smap_compose.specs.Private.Walk.{IsWalkIn, IsWalkOf, IsWalkThrough};
+ghost use Rattle.smap_compose.specs.Private.Walk.{IsWalkIn, IsWalkOf, IsWalkThrough, origin_in};
 
 use crate::placed::{InnerMaps, PlacedMap};
-use crate::walk::{SourceWalk, walk_of};
+use crate::walk::{SourceWalk, Walk};
 use smap_mappings::laws::lists_in_order_have_no_fault;
 use smap_record::{MapFile, Mapping, Origin};
 use std::alloc::{AllocError, Global};
@@ -33,37 +34,36 @@ pub fn followed_mappings(
     let mut list = Vec::with_capacity(alloc, outer.segments() as usize)?;
     let mut walk = None;
     for mapping in outer.mappings(alloc) {
-        let (followed, walk_on) = follow(alloc, outer, inners, mapping, walk);
+        let followed = follow(alloc, outer, inners, mapping, &mut walk);
         list.push(followed)?;
-        walk = walk_on;
     }
     lists_in_order_have_no_fault();
     Ok(list)
 }
 
-// The mapping, followed where it has an origin, and the walk after it.
+// The mapping, followed where it has an origin. The walk goes on, in its place: it is large, and so is handed on by none.
 fn follow<'m>(
     alloc: Global,
     outer: &MapFile,
     inners: &InnerMaps<'m>,
     mapping: Mapping,
-    walk: Option<SourceWalk<'m>>,
-) -> (Mapping, Option<SourceWalk<'m>>)
+    walk: &mut Option<SourceWalk<'m>>,
+) -> Mapping
     requires placed { ArePlaced outer.now.stated inners.now }
     requires within { IsWithin
         (length outer.now.stated.sources) (length outer.now.stated.names) mapping }
-    requires walk { IfSome walk (IsWalkIn inners.now) }
-    ensures followed { result.0
+    requires walk { IfSome walk.old (IsWalkIn inners.now) }
+    ensures followed { result
         ≡ with_origin (origin_through_all (inners_seen inners.now)) mapping }
-    ensures within { IsWithin inners.now.sources inners.now.names result.0 }
-    ensures walk { IfSome result.1 (IsWalkIn inners.now) }
+    ensures within { IsWithin inners.now.sources inners.now.names result }
+    ensures walk { IfSome walk.new (IsWalkIn inners.now) }
 {
     match mapping.origin {
         Some(origin) => {
-            let (origin, walk) = followed_origin(alloc, outer, inners, origin, walk);
-            (Mapping { origin, ..mapping }, walk)
+            let origin = followed_origin(alloc, outer, inners, origin, walk);
+            Mapping { origin, ..mapping }
         }
-        None => (mapping, walk),
+        None => mapping,
     }
 }
 
@@ -73,47 +73,71 @@ fn followed_origin<'m>(
     outer: &MapFile,
     inners: &InnerMaps<'m>,
     origin: Origin,
-    walk: Option<SourceWalk<'m>>,
-) -> (Option<Origin>, Option<SourceWalk<'m>>)
+    walk: &mut Option<SourceWalk<'m>>,
+) -> Option<Origin>
     requires placed { ArePlaced outer.now.stated inners.now }
     requires within { IsOriginWithin
         (length outer.now.stated.sources) (length outer.now.stated.names) origin }
-    requires walk { IfSome walk (IsWalkIn inners.now) }
-    ensures followed { result.0 ≡ origin_through_all (inners_seen inners.now) origin }
-    ensures within { IfSome result.0 (IsOriginWithin inners.now.sources inners.now.names) }
-    ensures walk { IfSome result.1 (IsWalkIn inners.now) }
+    requires walk { IfSome walk.old (IsWalkIn inners.now) }
+    ensures followed { result ≡ origin_through_all (inners_seen inners.now) origin }
+    ensures within { IfSome result (IsOriginWithin inners.now.sources inners.now.names) }
+    ensures walk { IfSome walk.new (IsWalkIn inners.now) }
 {
     match inners.maps.get(origin.source as usize) {
-        Some(Some(inner)) => {
-            let (origin, walk) = inner_origin(alloc, inners, inner, origin, walk);
-            (origin, Some(walk))
-        }
-        _ => (Some(origin), walk),
+        Some(Some(inner)) => inner_origin(alloc, inners, inner, origin, walk),
+        _ => Some(origin),
     }
 }
 
-// The origin to which the inner map leads from this one, if there is one, and the walk through that map.
+// The origin to which the inner map leads from this one, if there is one.
 fn inner_origin<'m>(
     alloc: Global,
     inners: &InnerMaps<'m>,
     inner: &PlacedMap<'m>,
     origin: Origin,
-    walk: Option<SourceWalk<'m>>,
-) -> (Option<Origin>, SourceWalk<'m>)
+    walk: &mut Option<SourceWalk<'m>>,
+) -> Option<Origin>
     requires few { AreFew inners.now }
     requires fits { FitsIn inners.now.sources inners.now.names inner.now }
     requires within { IsOriginWithin inners.now.sources inners.now.names origin }
-    requires walk { IfSome walk (IsWalkOf inner.now.map.now.stated origin.source) }
-    ensures answer { result.0 ≡ origin_through (Some (placed_seen inner.now)) origin }
-    ensures within { IfSome result.0 (IsOriginWithin inners.now.sources inners.now.names) }
-    ensures source { result.1.source ≡ origin.source }
-    ensures walk { IsWalkThrough inner.now.map.now.stated result.1.walk }
+    requires walk { IfSome walk.old (IsWalkOf inner.now.map.now.stated origin.source) }
+    ensures answer { result ≡ origin_through (Some (placed_seen inner.now)) origin }
+    ensures within { IfSome result (IsOriginWithin inners.now.sources inners.now.names) }
+    ensures walk { IfSome walk.new (λ walk. (walk.source ≡ origin.source)
+        × IsWalkThrough inner.now.map.now.stated walk.walk) }
 {
-    let mut walk = walk_of(alloc, inner.map, origin.source, walk);
-    let found = walk.origin_at(alloc, inner.map, origin.line, origin.column);
-    let moved = moved_where(inners, inner, origin, found);
-    let source = origin.source;
-    (moved, SourceWalk { source, walk })
+    let found = found_origin(alloc, inner.map, origin, walk);
+    moved_where(inners, inner, origin, found)
+}
+
+// The origin that a map of its source answers for this one, if it answers with one. The walk goes on, or is a new one where
+// it is not of that source.
+fn found_origin<'m>(
+    alloc: Global,
+    map: &'m MapFile,
+    origin: Origin,
+    walk: &mut Option<SourceWalk<'m>>,
+) -> Option<Origin>
+    requires { IfSome walk.old (IsWalkOf map.now.stated origin.source) }
+    ensures answer { result
+        ≡ origin_in (answer_of_map map.now.stated origin.line origin.column) }
+    ensures within { IfSome result (IsOriginWithin
+        (length map.now.stated.sources) (length map.now.stated.names)) }
+    ensures walk { IfSome walk.new (λ walk. (walk.source ≡ origin.source)
+        × IsWalkThrough map.now.stated walk.walk) }
+{
+    if let Some(kept) = walk {
+        if kept.source == origin.source {
+            return kept.walk.origin_at(alloc, map, origin.line, origin.column);
+        }
+    }
+    let mut fresh = Walk::new(alloc, map);
+    let found = fresh.origin_at(alloc, map, origin.line, origin.column);
+    *walk = Some(SourceWalk {
+        source: origin.source,
+        walk: fresh,
+    });
+    found
 }
 
 // An origin of the inner map, where there is one, moved.

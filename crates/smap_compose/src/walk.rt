@@ -3,7 +3,7 @@ ghost use Rattle.std.specs.Prelude.{◌≡◌, length, IfSome};
 ghost use Rattle.smap_mappings.specs.Range.{position_at, stands_before};
 ghost use Rattle.smap_mappings.specs.Within.{IsOriginWithin};
 ghost use Rattle.smap_record.specs.Record.{answer_of_map};
-ghost use Rattle.smap_compose.specs.Private.Walk.{IsWalkOf, IsWalkThrough, origin_in, origin_on, stands_up_to};
+ghost use Rattle.smap_compose.specs.Private.Walk.{IsWalkThrough, origin_in, origin_on, stands_up_to};
 
 use smap_record::{Answer, JoinedMappings, MapFile, Mapping, Meter, Origin};
 use std::alloc::Global;
@@ -71,28 +71,6 @@ impl<'m> Walk<'m> {
             }
         }
         looked_up(alloc, map, line, column)
-    }
-}
-
-/// The walk through the inner map of a source: this one, where it is of that source, or a new one.
-pub fn walk_of<'m>(
-    alloc: Global,
-    map: &'m MapFile,
-    source: u32,
-    walk: Option<SourceWalk<'m>>,
-) -> Walk<'m>
-    requires { IfSome walk (IsWalkOf map.now.stated source) }
-    ensures { IsWalkThrough map.now.stated result }
-{
-    match walk {
-        Some(walk) => {
-            if walk.source == source {
-                walk.walk
-            } else {
-                Walk::new(alloc, map)
-            }
-        }
-        None => Walk::new(alloc, map),
     }
 }
 

@@ -1,28 +1,26 @@
 //! Why the index of a map's sections is not built.
-ghost use Rattle.std.specs.Prelude.{◌≡◌, ◌+◌, option_map, slice_get, IfOk, IfSome};
+ghost use Rattle.std.specs.Prelude.{◌≡◌, ◌+◌, option_map, slice_get, IfSome};
 ghost use Rattle.smap_mappings.specs.Range.{at_position};
 ghost use Rattle.smap_index.specs.Position.{IsFarBelow};
 ghost use Rattle.smap_explain.specs.Build.{build_facts, order_facts, overlap_facts, range_facts, adjacent_at, offset_place, place_of};
 
 use crate::explanation::{BuildFacts, Place};
-use smap_index::{BuildRefusal, Part, first_after_offset, first_past_limit};
+use crate::first_mapping::{first_after_offset, first_past_limit};
+use smap_index::{BuildRefusal, Part};
 use smap_mappings::Position;
-use std::alloc::{AllocError, Global};
+use std::alloc::Global;
 
-/// What is known of an index that is not built of these parts; nothing where the refusal is of none of them.
-pub fn build_facts(
-    alloc: Global,
-    parts: &[Part],
-    refusal: BuildRefusal,
-) -> Result<Option<BuildFacts>, AllocError>
-    ensures { IfOk result (λ facts. facts ≡ build_facts parts.now refusal) }
+/// What is known of an index that is not built of these parts; nothing where the refusal is of none of them. The call takes
+/// no memory: it walks through the section that the refusal names.
+pub fn build_facts(alloc: Global, parts: &[Part], refusal: BuildRefusal) -> Option<BuildFacts>
+    ensures { result ≡ build_facts parts.now refusal }
 {
     match refusal {
-        BuildRefusal::SectionOrder(section) => Ok(order_facts(parts, section)),
+        BuildRefusal::SectionOrder(section) => order_facts(parts, section),
         BuildRefusal::SectionOverlap(section) => overlap_facts(alloc, parts, section),
         BuildRefusal::PositionRange(section) => range_facts(alloc, parts, section),
-        BuildRefusal::Interval => Ok(None),
-        BuildRefusal::Memory => Ok(None),
+        BuildRefusal::Interval => None,
+        BuildRefusal::Memory => None,
     }
 }
 
@@ -47,44 +45,28 @@ fn order_facts(parts: &[Part], section: u64) -> Option<BuildFacts>
     })
 }
 
-fn overlap_facts(
-    alloc: Global,
-    parts: &[Part],
-    section: u64,
-) -> Result<Option<BuildFacts>, AllocError>
-    ensures { IfOk result (λ facts. facts
-        ≡ option_map (overlap_facts section) (adjacent_at parts.now section)) }
+fn overlap_facts(alloc: Global, parts: &[Part], section: u64) -> Option<BuildFacts>
+    ensures { result ≡ option_map (overlap_facts section) (adjacent_at parts.now section) }
 {
-    let Some((before, part)) = adjacent_at(parts, section) else {
-        return Ok(None);
-    };
-    let mapping = first_after_offset(alloc, before, part)?;
-    Ok(Some(BuildFacts {
+    let (before, part) = adjacent_at(parts, section)?;
+    Some(BuildFacts {
         section,
         offset: offset_place(part),
         offset_before: None,
-        mapping: place_where(mapping),
-    }))
+        mapping: place_where(first_after_offset(alloc, before, part)),
+    })
 }
 
-fn range_facts(
-    alloc: Global,
-    parts: &[Part],
-    section: u64,
-) -> Result<Option<BuildFacts>, AllocError>
-    ensures { IfOk result (λ facts. facts
-        ≡ option_map (range_facts section) (slice_get parts.now section)) }
+fn range_facts(alloc: Global, parts: &[Part], section: u64) -> Option<BuildFacts>
+    ensures { result ≡ option_map (range_facts section) (slice_get parts.now section) }
 {
-    let Some(part) = parts.get(section as usize) else {
-        return Ok(None);
-    };
-    let mapping = first_past_limit(alloc, part)?;
-    Ok(Some(BuildFacts {
+    let part = parts.get(section as usize)?;
+    Some(BuildFacts {
         section,
         offset: offset_place(part),
         offset_before: None,
-        mapping: place_where(mapping),
-    }))
+        mapping: place_where(first_past_limit(alloc, part)),
+    })
 }
 
 // Where a part begins.

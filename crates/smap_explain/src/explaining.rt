@@ -250,7 +250,7 @@ fn build_facts_of(
     ensures { IfOk result (λ facts. facts ≡ build_facts_of bytes.now refusal) }
 {
     match file_parts(alloc, bytes) {
-        Ok(parts) => build_facts(alloc, &parts, refusal),
+        Ok(parts) => Ok(build_facts(alloc, &parts, refusal)),
         Err(MapRefusal::Memory) => Err(AllocError),
         Err(_) => Ok(None),
     }

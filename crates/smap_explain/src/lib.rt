@@ -6,6 +6,7 @@ mod build;
 mod excerpt;
 mod explaining;
 mod explanation;
+mod first_mapping;
 mod found;
 mod key_facts;
 mod key_place;

@@ -27,12 +27,12 @@ loop-mapping-preserved c =
       front = (
         front ++ m ∷ [],
         append_assoc front (m ∷ []) _ ∙ ap (λ left. front ++ left) (sym c.in-Some.ensures.steps) ∙ so_far.front.1,
-        pushed ∙ ap (λ items. items ++ c.follow-walk_on.result.0 ∷ []) so_far.front.2
-            ∙ ap (λ followed. map following front ++ followed ∷ []) c.follow-walk_on.ensures.followed
+        pushed ∙ ap (λ items. items ++ c.follow-followed.result ∷ []) so_far.front.2
+            ∙ ap (λ followed. map following front ++ followed ∷ []) c.follow-followed.ensures.followed
             ∙ sym (map-append following front (m ∷ [])),
       );
-      walk = c.follow-walk_on.ensures.walk;
-      within = subst (All P) (sym pushed) (All-push P before c.follow-walk_on.result.0 so_far.within c.follow-walk_on.ensures.within);
+      walk = c.follow-followed.ensures.walk;
+      within = subst (All P) (sym pushed) (All-push P before c.follow-followed.result so_far.within c.follow-followed.ensures.within);
     }
 
 pub returns-clause-no_fault : goal.returns-clause-no_fault

@@ -9,5 +9,5 @@ pub returns-clause-answer : goal.returns-clause-answer
 returns-clause-answer c =
     let inner = c.args.inner.now in
     let origin = c.args.origin in
-    c.moved_where-moved.ensures.moved ∙ ap (option_map (moved_origin inner.sources inner.names origin.name)) c.origin_at-found.ensures.answer
+    c.moved_where.ensures.moved ∙ ap (option_map (moved_origin inner.sources inner.names origin.name)) c.found_origin-found.ensures.answer
     ∙ origin_moved inner.sources inner.names origin.name (answer_of_map inner.map.now.stated origin.line origin.column)
