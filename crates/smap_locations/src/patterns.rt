@@ -1,20 +1,22 @@
 //! The patterns of URLs.
-ghost use Rattle.std.specs.Prelude.{◌≡◌, ◌==◌, ◌<◌, ◌++◌, ◌∷◌, ℕ, List, [], None, Some, true, false, is_some, length, option_map, string_bytes, take, MatchBool, MatchOption};
+ghost use Rattle.std.specs.Prelude.{◌≡◌, ◌==◌, ◌<◌, ◌++◌, ◌∷◌, [], None, Some, true, false, is_some, length, option_map, string_bytes, MatchBool, MatchOption};
 ghost use Rattle.std.specs.Prelude.{OnErr, OnOk, IfErr, IfOk, IsErrAnd};
-ghost use Rattle.std.specs.List.{list_any, position_or_len, slice_get};
+ghost use Rattle.std.specs.List.{list_any, position_or_len};
 ghost use Rattle.std.specs.Option.{ForSome};
-ghost use Rattle.std.specs.Str.{bytes_eq};
 ghost use Rattle.smap_locations.specs.ByText.{IsWith, value_under};
 ghost use Rattle.smap_locations.specs.Deciding.{pattern_name};
 ghost use Rattle.smap_locations.specs.ListLine.{is_folder};
 ghost use Rattle.smap_locations.specs.PatternSeen.{pattern_seen};
-ghost use Rattle.smap_locations.specs.Patterns.{deciding, has_ending, has_path_in_text, has_text, needs_query, path_by_patterns, pattern_refusal, rest_here, text_by_patterns};
+ghost use Rattle.smap_locations.specs.Patterns.{deciding, has_path_in_text, has_text, path_by_patterns, pattern_refusal, text_by_patterns};
 ghost use Rattle.smap_locations.specs.Private.Best.{Comes, IsCovered, IsFor, at_place};
 ghost use Rattle.smap_locations.specs.declared.refusal.LocationRefusal.TheVariants.{Memory};
 
+mod files;
+mod folders;
+
 use crate::list_line::is_folder;
 use crate::pattern::Pattern;
-use crate::pieces::{begins_with_separator, ends_in_separator, has_ending, is_separator};
+use crate::pieces::ends_in_separator;
 use crate::refusal::LocationRefusal;
 use crate::text_places::TextPlaces;
 use std::alloc::{AllocError, Global};
@@ -120,36 +122,6 @@ impl Patterns {
         }
     }
 
-    /// Whether one is for a URL, and not for what that is without its query and its fragment, which is `short`.
-    pub fn needs_query(&self, url: &[u8], short: &[u8]) -> bool
-        ensures { result ≡ list_any (needs_query url.now short.now) self.now }
-    {
-        let all = self.files.lengths();
-        for length in all {
-            if self.end_needs_query(*length, url, short) {
-                return true;
-            }
-        }
-        false
-    }
-
-    // The same of one whose text has so many bytes.
-    fn end_needs_query(&self, bytes: usize, url: &[u8], short: &[u8]) -> bool
-        ensures one { result ≡ true → list_any (needs_query url.now short.now) self.now ≡ true }
-        ensures all { (place : ℕ) (pattern : List ℕ × List ℕ) →
-            slice_get self.now place ≡ Some pattern → length pattern.0 ≡ bytes →
-            needs_query url.now short.now pattern ≡ true → result ≡ true }
-    {
-        if bytes > url.len() {
-            return false;
-        }
-        let (_, text) = url.split_at(url.len() - bytes);
-        match self.files.get(text) {
-            Some(place) => self.all[place].needs_query(url, short),
-            None => false,
-        }
-    }
-
     /// The place of the pattern that decides for a URL, from 0, where one does. The URL is `short` without its query and its
     /// fragment.
     pub fn place_for(&self, url: &[u8], short: &[u8]) -> Option<usize>
@@ -208,150 +180,6 @@ impl Patterns {
             Some(place) => Some(&self.all[place]),
             None => None,
         }
-    }
-
-    // The place of the best of those of files.
-    fn best_of_files(&self, url: &[u8], short: &[u8]) -> Option<usize>
-        ensures { Comes self.now url.now short.now None result
-            (λ place pattern. is_folder pattern.1 ≡ false) }
-    {
-        let best = self.better_at_end(None, url, url, short);
-        if short == url {
-            best
-        } else {
-            self.better_at_end(best, short, url, short)
-        }
-    }
-
-    // The better one of the best so far and of those of files with which a text ends.
-    fn better_at_end(
-        &self,
-        best: Option<usize>,
-        text: &[u8],
-        url: &[u8],
-        short: &[u8],
-    ) -> Option<usize>
-        requires { IsFor self.now url.now short.now best }
-        ensures { Comes self.now url.now short.now best result (λ place pattern.
-            (is_folder pattern.1 ≡ false) × (has_ending pattern.0 text.now ≡ true)) }
-    {
-        let mut best = best;
-        let all = self.files.lengths();
-        for length in all {
-            best = self.better_end(best, *length, text, url, short);
-        }
-        best
-    }
-
-    // The same of the one whose text has so many bytes.
-    fn better_end(
-        &self,
-        best: Option<usize>,
-        bytes: usize,
-        text: &[u8],
-        url: &[u8],
-        short: &[u8],
-    ) -> Option<usize>
-        requires { IsFor self.now url.now short.now best }
-        ensures { Comes self.now url.now short.now best result (λ place pattern.
-            (is_folder pattern.1 ≡ false) × (has_ending pattern.0 text.now ≡ true) ×
-            (length pattern.0 ≡ bytes)) }
-    {
-        if bytes > text.len() {
-            return best;
-        }
-        let (_, end) = text.split_at(text.len() - bytes);
-        if !has_ending(end, text) {
-            return best;
-        }
-        let place = self.files.get(end);
-        self.better(best, place, url, short)
-    }
-
-    // The better one of the best so far and of those of folders.
-    fn better_of_folders(&self, best: Option<usize>, url: &[u8], short: &[u8]) -> Option<usize>
-        requires { IsFor self.now url.now short.now best }
-        ensures { Comes self.now url.now short.now best result
-            (λ place pattern. is_folder pattern.1 ≡ true) }
-    {
-        let mut best = best;
-        let mut begins = true;
-        let mut left = short;
-        while let Some((byte, behind)) = left.split_first() {
-            best = self.better_here(best, begins, left, url, short);
-            begins = is_separator(*byte);
-            left = behind;
-        }
-        best
-    }
-
-    // The same of those with which a rest of the URL begins; `begins` says whether a piece begins there.
-    fn better_here(
-        &self,
-        best: Option<usize>,
-        begins: bool,
-        left: &[u8],
-        url: &[u8],
-        short: &[u8],
-    ) -> Option<usize>
-        requires { IsFor self.now url.now short.now best }
-        ensures { Comes self.now url.now short.now best result (λ place pattern.
-            (is_folder pattern.1 ≡ true) × (is_some (rest_here pattern.0 begins left.now) ≡ true)) }
-    {
-        if begins || begins_with_separator(left) {
-            self.better_at_front(best, left, url, short)
-        } else {
-            best
-        }
-    }
-
-    // The better one of the best so far and of those of folders with which a text begins.
-    fn better_at_front(
-        &self,
-        best: Option<usize>,
-        text: &[u8],
-        url: &[u8],
-        short: &[u8],
-    ) -> Option<usize>
-        requires { IsFor self.now url.now short.now best }
-        ensures { Comes self.now url.now short.now best result (λ place pattern.
-            (is_folder pattern.1 ≡ true) ×
-            (bytes_eq (take (length pattern.0) text.now) pattern.0 ≡ true)) }
-    {
-        let mut best = best;
-        let all = self.folders.lengths();
-        for length in all {
-            best = self.better_front(best, *length, text, url, short);
-        }
-        best
-    }
-
-    // The same of the one whose text has so many bytes.
-    fn better_front(
-        &self,
-        best: Option<usize>,
-        bytes: usize,
-        text: &[u8],
-        url: &[u8],
-        short: &[u8],
-    ) -> Option<usize>
-        requires { IsFor self.now url.now short.now best }
-        ensures { Comes self.now url.now short.now best result (λ place pattern.
-            (is_folder pattern.1 ≡ true) ×
-            (bytes_eq (take (length pattern.0) text.now) pattern.0 ≡ true) ×
-            (length pattern.0 ≡ bytes)) }
-    {
-        let folders = &self.folders;
-        if bytes > text.len() {
-            return best;
-        }
-        let (front, _) = text.split_at(bytes);
-        // Then none can have this text.
-        if !ends_in_separator(front) {
-            return best;
-        }
-        let place = folders.get(front);
-        self.better(best, place, url, short)
     }
 
     // The better one of the best so far and of one that was found, if that has the URL.
