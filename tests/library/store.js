@@ -182,6 +182,8 @@ async function within() {
   });
   maps.add('b.js', textOf('b.ts'));
   same('itself', [sourceOf(maps, 'a.js'), inner], ['a.ts', [null, frame('a.js') + frame('b.ts')]]);
+  const adding = new Maps({ load: (url) => (adding.add(url, textOf('added.ts')), textOf('old.ts')), maxBytes: 1e6 });
+  same('what the loader adds', [sourceOf(adding, 'a.js'), String(rewrite(adding, frame('b.js')))], ['added.ts', frame('added.ts')]);
   let come;
   const waiting = new Maps({ loadAsync: () => new Promise((resolve) => (come = resolve)), maxBytes: 1e6 });
   const first = rewriteAsync(waiting, frame('a.js'));
@@ -195,6 +197,10 @@ async function within() {
   await ticks(3);
   come(textOf('new.ts'));
   same('what is discarded meanwhile', String(await second), frame('new.ts'));
+  for (const load of [throwing, () => '{}']) {
+    const mended = new Maps({ load, maxBytes: 1e6, refused: (url) => mended.add(url, textOf('mended.ts')) });
+    same('what is added where the loader failed', [String(rewrite(mended, frame('a.js'))), sourceOf(mended, 'a.js')], [frame('mended.ts'), 'mended.ts']);
+  }
   const closing = new Maps({ loadAsync: async () => (closing.close(), textOf('a.ts')), maxBytes: 1e6 });
   same('maps that are emptied', [String(await rewriteAsync(closing, frame('a.js'))), closing.size], [frame('a.ts'), 1]);
   closing.maxBytes = 10;
