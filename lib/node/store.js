@@ -12,6 +12,9 @@ const [MISSING, FAILED] = [0, 1];
 // What failed is asked for again after so many milliseconds at most, and of so many URLs it is known how often.
 const [MOST_WAIT, MOST_FAILED] = [600000, 1000];
 
+// A URL without its query and its fragment, for whose map a loader is asked.
+const cut = (url) => url.split(/[?#]/, 1)[0];
+
 // What the owner, a table or maps, knows of URLs. `isNamed` is whether only what a frame can name is taken, and `came` is told of each map.
 class Store {
   #owner;
@@ -80,13 +83,13 @@ class Store {
 
   // Asks `load` for the map under a key; whether it was asked. A map that `stays` is there, and stays where that fails.
   ask(key, tell, stays) {
-    const { load } = this;
-    if (!load || this.#loading.has(key)) return false;
-    this.#loading.add(key);
+    const [{ load }, url] = [this, cut(key)];
+    if (!load || this.#loading.has(url)) return false;
+    this.#loading.add(url);
     try {
-      this.#settle(key, () => this.#read(key, load(key), stays), tell, stays);
+      this.#settle(key, () => this.#read(key, load(url), stays), tell, stays);
     } finally {
-      this.#loading.delete(key);
+      this.#loading.delete(url);
     }
     return true;
   }
@@ -94,33 +97,34 @@ class Store {
   // Calls `go` once it is known what map there is under a key, with what the one threw that is told. The loader is asked once for all that
   // wait; and again, where what is known was discarded meanwhile.
   wait(key, go, tell) {
-    const waiting = this.#awaited.get(key);
-    if (waiting) waiting.push(go);
-    else this.#fetch(key, this.#awaited.set(key, [go]).get(key), tell);
+    const waiting = this.#awaited.get(cut(key));
+    if (waiting) waiting.all.push(waiting.key === key ? go : () => this.wait(key, go, tell));
+    else this.#fetch(key, { key, all: [go], isStale: true }, tell);
   }
 
   async #fetch(key, waiting, tell) {
-    const load = this.loadAsync || this.load;
+    const [url, load] = [cut(key), this.loadAsync || this.load];
     let [came, trouble] = [];
-    do {
+    this.#awaited.set(url, waiting);
+    while (waiting.isStale) {
       waiting.isStale = false;
       try {
-        const made = await this.#made(madeLater, key, await load(key));
+        const made = await this.#made(madeLater, key, await load(url));
         came = () => made;
       } catch (error) {
         came = () => {
           throw error;
         };
       }
-    } while (waiting.isStale);
-    this.#awaited.delete(key);
+    }
+    this.#awaited.delete(url);
     try {
       if (!this.holds(key)) this.#settle(key, came, tell);
     } catch (error) {
       trouble = { error };
     }
     // Before another map is put that takes the room of this one.
-    for (const go of waiting) go(trouble);
+    for (const go of waiting.all) go(trouble);
   }
 
   under(url) {
@@ -153,7 +157,7 @@ class Store {
         if (!stays || !this.holds(key)) this.putFailed(key, this.#rest(key));
       } finally {
         // Last, as it may add the map.
-        tell(key, error);
+        tell(cut(key), error);
       }
     }
   }
@@ -187,7 +191,8 @@ class Store {
     room[ROOM_HANDLE] = this.changing.place;
     const key = addon.forget(url);
     this.#failures.delete(key);
-    if (this.#awaited.has(key)) this.#awaited.get(key).isStale = true;
+    const waiting = key !== null && this.#awaited.get(cut(key));
+    if (waiting) waiting.isStale = true;
   }
 
   // Asks for the maps of these URLs that are wanted, so many at once.

@@ -201,6 +201,21 @@ async function within() {
     const mended = new Maps({ load, maxBytes: 1e6, refused: (url) => mended.add(url, textOf('mended.ts')) });
     same('what is added where the loader failed', [String(rewrite(mended, frame('a.js'))), sourceOf(mended, 'a.js')], [frame('mended.ts'), 'mended.ts']);
   }
+  // What was put under a URL with a query has a place of its own, for which the same URL is loaded, and not at the same time.
+  const [loaded, steps] = [[], []];
+  const apart = new Maps({
+    loadAsync: async (asked) => {
+      steps.push(loaded.push(asked));
+      await ticks(2);
+      steps.push(-loaded.length);
+      return textOf('a.ts');
+    },
+    maxBytes: 1e6,
+  });
+  apart.add('a.js?1', textOf('own.ts'));
+  apart.discard('a.js?1');
+  const both = await Promise.all(['a.js', 'a.js?1'].map((each) => rewriteAsync(apart, frame(each))));
+  same('one URL under two keys', [both.map(String), loaded, steps], [[frame('a.ts'), frame('a.ts')], ['a.js', 'a.js'], [1, -1, 2, -2]]);
   const closing = new Maps({ loadAsync: async () => (closing.close(), textOf('a.ts')), maxBytes: 1e6 });
   same('maps that are emptied', [String(await rewriteAsync(closing, frame('a.js'))), closing.size], [frame('a.ts'), 1]);
   closing.maxBytes = 10;
@@ -354,9 +369,10 @@ class Run {
 
   // What the loader comes to is put under a key.
   come(key) {
-    this.wanted.push(key);
-    const what = this.there.get(key);
-    if (what === THROWS || what === REFUSED) this.toBeTold.push(key);
+    const url = cut(key);
+    this.wanted.push(url);
+    const what = this.there.get(url);
+    if (what === THROWS || what === REFUSED) this.toBeTold.push(url);
     if (what >= 0) this.model.put(key, 'map', what, sizeAt(key, what));
     else this.model.put(key, 'none', what, 0);
   }

@@ -148,24 +148,23 @@ class Loading(_smap.Store):
     async def _loaded(self, key: str) -> bool:
         if self._load is None:
             return False
-        mine, around = self._flight(self), _within.get()
-        flight = self._flights.setdefault(key, mine)
+        url, mine, around = _cut(key), self._flight(self), _within.get()
+        flight = self._flights.setdefault(url, mine)
         with _tied(flight, around) if around else _UNTIED:
-            await (self._fly(key, mine, False) if flight is mine else flight.landed())
+            await (self._fly(key, url, mine, False) if flight is mine else flight.landed())
         return flight.may_be_there
 
     # Has those maps loaded again that are not what they were.
     async def _renew(self, urls: Iterable[str]) -> None:
         for key in map(self._key, urls):
-            mine = self._flight(self)
-            if self._is_fresh is not None and not self._is_fresh(_cut(key)) and self._flights.setdefault(key, mine) is mine:
-                await self._fly(key, mine, True)
+            url, mine = _cut(key), self._flight(self)
+            if self._is_fresh is not None and not self._is_fresh(url) and self._flights.setdefault(url, mine) is mine:
+                await self._fly(key, url, mine, True)
 
     # Asks the loader, outside of any lock: for what is known already only where it is to be loaded anew. What comes is put, if nothing
     # else was put or discarded under the URL meanwhile.
-    async def _fly(self, key: str, mine: Flight, anew: bool) -> None:
-        url, is_over = _cut(key), False
-        found: Optional[SourceMap] = None
+    async def _fly(self, key: str, url: str, mine: Flight, anew: bool) -> None:
+        is_over, found = False, cast(Optional[SourceMap], None)
         error: Optional[Exception] = None
         token = _within.set((*_within.get(), mine))
         try:
@@ -182,7 +181,7 @@ class Loading(_smap.Store):
             finally:
                 try:
                     with self._changing:
-                        del self._flights[key]
+                        del self._flights[url]
                         mine.may_be_there = not is_over or not mine.holds or self._learned(key, found, error)
                 finally:
                     mine.land()
@@ -193,7 +192,7 @@ class Loading(_smap.Store):
 
     # What is loaded under a URL now does not hold any more.
     def _outdate(self, key: str) -> None:
-        flight = self._flights.get(key)
+        flight = self._flights.get(_cut(key))
         if flight is not None:
             flight.holds = False
 
