@@ -288,7 +288,9 @@ async function beside() {
   if (!fs.existsSync('/proc/thread-self/schedstat')) return;
   const spent = () => Number(fs.readFileSync('/proc/thread-self/schedstat', 'utf8').split(' ')[0]) / 1e6;
   const text = textOf('a.ts', { sourcesContent: ['x\n'.repeat(4e6)], mappings: 'AAAA,CAAC,EAAE,GAAG;'.repeat(800000) });
-  for (const given of [text, Buffer.from(text)]) {
+  const bytes = Buffer.from(text);
+  // A text that was put together is made one when it is first read, for which the loader is held.
+  for (const given of [bytes.toString(), bytes]) {
     let [most, last, isOver] = [0, spent(), false];
     const tick = () => {
       most = Math.max(most, spent() - last);
