@@ -10,11 +10,11 @@ const { Refused, refusedAs, refusedMap } = require('./refused.js');
 
 // How an absolute path begins.
 const PATH = /^(\/|[A-Za-z]:[/\\])/;
-// The one look-up, and what it is asked and answers, as tracing.js has it; behind that the place of the map, and whether the
+// The one look-up, and what it is asked and answers, as tracing.js has it; behind that the place of the map or table, and whether the
 // source is ignored, where that is asked too.
 const { lookUp, room } = addon;
 const WITH_IGNORED = 4;
-const ROOM_MAP = 10;
+const ROOM_HANDLE = 10;
 const ROOM_IGNORED = 11;
 // What `using` calls at the end of a block.
 const DISPOSE = Symbol.dispose || Symbol.for('nodejs.dispose');
@@ -116,7 +116,7 @@ function ask(handle, line, column, how) {
   room[0] = line;
   room[1] = column;
   room[2] = how;
-  room[ROOM_MAP] = handle.place;
+  room[ROOM_HANDLE] = handle.place;
   lookUp();
 }
 
@@ -359,6 +359,8 @@ module.exports = {
   DISPOSE,
   Made,
   PATH,
+  ROOM_HANDLE,
+  ROOM_IGNORED,
   TraceMap,
   USUALLY,
   Under,

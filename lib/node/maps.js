@@ -5,6 +5,7 @@ const { performance } = require('perf_hooks');
 const addon = require('./addon.js');
 const given = require('./given.js');
 const { Made, TraceMap, sourceContext } = require('./map.js');
+const { madeUnder } = require('./reading.js');
 const { Store } = require('./store.js');
 const { Told, counted, rewriting, storeOf, wholePart } = require('./table.js');
 const { begun, locationsIn, rewrittenLater } = require('./texts.js');
@@ -77,7 +78,7 @@ class Maps extends Told {
       files.delete(url);
       if (!this.inner.holds(url)) continue;
       if (stampOf(file.name) === file.stamp) files.set(url, { ...file, due: now + Math.max(fresh, 1) });
-      else this.inner.renew(url);
+      else this.inner.ask(url, undefined, true);
     }
   }
 
@@ -87,7 +88,7 @@ class Maps extends Told {
 
   set maxBytes(value) {
     this.#most = given.count(value, 'maxBytes', Number.MAX_SAFE_INTEGER);
-    this.inner.move(this.#most, this.#kept);
+    this.#move(this.#kept);
   }
 
   // For how many bytes of memory what is kept counts, and how many maps are kept.
@@ -125,11 +126,11 @@ class Maps extends Told {
     if (this.inner.renews) this.inner.renews();
     let map = this.#near.get(url);
     if (!map || !map.inner.handle) {
-      const key = this.inner.found((asked) => this.inner.keyOfMap(asked), url, null);
+      const key = this.inner.found((asked) => this.inner.asked(addon.keyOfMap, asked), url, null);
       if (key === null) return null;
       const kept = this.#kept.get(key);
       map = kept.map && kept.map.deref();
-      if (!map || !map.inner.handle) map = new TraceMap(new Made(this.inner.mapAt(key), kept.outline, kept.bytes));
+      if (!map || !map.inner.handle) map = new TraceMap(new Made(this.inner.asked(addon.mapAt, key), kept.outline, kept.bytes));
       kept.map = new WeakRef(map);
     }
     this.#use(url, map);
@@ -148,7 +149,7 @@ class Maps extends Told {
     const near = [...this.#near];
     this.#near.clear();
     for (const [url, map] of near) {
-      const key = this.inner.keyOfMap(url);
+      const key = this.inner.asked(addon.keyOfMap, url);
       if (!map || !map.inner.handle) continue;
       const [kept, { nbytes }] = [this.#kept.get(key), map];
       if (!this.#lent.has(map)) map.close();
@@ -164,7 +165,7 @@ class Maps extends Told {
 
   // Puts a map under this very URL, in place of what is kept of it. A pattern is no URL here.
   add(url, map) {
-    this.inner.add(whole(url, 'url'), map);
+    this.inner.put(whole(url, 'url'), madeUnder(this.inner.under(url), map));
   }
 
   // Drops what is kept of a URL, so that its map is asked for anew.
@@ -178,8 +179,21 @@ class Maps extends Told {
   }
 
   close() {
-    this.inner.move(this.#most, []);
+    this.#move([]);
     this.#kept.clear();
+  }
+
+  // Another store within the bound, with the maps under these URLs that this one has.
+  #move(urls) {
+    const [old, handle] = [this.inner.changing, addon.newTable(this.#most)];
+    for (const [url, { size }] of urls) {
+      const map = this.inner.asked(addon.mapAt, url);
+      if (map === null) continue;
+      addon.put(handle, url, map, size);
+      addon.closeMap(map);
+    }
+    this.inner.handle = handle;
+    addon.closeTable(old);
   }
 
   // A map was put: what is said of those that were dropped goes, too, from time to time.
@@ -225,8 +239,7 @@ function readFile(name) {
 // The URLs and paths for whose maps a loader would be asked, without query and fragment: those of the frames or, with `anywhere`, of the
 // places of a text, each once, in their order.
 function frameUrls(trace, options) {
-  const { places } = rewriting(given.options(options, 'anywhere'));
-  return locationsIn(given.bytes(trace, 'trace'), places);
+  return locationsIn(given.bytes(trace, 'trace'), rewriting(given.options(options, 'anywhere')));
 }
 
 // What `rewrite` gives over maps that are waited for.

@@ -12,19 +12,29 @@ const [MOST_AT_ONCE, STEP] = [1 << 20, 1 << 20];
 // What a refusal is, or for how much a map counts.
 const numbers = new Float64Array(7);
 
+// The parts of a text, each of whole characters, or of bytes, between which others have the loop.
+async function* partsOf(map) {
+  for (let [at, next] = [0, 0]; at < map.length; at = next) {
+    next = at + STEP + (typeof map === 'string' && (map.charCodeAt(at + STEP - 1) & 0xfc00) === 0xd800);
+    yield typeof map === 'string' ? map.slice(at, next) : map.subarray(at, next);
+    await new Promise(setImmediate);
+  }
+}
+
 // A copy of the bytes of a map, which nobody else has.
 async function copied(map) {
   const [isText, { length }] = [typeof map === 'string', map];
-  const copy = Buffer.allocUnsafeSlow(isText ? Buffer.byteLength(map) : length);
-  for (let [at, end] = [0, 0]; at < length; ) {
-    const next = at + STEP + (isText && (map.charCodeAt(at + STEP - 1) & 0xfc00) === 0xd800);
-    if (isText) end += copy.write(map.slice(at, next), end);
-    else copy.set(map.subarray(at, next), at);
-    at = next;
-    await new Promise(setImmediate);
+  let [size, end, seemsHalf] = [isText ? 0 : length, 0, false];
+  if (isText) for await (const part of partsOf(map)) size += Buffer.byteLength(part);
+  const copy = Buffer.allocUnsafeSlow(size);
+  for await (const part of partsOf(map)) {
+    const begin = end;
+    if (!isText) copy.set(part, begin);
+    end += isText ? copy.write(part, begin) : part.length;
+    seemsHalf = seemsHalf || (isText && copy.subarray(begin, end).includes('\ufffd'));
   }
   if (map.length !== length) throw new TypeError('the bytes of a map were taken away');
-  if (isText && copy.includes('\ufffd')) given.utf8(map, 'a map');
+  if (seemsHalf) given.utf8(map, 'a map');
   return copy;
 }
 

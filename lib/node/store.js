@@ -2,17 +2,18 @@
 // Maps by URL, of those that are given and of those that a loader gives: what is wanted is loaded and put.
 const addon = require('./addon.js');
 const given = require('./given.js');
-const { Under } = require('./map.js');
+const { ROOM_HANDLE, Under } = require('./map.js');
 const { madeLater, madeUnder, readInto } = require('./reading.js');
 const { refusedUrl } = require('./refused.js');
 
-const { room, texts } = addon;
-const ROOM_TABLE = 10;
-const ROOM_IGNORED = 11;
+const { room } = addon;
 // Why there is no map.
 const [MISSING, FAILED] = [0, 1];
 // What failed is asked for again after so many milliseconds at most, and of so many URLs it is known how often.
 const [MOST_WAIT, MOST_FAILED] = [600000, 1000];
+
+// A URL without its query and its fragment, for whose map a loader is asked.
+const cut = (url) => url.split(/[?#]/, 1)[0];
 
 // What the owner, a table or maps, knows of URLs. `isNamed` is whether only what a frame can name is taken, and `came` is told of each map.
 class Store {
@@ -46,35 +47,16 @@ class Store {
     return this.open;
   }
 
-  // Another store of so many bytes, with the maps under these URLs that this one has.
-  move(most, urls) {
-    const [old, handle] = [this.changing, addon.newTable(most)];
-    for (const [url, { size }] of urls) {
-      const map = this.mapAt(url);
-      if (map === null) continue;
-      addon.put(handle, url, map, size);
-      addon.closeMap(map);
-    }
-    this.handle = handle;
-    addon.closeTable(old);
-  }
-
-  // The map of a URL, held by itself; the key of it, which is a use; and the key under which one is wanted. Each is null where there is none.
-  mapAt(url) {
-    return this.#asked(addon.mapAt, url);
-  }
-
-  keyOfMap(url) {
-    return this.#asked(addon.keyOfMap, url);
-  }
-
-  wanted(url) {
-    return this.#asked(addon.wanted, url);
-  }
-
-  #asked(call, url) {
-    room[ROOM_TABLE] = this.open.place;
+  // What a call of the addon answers for a URL: `mapAt` its map, held by itself; `keyOfMap` the key of that, which is a use; `forget` the key
+  // of what is forgotten. Each is null where there is none.
+  asked(call, url) {
+    room[ROOM_HANDLE] = this.open.place;
     return call(url);
+  }
+
+  // The key under which the map of a URL is wanted, or null.
+  wanted(url) {
+    return this.asked(addon.wanted, url);
   }
 
   // Whether it is known what map this URL has, or that it has none; and whether it has one.
@@ -99,26 +81,15 @@ class Store {
     }
   }
 
-  lookUp(url, line, column) {
-    const [line0, column0] = [given.line(line), given.column(column)];
-    const find = (named) => {
-      [room[0], room[1], room[ROOM_TABLE]] = [line0, column0, this.open.place];
-      return addon.findPlace(named);
-    };
-    const source = this.found(find, url, undefined);
-    if (source === undefined || room[3] !== 2) return null;
-    return { source, line: room[6] + 1, column: room[7], name: room[8] ? texts[0] : null, ignored: room[ROOM_IGNORED] === 1, index: room[5] };
-  }
-
-  // Asks `load` for the map under a key; whether it was asked.
-  ask(key, tell) {
-    const { load } = this;
-    if (!load || this.#loading.has(key)) return false;
-    this.#loading.add(key);
+  // Asks `load` for the map under a key; whether it was asked. A map that `stays` is there, and stays where that fails.
+  ask(key, tell, stays) {
+    const [{ load }, url] = [this, cut(key)];
+    if (!load || this.#loading.has(url)) return false;
+    this.#loading.add(url);
     try {
-      this.#settle(key, () => this.#read(key, load(key)), tell);
+      this.#settle(key, () => this.#read(key, load(url), stays), tell, stays);
     } finally {
-      this.#loading.delete(key);
+      this.#loading.delete(url);
     }
     return true;
   }
@@ -126,43 +97,45 @@ class Store {
   // Calls `go` once it is known what map there is under a key, with what the one threw that is told. The loader is asked once for all that
   // wait; and again, where what is known was discarded meanwhile.
   wait(key, go, tell) {
-    const waiting = this.#awaited.get(key);
-    if (waiting) waiting.push(go);
-    else this.#fetch(key, this.#awaited.set(key, [go]).get(key), tell);
+    const waiting = this.#awaited.get(cut(key));
+    if (waiting) waiting.all.push(waiting.key === key ? go : () => this.wait(key, go, tell));
+    else this.#fetch(key, { key, all: [go], isStale: true }, tell);
   }
 
   async #fetch(key, waiting, tell) {
-    const load = this.loadAsync || this.load;
+    const [url, load] = [cut(key), this.loadAsync || this.load];
     let [came, trouble] = [];
-    do {
+    this.#awaited.set(url, waiting);
+    while (waiting.isStale) {
       waiting.isStale = false;
       try {
-        const made = await this.#made(madeLater, key, await load(key));
+        const made = await this.#made(madeLater, key, await load(url));
         came = () => made;
       } catch (error) {
         came = () => {
           throw error;
         };
       }
-    } while (waiting.isStale);
-    this.#awaited.delete(key);
+    }
+    this.#awaited.delete(url);
     try {
       if (!this.holds(key)) this.#settle(key, came, tell);
     } catch (error) {
       trouble = { error };
     }
     // Before another map is put that takes the room of this one.
-    for (const go of waiting) go(trouble);
+    for (const go of waiting.all) go(trouble);
   }
 
   under(url) {
     return new Under(url, this.#options.paths, this.#options.reading);
   }
 
-  // What was given under a key, which is read into the store at once if it can be.
-  #read(key, data) {
+  // What was given under a key, which is read into the store at once if it can be; and nothing where a map was added meanwhile.
+  #read(key, data, stays) {
     const { isNamed, came } = this.#options;
-    const made = isNamed || data === null ? null : readInto(this.changing, this.under(key), data);
+    if (!stays && this.holds(key)) return {};
+    const made = isNamed ? null : readInto(this.changing, this.under(key), data);
     if (made === null) return this.#made(madeUnder, key, data);
     came(key, made, made.size);
     return made;
@@ -180,17 +153,22 @@ class Store {
       else if (!made) addon.putNone(this.changing, key, MISSING, this.#options.none);
       this.#failures.delete(key);
     } catch (error) {
-      if (stays && this.holds(key)) return void tell(key, error);
-      const [times, { retry }] = [this.#failures.get(key) || 0, this.#options];
-      this.#failures.delete(key);
-      this.#failures.set(key, times + 1);
-      if (this.#failures.size > MOST_FAILED) this.#failures.delete(this.#failures.keys().next().value);
       try {
-        tell(key, error);
+        if (!stays || !this.holds(key)) this.putFailed(key, this.#rest(key));
       } finally {
-        this.putFailed(key, retry === null ? null : Math.min(retry * 2 ** times, Math.max(retry, MOST_WAIT)));
+        // Last, as it may add the map.
+        tell(cut(key), error);
       }
     }
+  }
+
+  // After how many milliseconds what fails now is asked for again, or null for never.
+  #rest(key) {
+    const [times, { retry }] = [this.#failures.get(key) || 0, this.#options];
+    this.#failures.delete(key);
+    this.#failures.set(key, times + 1);
+    if (this.#failures.size > MOST_FAILED) this.#failures.delete(this.#failures.keys().next().value);
+    return retry === null ? null : Math.min(retry * 2 ** times, Math.max(retry, MOST_WAIT));
   }
 
   // Puts that the map under a key failed, for so many milliseconds, or for ever where that is null.
@@ -209,22 +187,12 @@ class Store {
     if (!made.map) addon.closeMap(made.handle);
   }
 
-  // What is given is put, or its error thrown.
-  add(url, data) {
-    this.put(url, madeUnder(this.under(url), data));
-  }
-
-  // Asks `load` again for a map that is there, which stays where that fails.
-  renew(key) {
-    const { load } = this;
-    this.#settle(key, () => this.#read(key, load(key)), undefined, true);
-  }
-
   discard(url) {
-    room[ROOM_TABLE] = this.changing.place;
+    room[ROOM_HANDLE] = this.changing.place;
     const key = addon.forget(url);
     this.#failures.delete(key);
-    if (this.#awaited.has(key)) this.#awaited.get(key).isStale = true;
+    const waiting = key !== null && this.#awaited.get(cut(key));
+    if (waiting) waiting.isStale = true;
   }
 
   // Asks for the maps of these URLs that are wanted, so many at once.

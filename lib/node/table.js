@@ -2,11 +2,12 @@
 // Stack traces and other texts, rewritten over a table of maps.
 const addon = require('./addon.js');
 const given = require('./given.js');
-const { DISPOSE, TraceMap, empty, standingUnder } = require('./map.js');
+const { DISPOSE, ROOM_HANDLE, ROOM_IGNORED, TraceMap, empty, standingUnder } = require('./map.js');
 const { refusedUrl } = require('./refused.js');
 const { Store } = require('./store.js');
 const { begun, rewritten } = require('./texts.js');
 
+const { room, texts } = addon;
 // So many of the maps that were refused are remembered.
 const MOST_REFUSALS = 100;
 // A rewritten text has at most so many bytes, where nothing else is said.
@@ -27,7 +28,14 @@ class Told {
   // Where a place in the file of a URL comes from, the line from 1 and the column from 0: {source, line, column, name, ignored, index}, or
   // null where it has no map, or that no original.
   lookUp(url, line, column) {
-    return this.inner.lookUp(given.text(url, 'url'), line, column);
+    const [named, line0, column0] = [given.text(url, 'url'), given.line(line), given.column(column)];
+    const find = (asked) => {
+      [room[0], room[1], room[ROOM_HANDLE]] = [line0, column0, this.inner.open.place];
+      return addon.findPlace(asked);
+    };
+    const source = this.inner.found(find, named, undefined);
+    if (source === undefined || room[3] !== 2) return null;
+    return { source, line: room[6] + 1, column: room[7], name: room[8] ? texts[0] : null, ignored: room[ROOM_IGNORED] === 1, index: room[5] };
   }
 }
 

@@ -8,13 +8,10 @@ const MOST_TEXT = 1073741824;
 
 // The URLs and paths of the frames of a text for whose maps a loader would be asked, without query and fragment, or those of its places: each
 // once, in their order.
-const locationsIn = (bytes, places) => [...new Set(addon.locations(bytes, places).split('\n').slice(0, -1))];
-
-// The bytes without control sequences.
-function stripped(bytes) {
-  const text = addon.stripped(bytes);
+function locationsIn(bytes, { places, strip }) {
+  const text = strip ? addon.stripped(bytes) : bytes;
   if (text === null) throw refusedText();
-  return text;
+  return [...new Set(addon.locations(text, places).split('\n').slice(0, -1))];
 }
 
 // Begins with a text of at most so many bytes.
@@ -50,7 +47,7 @@ function rewritten(store, rewriting, part, tell) {
 }
 
 // The same over maps that are waited for, so many at once: those that are named in `ahead`, whole lines of the part.
-function rewrittenLater(store, rewriting, part, tell, { ahead, strip, places }) {
+function rewrittenLater(store, rewriting, part, tell, { ahead, ...how }) {
   const [run, at] = [stops(store, rewriting, part), new Map()];
   let names;
   return new Promise((resolve, reject) => {
@@ -60,7 +57,7 @@ function rewrittenLater(store, rewriting, part, tell, { ahead, strip, places }) 
         const { done, value: key } = run.next();
         if (done) return resolve(key);
         store.wait(key, go, tell);
-        if (!names) (names = locationsIn(strip ? stripped(ahead) : ahead, places)).forEach((name, i) => at.set(name, i + 1));
+        if (!names) (names = locationsIn(ahead, how)).forEach((name, i) => at.set(name, i + 1));
         const from = at.get(key) || 0;
         const next = names.slice(from, from + store.atOnce - 1).filter((name) => store.wanted(name) === name);
         next.forEach((name) => store.wait(name, (failed) => failed && reject(failed.error), tell));

@@ -236,6 +236,26 @@ def loads():
     same((got, asked.count(A)), ([["a.ts"]] * 50, 1), "fifty threads")
     same((len(maps), maps.nbytes > 300), (3, True), "what is kept after rewrite")
 
+    # What was put under a URL with a query has a place of its own, for which the same URL is loaded, and not at the same time.
+    asked.clear()
+    apart, busy = Maps(lambda url: one_at_a_time(url), max_bytes=1 << 20), threading.Lock()
+
+    def one_at_a_time(url):
+        asked.append((url, busy.acquire(blocking=False)))
+        time.sleep(0.05)
+        busy.release()
+        return text_of("a.ts")
+
+    apart.add(f"{A}?1", text_of("own.ts"))
+    apart.discard(f"{A}?1")
+    both = [threading.Thread(target=lambda url=url: got.append(rewritten(apart, url)), daemon=True) for url in (A, f"{A}?1")]
+    got.clear()
+    for thread in both:
+        thread.start()
+    for thread in both:
+        thread.join(5)
+    same((got, asked), ([["a.ts"]] * 2, [(A, True)] * 2), "one URL under two keys")
+
     async def run():
         asked.clear()
 

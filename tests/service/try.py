@@ -3,8 +3,8 @@
     try.py FOLDER LANGUAGE PROGRAM..
 
 where FOLDER is for the releases, LANGUAGE is what the service is written in, and PROGRAM is how it is started, with the script. EVENTS is how
-many events are sent, 10,000 if it is not given. Then the clients of unkind.py ask. It prints `service N`, how many frames were the same,
-and how many events were answered in a second."""
+many events are sent, 10,000 if it is not given. Then the clients of unkind.py ask, and those of late.py. It prints `service N`, how many
+frames were the same, and how many events were answered in a second."""
 
 import bisect
 import http.client
@@ -23,6 +23,7 @@ from pathlib import Path
 from urllib.parse import urljoin
 
 import unkind
+from late import late
 from unkind import insist
 
 PREFIX = "https://example.test/releases/"
@@ -258,8 +259,10 @@ def main(folder, language, *program):
         unkind.names(port, folder, PREFIX)
         unkind.slow(port, PREFIX)
         unkind.many(port, process)
-        print(f"service {sum(same)} in {language}: {events // CLIENTS * CLIENTS / seconds:.0f} events in a second, {grown / 2**20:.0f} MiB more")
         insist("that it runs", process.poll(), None)
+        answers = late(folder, PREFIX, program[:-1], program[-1])
+        print(f"service {sum(same)} in {language}: {events // CLIENTS * CLIENTS / seconds:.0f} events in a second, {grown / 2**20:.0f} MiB more, "
+              f"{answers} answers beside a release that changes")
     finally:
         process.send_signal(signal.SIGTERM)
         process.communicate()

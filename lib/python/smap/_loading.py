@@ -1,9 +1,10 @@
 """The loop over a store: it is asked, and where it does not know what map a URL has, that is loaded and put, and it goes on."""
 
 import time
+from contextlib import contextmanager, nullcontext
 from contextvars import ContextVar
 from threading import Lock, RLock
-from typing import Any, Awaitable, Callable, Coroutine, Dict, Iterable, List, Optional, Tuple, TypeVar, Union, cast
+from typing import Any, Awaitable, Callable, Coroutine, Dict, Iterable, Iterator, List, Optional, Tuple, TypeVar, Union, cast
 
 from . import _given, _smap
 from ._answers import TextRefusal
@@ -31,11 +32,9 @@ _OF_FRAMES, _OF_PLACES = ("lines", "frames", "mapped", "hidden"), ("lines", "pla
 class Flight:
     """A load that is under way, for which threads wait. It waits for others that its loader asks for."""
 
-    holds = may_be_there = True
-    waits: "Tuple[Flight, ...]" = ()
-
     def __init__(self, owner: "Loading") -> None:
-        self.owner, self._lock = owner, Lock()
+        self.owner, self.holds, self.may_be_there, self._lock = owner, True, True, Lock()
+        self.waits: List[Flight] = []
         self._lock.acquire()
 
     def land(self) -> None:
@@ -48,23 +47,24 @@ class Flight:
     def leads_to(self, others: "Tuple[Flight, ...]") -> bool:
         return self in others or any(flight.leads_to(others) for flight in self.waits)
 
-    def tie(self, around: "Tuple[Flight, ...]") -> None:
-        """What is within others, the innermost last, waits for this one. Raises where this one waits for them."""
-        with _tying:
-            if self.leads_to(around):
-                raise RuntimeError("what a loader asks for waits for itself")
-            around[-1].waits += (self,)
 
-    def untie(self, around: "Tuple[Flight, ...]") -> None:
-        with _tying:
-            waits = list(around[-1].waits)
-            waits.remove(self)
-            around[-1].waits = tuple(waits)
-
-
-# The loads within which this thread or task is. What waits for what is changed behind the lock.
+# The loads within which this thread or task is, the innermost last. What waits for what is asked and changed behind the lock.
 _within: "ContextVar[Tuple[Flight, ...]]" = ContextVar("_within", default=())
-_tying = RLock()
+_tying, _UNTIED = RLock(), nullcontext()
+
+
+@contextmanager
+def _tied(flight: Flight, around: "Tuple[Flight, ...]") -> Iterator[None]:
+    """What is within others waits for a flight. Raises where that waits for them."""
+    with _tying:
+        if flight.leads_to(around):
+            raise RuntimeError("what a loader asks for waits for itself")
+        around[-1].waits.append(flight)
+    try:
+        yield
+    finally:
+        with _tying:
+            around[-1].waits.remove(flight)
 
 
 def driven(steps: "Coroutine[Any, Any, _Found]") -> _Found:
@@ -148,29 +148,23 @@ class Loading(_smap.Store):
     async def _loaded(self, key: str) -> bool:
         if self._load is None:
             return False
-        mine, around = self._flight(self), _within.get()
-        flight = self._flights.setdefault(key, mine)
-        if around:
-            flight.tie(around)
-        try:
-            await (self._fly(key, mine, False) if flight is mine else flight.landed())
-        finally:
-            if around:
-                flight.untie(around)
+        url, mine, around = _cut(key), self._flight(self), _within.get()
+        flight = self._flights.setdefault(url, mine)
+        with _tied(flight, around) if around else _UNTIED:
+            await (self._fly(key, url, mine, False) if flight is mine else flight.landed())
         return flight.may_be_there
 
     # Has those maps loaded again that are not what they were.
     async def _renew(self, urls: Iterable[str]) -> None:
         for key in map(self._key, urls):
-            mine = self._flight(self)
-            if self._is_fresh is not None and not self._is_fresh(_cut(key)) and self._flights.setdefault(key, mine) is mine:
-                await self._fly(key, mine, True)
+            url, mine = _cut(key), self._flight(self)
+            if self._is_fresh is not None and not self._is_fresh(url) and self._flights.setdefault(url, mine) is mine:
+                await self._fly(key, url, mine, True)
 
     # Asks the loader, outside of any lock: for what is known already only where it is to be loaded anew. What comes is put, if nothing
     # else was put or discarded under the URL meanwhile.
-    async def _fly(self, key: str, mine: Flight, anew: bool) -> None:
-        url, is_over = _cut(key), False
-        found: Optional[SourceMap] = None
+    async def _fly(self, key: str, url: str, mine: Flight, anew: bool) -> None:
+        is_over, found = False, cast(Optional[SourceMap], None)
         error: Optional[Exception] = None
         token = _within.set((*_within.get(), mine))
         try:
@@ -187,7 +181,7 @@ class Loading(_smap.Store):
             finally:
                 try:
                     with self._changing:
-                        del self._flights[key]
+                        del self._flights[url]
                         mine.may_be_there = not is_over or not mine.holds or self._learned(key, found, error)
                 finally:
                     mine.land()
@@ -198,25 +192,30 @@ class Loading(_smap.Store):
 
     # What is loaded under a URL now does not hold any more.
     def _outdate(self, key: str) -> None:
-        flight = self._flights.get(key)
+        flight = self._flights.get(_cut(key))
         if flight is not None:
             flight.holds = False
 
     # Puts a map, or that there is none: for a time, which after each failure in a row is twice as long. Gives whether there is one:
     # where a new one failed, the old one stays.
     def _learned(self, key: str, found: Optional[SourceMap], error: Optional[Exception]) -> bool:
-        failures = self._failures.pop(key, 0)
+        failures, rest = self._failures.pop(key, 0), self._none_for
+        if error is not None:
+            if self._knows(key):
+                return True
+            if len(self._failures) >= _MOST_FAILURES:
+                del self._failures[next(iter(self._failures))]
+            self._failures[key], rest = failures + 1, self._retry_after
+            rest = rest and max(rest, min(rest * 2.0 ** min(failures, 64), _LONGEST))
         if found is not None:
             self._put(key, found, False)
-        elif error is None:
-            self._put_none(key, False, until_over(self._none_for))
-        elif not self._knows(key):
-            if len(self._failures) >= _MOST_FAILURES:
-                self._failures.clear()
-            self._failures[key], after = failures + 1, self._retry_after
-            self._put_none(key, True, until_over(after and max(after, min(after * 2.0 ** min(failures, 64), _LONGEST))))
-            return False
-        return found is not None or error is not None
+        else:
+            self._put_none(key, error is not None, until_over(rest))
+        self._part(key)
+        return found is not None
+
+    def _part(self, *keys: str) -> None:
+        """What is known under these keys changed."""
 
     def _tell(self, url: str, error: Exception) -> None:
         if self._refused is not None:

@@ -86,15 +86,10 @@ class _Kept(Loading):
 
     # What is handed out under a URL from now on shares nothing with what was. An index goes where its map was dropped, too.
     def _part(self, *keys: str) -> None:
-        for key in (*keys, *[key for key in self._indexed if not self._knows(key)]):
-            self._shared.pop(key, None)
-            self._indexed.pop(key, None)
-
-    def _learned(self, key: str, found: Optional[SourceMap], error: Optional[Exception]) -> bool:
-        is_there = super()._learned(key, found, error)
-        if (self._shared or self._indexed) and (found is not None or not is_there):
-            self._part(key)
-        return is_there
+        if self._shared or self._indexed:
+            for key in (*keys, *[key for key in self._indexed if not self._knows(key)]):
+                self._shared.pop(key, None)
+                self._indexed.pop(key, None)
 
 
 class Maps(Blocking, _Kept):

@@ -153,10 +153,10 @@ impl Engine {
         }
     }
 
-    /// Goes on with a text as far as it was given.
+    /// Goes on with a text as far as it was given, at one time: what holds for no time holds for that.
     fn run(&mut self, text: &mut Rewriting) -> Result<(), Error> {
+        let now = self.now();
         loop {
-            let now = self.now();
             match text.run(&mut self.table, &mut self.store, now)? {
                 Stop::Done => return Ok(()),
                 Stop::Wanted => self.want(&text.url())?,
@@ -184,10 +184,10 @@ impl Engine {
         self.store.map(url, now)
     }
 
-    /// Asks for the map of a URL where nothing is known of it, and says at which time something is.
+    /// Asks for the map of a URL or path of which nothing is known, and says at which time something is.
     fn settle(&mut self, url: &[u8]) -> Result<u64, Error> {
         let now = self.now();
-        if self.store.ask(url, now)? == Known::Wanted {
+        if self.store.ask(url, now)? == Known::Wanted && library::is_location(library::cut(url)) {
             self.want(url)?;
         }
         Ok(now)
@@ -196,7 +196,7 @@ impl Engine {
     /// Asks for the map of a URL of which nothing is known, and puts what comes.
     fn want(&mut self, url: &[u8]) -> Result<(), Error> {
         let key = self.store.key(url);
-        let name = std::str::from_utf8(key).ok();
+        let name = std::str::from_utf8(library::cut(key)).ok();
         let loaded = match (&mut self.load, name) {
             (Some(load), Some(name)) => load(name, self.how),
             _ => Ok(None),
@@ -235,12 +235,17 @@ impl Engine {
         Some(time.min(LONGEST_RETRY.max(first)))
     }
 
-    /// The time since this one was made, in milliseconds.
+    /// The time since this one was made, in nanoseconds.
     fn now(&self) -> u64 {
-        self.begun.elapsed().as_millis() as u64
+        nanoseconds(self.begun.elapsed())
     }
 
+    /// When this time is over, which is not now.
     fn after(&self, time: Duration) -> u64 {
-        self.now().saturating_add(time.as_millis() as u64)
+        self.now().saturating_add(nanoseconds(time).max(1))
     }
+}
+
+fn nanoseconds(time: Duration) -> u64 {
+    u64::try_from(time.as_nanos()).unwrap_or(u64::MAX)
 }

@@ -1,7 +1,7 @@
 //! Tables of maps, and what they make of texts.
 
 use super::store::Found;
-use super::{done, no_source, no_text, Bytes, Map, NOTHING};
+use super::{done, lent, no_source, no_text, Bytes, Map, NOTHING};
 use crate::error::{Error, Refused};
 use crate::sys;
 use std::ptr;
@@ -103,4 +103,20 @@ pub(crate) fn path_below(prefix: &str, url: &str) -> Result<Option<String>, Erro
         Err(Error::Refused(_)) => Ok(None),
         Err(error) => Err(error),
     }
+}
+
+/// A URL without its query and its fragment.
+pub(crate) fn cut(url: &[u8]) -> &[u8] {
+    let mut text = no_text();
+    // What is lent is the beginning of the URL.
+    let length = unsafe {
+        sys::smap_cut_url(url.as_ptr(), url.len(), &mut text);
+        lent(&text).len()
+    };
+    &url[..length.min(url.len())]
+}
+
+/// Whether a map may be asked for under this one, which is cut.
+pub(crate) fn is_location(url: &[u8]) -> bool {
+    unsafe { sys::smap_is_location(url.as_ptr(), url.len()) == sys::SMAP_DONE }
 }
