@@ -59,7 +59,7 @@ abbrev pub excluded_line : (anywhere : Bool) → (bytes : List ℕ) → Option �
 excluded_line anywhere bytes = if anywhere then option_map (λ index. index + 1) (position is_of_any_url (lines bytes)) else None
 
 abbrev pub excluded_reason : List ℕ
-excluded_reason = codes "*=FILE with --anywhere"
+excluded_reason = codes "not together: *=FILE, --anywhere"
 
 -- the lines of a list add to the locations, unless one is excluded
 abbrev pub AddsAllowed : (anywhere : Bool) → (list bytes : List ℕ) → Maps → LocationsSeen → Result MapSources Report → Type 0

@@ -18,7 +18,7 @@ use smap_trace::Table;
 use std::alloc::{AllocError, Global};
 
 // Why a line of all URLs is refused: places are rewritten anywhere in a text, and times of day are such places.
-const EXCLUDED: &str = "*=FILE with --anywhere";
+const EXCLUDED: &str = "not together: *=FILE, --anywhere";
 
 /// What a text is rewritten over: the maps of words, which are read first, and the files and folders of the others.
 #[derive(Drop)]
