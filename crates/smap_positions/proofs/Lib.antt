@@ -1,5 +1,6 @@
 mod PutLaws
 mod PrintedLaws
+mod ShortTextLaws
 mod EscapeLaws
 pub mod PositionLaws
 pub mod ColumnLaws

@@ -3,7 +3,7 @@ ghost use Rattle.std.specs.Prelude.{◌≡◌, [], OnOk};
 ghost use Rattle.smap_positions.specs.Private.GatheredLine.{Gathers};
 
 use crate::output::Output;
-use crate::short_text::ShortText;
+use crate::short_text::{ShortPiece, ShortText};
 use itoa::Buffer;
 use smap_io::{ByteSink, DeviceFault};
 use smap_lines::LineOutput;
@@ -34,6 +34,13 @@ impl<W: ByteSink> Output for GatheredLine<'_, '_, W> {
         if !self.text.add_number(number) {
             let mut digits = Buffer::new();
             self.put_long(digits.format(number).as_bytes());
+        }
+    }
+
+    #[inline(always)]
+    fn put_piece(&mut self, piece: &ShortPiece) {
+        if !self.text.add_piece(piece) {
+            self.put_long(piece.bytes());
         }
     }
 

@@ -60,6 +60,6 @@ fn put_line<O: Output>(map: &MapFile, mapping: &Mapping, form: Form, output: &mu
     if form.is_json() {
         put_mapping_object(map, mapping, output)
     } else {
-        put_mapping_line(map, mapping, b" of ", None, output)
+        put_mapping_line(map, mapping, b" of ", &None, output)
     }
 }

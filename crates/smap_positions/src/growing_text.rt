@@ -2,6 +2,7 @@
 ghost use Rattle.std.specs.Prelude.{◌≡◌, [], IfOk, is_ok, true};
 
 use crate::output::Output;
+use crate::short_text::ShortPiece;
 use itoa::Buffer;
 use std::alloc::{AllocError, Global};
 
@@ -27,6 +28,10 @@ impl Output for GrowingText {
     fn put_decimal(&mut self, number: u64) {
         let mut digits = Buffer::new();
         self.put(digits.format(number).as_bytes());
+    }
+
+    fn put_piece(&mut self, piece: &ShortPiece) {
+        self.put(piece.bytes());
     }
 
     ghost puts_none = { grows_none };

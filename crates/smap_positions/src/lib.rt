@@ -22,6 +22,7 @@ mod gathered_line;
 mod generated;
 mod growing_text;
 mod json_form;
+mod kept_source;
 mod lookup;
 mod map_text;
 mod mappings;

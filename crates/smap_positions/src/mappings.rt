@@ -7,18 +7,19 @@ ghost use Rattle.smap_lines.specs.declared.fault.LineFault.TheVariants.{Memory, 
 ghost use Rattle.smap_positions.specs.Mappings.{is_on_line, line_with, mappings_text, printed_mapping};
 ghost use Rattle.smap_positions.specs.Private.GatheredLine.{Gathers};
 ghost use Rattle.smap_positions.specs.Private.Past.{is_past_line};
-ghost use Rattle.smap_positions.specs.Private.Plain.{IsPlainSource};
+ghost use Rattle.smap_positions.specs.Private.Plain.{IsKept};
 
 use crate::answer::from_one;
 use crate::gathered_line::GatheredLine;
 use crate::json_form::put_mapping_object;
+use crate::kept_source::{KeptSource, keep_source};
 use crate::output::{Output, put_number};
 use crate::short_text::ShortText;
-use crate::text_form::{UNMAPPED, is_source, put_origin_line};
+use crate::text_form::{UNMAPPED, put_origin_line};
 use smap_command::{Form, MappingsOptions};
 use smap_io::{ByteSink, DeviceFault};
-use smap_lines::{Gathered, LineFault, LineOutput, has_control};
-use smap_record::{MapFile, Mapping, source_name};
+use smap_lines::{Gathered, LineFault, LineOutput};
+use smap_record::{MapFile, Mapping};
 use std::alloc::Global;
 
 /// Prints the mappings of a map that the options ask for, a line each in their order. The caller gives an output that has
@@ -109,7 +110,7 @@ fn gather_mappings<W: ByteSink>(
 )
     ensures { Gathers W.seen lines.old lines.new (mappings_text options map.now.stated) }
 {
-    let mut plain = None;
+    let mut kept = None;
     for mapping in map.mappings(alloc) {
         if is_past_line(options.line, &mapping) {
             return;
@@ -117,8 +118,8 @@ fn gather_mappings<W: ByteSink>(
         if lines.done.is_err() {
             return;
         }
-        plain = plain_source(map, plain, &mapping);
-        put_asked(map, options, &mapping, plain, lines);
+        keep_source(map, &mapping, &mut kept);
+        put_asked(map, options, &mapping, &kept, lines);
     }
 }
 
@@ -129,44 +130,21 @@ fn is_past_line(line: Option<u32>, mapping: &Mapping) -> bool
     line.is_some_and(|line| line < mapping.line)
 }
 
-// A source whose name is known to print as it is: that of a mapping, where it does, and else the one that was known before.
-fn plain_source(map: &MapFile, plain: Option<u32>, mapping: &Mapping) -> Option<u32>
-    requires { IfSome plain (IsPlainSource map.now.stated) }
-    ensures { IfSome result (IsPlainSource map.now.stated) }
-{
-    match mapping.origin {
-        Some(origin) if !is_source(plain, origin.source) => plain_at(map, origin.source),
-        _ => plain,
-    }
-}
-
-// This source, if its name prints as it is.
-fn plain_at(map: &MapFile, source: u32) -> Option<u32>
-    ensures { IfSome result (IsPlainSource map.now.stated) }
-{
-    let name = source_name(map.source(source))?;
-    if has_control(name.as_bytes()) {
-        None
-    } else {
-        Some(source)
-    }
-}
-
-// Puts the line for a mapping, if it is asked for. The name of one source may be known to print as it is.
+// Puts the line for a mapping, if it is asked for. Its source may be kept.
 fn put_asked<O: Output>(
     map: &MapFile,
     options: MappingsOptions,
     mapping: &Mapping,
-    plain: Option<u32>,
+    kept: &Option<KeptSource>,
     output: &mut O,
 )
-    requires { IfSome plain (IsPlainSource map.now.stated) }
+    requires { IfSome kept.now (IsKept map.now.stated) }
     ensures { O.Puts output.old output.new
         (if is_on_line options.line mapping.now
         then printed_mapping options.form map.now.stated mapping.now else []) }
 {
     if is_on_line(options.line, mapping) {
-        put_mapping(map, mapping, options.form, plain, output);
+        put_mapping(map, mapping, options.form, kept, output);
     }
 }
 
@@ -182,30 +160,29 @@ fn put_mapping<O: Output>(
     map: &MapFile,
     mapping: &Mapping,
     form: Form,
-    plain: Option<u32>,
+    kept: &Option<KeptSource>,
     output: &mut O,
 )
-    requires { IfSome plain (IsPlainSource map.now.stated) }
+    requires { IfSome kept.now (IsKept map.now.stated) }
     ensures { O.Puts output.old output.new
         (printed_mapping form map.now.stated mapping.now) }
 {
     if form.is_json() {
         put_mapping_object(map, mapping, output)
     } else {
-        put_mapping_line(map, mapping, b" ", plain, output)
+        put_mapping_line(map, mapping, b" ", kept, output)
     }
 }
 
-/// Puts the line for a mapping as text: its place, a text, and what it answers. The name of one source may be known to print
-/// as it is.
+/// Puts the line for a mapping as text: its place, a text, and what it answers. Its source may be kept.
 pub fn put_mapping_line<O: Output>(
     map: &MapFile,
     mapping: &Mapping,
     between: &[u8],
-    plain: Option<u32>,
+    kept: &Option<KeptSource>,
     output: &mut O,
 )
-    requires { IfSome plain (IsPlainSource map.now.stated) }
+    requires { IfSome kept.now (IsKept map.now.stated) }
     ensures { O.Puts output.old output.new (line_with between.now map.now.stated mapping.now) }
 {
     output.put_decimal(from_one(mapping.line));
@@ -213,6 +190,6 @@ pub fn put_mapping_line<O: Output>(
     output.put(between);
     match mapping.origin {
         None => output.put(UNMAPPED.as_bytes()),
-        Some(origin) => put_origin_line(map, &origin, plain, output),
+        Some(origin) => put_origin_line(map, &origin, kept, output),
     }
 }

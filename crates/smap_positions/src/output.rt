@@ -1,6 +1,8 @@
 //! Where an answer is put, piece by piece.
 ghost use Rattle.std.specs.Prelude.{◌++◌, [], ℕ, List, decimal};
 
+use crate::short_text::ShortPiece;
+
 /// An output that takes pieces. It keeps its first failure, and takes nothing from then on: whoever made it asks at the end
 /// what became of it.
 pub trait Output {
@@ -13,6 +15,10 @@ pub trait Output {
     /// Puts the digits of a number.
     fn put_decimal(&mut self, number: u64)
         ensures { Puts self.old self.new (decimal number) };
+
+    /// Puts a piece of fixed size.
+    fn put_piece(&mut self, piece: &ShortPiece)
+        ensures { Puts self.old self.new piece.now };
 
     // An output that stays as it is takes nothing.
     ghost puts_none: { (output : Self) → Puts output output [] };

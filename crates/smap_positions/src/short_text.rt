@@ -1,5 +1,5 @@
-//! A short text in a room of fixed size.
-ghost use Rattle.std.specs.Prelude.{◌≡◌, ◌++◌, [], decimal, false, true};
+//! Short texts in rooms of fixed size.
+ghost use Rattle.std.specs.Prelude.{◌≡◌, ◌++◌, ◌<◌, [], IfSome, decimal, false, length, true};
 
 use itoa::write_digits;
 use std::marker::Model;
@@ -9,6 +9,9 @@ const MOST_SHORT: usize = 256;
 
 // How many digits a number has at most.
 const MOST_DECIMAL_DIGITS: usize = 20;
+
+// How many bytes a piece has at most.
+const MOST_PIECE: usize = 64;
 
 /// A text of at most 256 bytes.
 #[derive(Drop)]
@@ -62,7 +65,8 @@ impl ShortText {
         true
     }
 
-    /// Puts a number behind the text, if there is room for any, and says whether there is.
+    /// Puts a number behind the text, if there is room for any, and says whether there is. Its digits are counted first, so
+    /// that they are written where they stand.
     #[inline(always)]
     pub fn add_number(&mut self, number: u64) -> bool
         ensures added { result ≡ true → self.new ≡ self.old ++ decimal number }
@@ -71,12 +75,24 @@ impl ShortText {
         if MOST_SHORT - self.length < MOST_DECIMAL_DIGITS {
             return false;
         }
-        // The digits end in the middle of a room of twice their greatest count, so that a piece of fixed size can be copied.
-        let mut digits = [0; 2 * MOST_DECIMAL_DIGITS];
-        let start = write_digits(number, &mut digits, MOST_DECIMAL_DIGITS);
-        let end = self.length + MOST_DECIMAL_DIGITS;
-        self.bytes[self.length..end].copy_from_slice(&digits[start..start + MOST_DECIMAL_DIGITS]);
-        self.length = end - start;
+        let end = self.length + count_digits(number);
+        write_digits(number, &mut self.bytes, end);
+        self.length = end;
+        true
+    }
+
+    /// Puts a piece of fixed size behind the text, if there is room for any, and says whether there is.
+    #[inline(always)]
+    pub fn add_piece(&mut self, piece: &ShortPiece) -> bool
+        ensures added { result ≡ true → self.new ≡ self.old ++ piece.now }
+        ensures full { result ≡ false → self.new ≡ self.old }
+    {
+        if MOST_SHORT - self.length < MOST_PIECE {
+            return false;
+        }
+        let end = self.length + MOST_PIECE;
+        self.bytes[self.length..end].copy_from_slice(&piece.bytes);
+        self.length += piece.length;
         true
     }
 
@@ -86,4 +102,72 @@ impl ShortText {
     {
         self.length = 0;
     }
+}
+
+/// A text of at most 64 bytes that is put again and again, and so by a copy of fixed size.
+#[derive(Drop)]
+pub struct ShortPiece {
+    bytes: [u8; MOST_PIECE],
+    length: usize,
+}
+
+impl Model for ShortPiece {
+    ghost use Rattle.std.specs.Prelude.{ℕ, ◌≤◌, List, take};
+    ghost use Rattle.smap_positions.specs.Private.ShortText.{most_piece};
+
+    ghost Value = { List ℕ };
+
+    ghost view = { λ piece. take piece.length piece.bytes };
+
+    ghost invariant = { λ piece. piece.length ≤ most_piece };
+}
+
+impl ShortPiece {
+    /// This text, if it is not too long.
+    pub fn of(text: &[u8]) -> Option<ShortPiece>
+        ensures { IfSome result (λ piece. piece ≡ text.now) }
+    {
+        if text.len() > MOST_PIECE {
+            return None;
+        }
+        let mut bytes = [0; MOST_PIECE];
+        bytes[..text.len()].copy_from_slice(text);
+        Some(ShortPiece {
+            bytes,
+            length: text.len(),
+        })
+    }
+
+    #[inline(always)]
+    pub fn bytes(&self) -> &[u8]
+        ensures { result.now ≡ self.now }
+    {
+        &self.bytes[..self.length]
+    }
+}
+
+// How many digits a number has.
+#[inline(always)]
+fn count_digits(number: u64) -> usize
+    ensures { result ≡ length (decimal number) }
+{
+    let mut left = number;
+    let mut more = 0;
+    while left >= 10_000 {
+        left /= 10_000;
+        more += 4;
+    }
+    more + count_few_digits(left)
+}
+
+// How many digits a number below 10000 has.
+#[inline(always)]
+fn count_few_digits(number: u64) -> usize
+    requires { number < 10000 }
+    ensures { result ≡ length (decimal number) }
+{
+    if number < 100 {
+        return if number < 10 { 1 } else { 2 };
+    }
+    if number < 1000 { 3 } else { 4 }
 }

@@ -1,10 +1,12 @@
 //! Answers as lines of text, each with its LF.
-ghost use Rattle.std.specs.Prelude.{◌≡◌, ◌++◌, codes, option_map, IfSome, Some, true};
+ghost use Rattle.std.specs.Prelude.{◌≡◌, ◌++◌, codes, option_and_then, option_map, slice_get, IfSome, true};
 ghost use Rattle.smap_positions.specs.Lines.{ignored_text, name_suffix};
 ghost use Rattle.smap_positions.specs.Lookup.{answer_line, origin_line, source_text};
-ghost use Rattle.smap_positions.specs.Private.Plain.{IsPlain, IsPlainSource};
+ghost use Rattle.smap_positions.specs.Private.Plain.{IsKept, IsPlain};
+ghost use Rattle.smap_record.specs.Written.{text_of_source};
 
 use crate::answer::{from_one, name_at};
+use crate::kept_source::KeptSource;
 use crate::map_text::put_shown;
 use crate::output::{Output, put_number};
 use smap_record::{Answer, MapFile, Origin, is_ignored, source_name};
@@ -24,37 +26,57 @@ pub fn put_answer_line<O: Output>(map: &MapFile, answer: &Answer, output: &mut O
     match answer {
         Answer::Nothing => output.put(NONE.as_bytes()),
         Answer::Unmapped { .. } => output.put(UNMAPPED.as_bytes()),
-        Answer::Found { origin, .. } => put_origin_line(map, origin, None, output),
+        Answer::Found { origin, .. } => put_origin_line(map, origin, &None, output),
     }
 }
 
-/// Puts the line for a place in a source. The name of one source may be known to print as it is.
+/// Puts the line for a place in a source, which may be kept.
+#[inline(always)]
 pub fn put_origin_line<O: Output>(
     map: &MapFile,
     origin: &Origin,
-    plain: Option<u32>,
+    kept: &Option<KeptSource>,
     output: &mut O,
 )
-    requires { IfSome plain (IsPlainSource map.now.stated) }
+    requires { IfSome kept.now (IsKept map.now.stated) }
     ensures { O.Puts output.old output.new (origin_line map.now.stated origin.now) }
 {
-    let entry = map.source(origin.source);
-    let is_plain = is_source(plain, origin.source);
-    put_source(source_name(entry), origin.source, is_plain, output);
+    put_source_at(map, origin.source, kept, output);
     put_number(b":", from_one(origin.line), output);
     put_number(b":", from_one(origin.column), output);
     put_name(name_at(map, origin.name), output);
-    put_line_end(is_ignored(entry), output);
+    put_line_end(is_ignored(map.source(origin.source)), output);
 }
 
-/// Whether a source that may be known is that of this index.
+// Puts how the source of this index prints, which may be kept.
 #[inline(always)]
-pub fn is_source(known: Option<u32>, index: u32) -> bool
-    ensures { result ≡ true → known ≡ Some index }
+fn put_source_at<O: Output>(map: &MapFile, index: u32, kept: &Option<KeptSource>, output: &mut O)
+    requires { IfSome kept.now (IsKept map.now.stated) }
+    ensures { O.Puts output.old output.new (source_text
+        (option_and_then text_of_source (slice_get map.now.stated.sources index)) index) }
 {
-    match known {
-        Some(source) => source == index,
-        None => false,
+    match kept {
+        Some(source) if source.index == index => put_kept(map, source, output),
+        _ => put_source(source_name(map.source(index)), index, false, output),
+    }
+}
+
+// Puts how a source prints that is kept.
+#[inline(always)]
+fn put_kept<O: Output>(map: &MapFile, source: &KeptSource, output: &mut O)
+    requires { IsKept map.now.stated source.now }
+    ensures { O.Puts output.old output.new (source_text
+        (option_and_then text_of_source (slice_get map.now.stated.sources source.now.index))
+        source.now.index) }
+{
+    match &source.name {
+        Some(name) => output.put_piece(name),
+        None => put_source(
+            source_name(map.source(source.index)),
+            source.index,
+            true,
+            output,
+        ),
     }
 }
 

@@ -16,7 +16,7 @@ loop-mapping-init g c =
       can = tt;
       finite = tt;
       ordered = subst IsInOrder (sym list) ordered;
-      plain = tt;
+      kept = tt;
       put = ([], gathers_none g.W.ByteSink.seen _, ap (printed_mappings c.args.options.form c.args.options.line c.args.map.now.stated) (sym list));
     }
 
@@ -39,11 +39,11 @@ returns-then-is_err g c =
     subst (λ l. Gathers g.W.ByteSink.seen c.args.lines.now c.loop-mapping.lines l) (sym so_far.put.2)
     (gathers_more g.W.ByteSink.seen _ _ so_far.put.0 (lines c.loop-mapping.mapping-iterator) (sym c.is_err.ensures.value ∙ c.if-is_err.true) so_far.put.1)
 
-pub plain_source-plain-requires : goal.plain_source-plain-requires
-plain_source-plain-requires g c = c.loop-mapping.invariant.plain
+pub keep_source-requires : goal.keep_source-requires
+keep_source-requires g c = c.loop-mapping.invariant.kept
 
 pub put_asked-requires : goal.put_asked-requires
-put_asked-requires g c = c.plain_source-plain.ensures
+put_asked-requires g c = c.keep_source.ensures
 
 pub loop-mapping-preserved : goal.loop-mapping-preserved
 loop-mapping-preserved g c =
@@ -55,7 +55,7 @@ loop-mapping-preserved g c =
       can = tt;
       finite = tt;
       ordered = tail_in_order c.in-Some.mapping _ (subst IsInOrder c.in-Some.ensures.steps so_far.ordered);
-      plain = c.plain_source-plain.ensures;
+      kept = c.keep_source.ensures;
       put = (
         _,
         gathers_both g.W.ByteSink.seen _ _ _ _ _ so_far.put.1 c.put_asked.ensures,
