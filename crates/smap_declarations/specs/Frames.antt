@@ -1,0 +1,68 @@
+-- The name of a frame's function.
+use Rattle.std.specs.Prelude.{◌≡◌, ℕ, List, Option, Some, None, Bool, true, not, ◌&&◌, if◌then◌else◌, codes, slice_get, option_and_then, length, drop, nat_eq, MatchOption}
+use Rattle.std.specs.List.{Contains, list_all, starts_with}
+use Rattle.std.specs.Str.{bytes_eq}
+use Rattle.smap_declarations.specs.Bytes.{is_word_byte}
+use Rattle.smap_declarations.specs.Declarations.{Named}
+use Rattle.smap_declarations.specs.Functions.{is_empty}
+use Rattle.smap_declarations.specs.Walk.{is_at_or_before}
+use Rattle.smap_declarations.specs.declared.given.Given.{Given}
+use Rattle.smap_declarations.specs.declared.given.Given.TheVariants as given
+use Rattle.smap_declarations.specs.declared.walk.Place.{Place}
+
+-- a text is a name: it has letters, digits, `_`, `$` and bytes above 0x7F alone, and one at least
+abbrev pub is_name : List ℕ → Bool
+is_name text = not (is_empty text) && list_all is_word_byte text
+
+-- ---- the forms of a frame's function
+
+-- the text behind this, where it begins with it
+abbrev pub behind_front : (front text : List ℕ) → List ℕ
+behind_front front text = if starts_with nat_eq text front then drop (length front) text else text
+
+-- the one name that a frame's function is, behind `async ` and `new `
+unfoldable pub function_name : (function : List ℕ) → Option (List ℕ)
+function_name function =
+    let name = behind_front (codes "new ") (behind_front (codes "async ") function) in
+    if is_name name then Some name else None
+
+-- ---- which declaration decides
+
+-- a declaration or property of this name that begins at this place or before it
+abbrev pub is_of : (name : List ℕ) → Place → Named → Bool
+is_of name place named = bytes_eq named.name name && is_at_or_before named.place place
+
+-- of these this one is the last
+pub record IsLast (all : List Named) (name : List ℕ) (place : Place) (last : Named) : Type 0 where
+  pub among : Contains all last
+  pub of : is_of name place last ≡ true
+  pub latest : (named : Named) → Contains all named → is_of name place named ≡ true → is_at_or_before named.place last.place ≡ true
+
+abbrev pub IsNone : (all : List Named) (name : List ℕ) (place : Place) → Type 0
+IsNone all name place = (named : Named) → Contains all named → is_of name place named ≡ true → ⊥
+
+-- the one that decides
+abbrev pub Decides : (all : List Named) (name : List ℕ) (place : Place) → Option Named → Type 0
+Decides all name place decides = MatchOption decides (IsNone all name place) (IsLast all name place)
+
+-- ---- the name that is printed
+
+-- a name, where it can be printed
+abbrev pub printed : List ℕ → Option (List ℕ)
+printed name = if is_name name then Some name else None
+
+-- the name that a function of this name is given, where the map has these names
+abbrev pub name_given : (names : List (List ℕ)) (function : List ℕ) → Given → Option (List ℕ)
+name_given names function given.Nothing = None
+name_given names function given.Own = printed function
+name_given names function (given.Name i) = option_and_then printed (slice_get names i)
+
+abbrev pub name_by : (names : List (List ℕ)) (function : List ℕ) → Option Named → Option (List ℕ)
+name_by names function None = None
+name_by names function (Some named) = name_given names function named.given
+
+-- the name of a function at a place: that which decides gives it, or there is none
+pub record IsNameOf (all : List Named) (names : List (List ℕ)) (function : List ℕ) (place : Place) (name : Option (List ℕ)) : Type 0 where
+  pub decides : Option Named
+  pub last : Decides all function place decides
+  pub name_is : name ≡ name_by names function decides

@@ -1,0 +1,5 @@
+-- What contracts of private functions alone cite.
+pub mod Open
+pub mod Found
+pub mod Entries
+pub mod Order

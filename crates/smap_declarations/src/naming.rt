@@ -1,0 +1,104 @@
+//! One pass over a generated text, which finds its declarations and properties.
+ghost use Rattle.std.specs.Prelude.{◌≡◌, ◌≤◌, ◌++◌, IfOk, OnOk, length, option_map, option_to_list};
+ghost use Rattle.smap_declarations.specs.Declarations.{name_here, name_in, named_from};
+ghost use Rattle.smap_declarations.specs.Limits.{most_text_bytes};
+ghost use Rattle.smap_declarations.specs.Private.Found.{all_named, named};
+ghost use Rattle.smap_declarations.specs.Private.Open.{behind_next};
+ghost use Rattle.smap_declarations.specs.Walk.{origin, start};
+
+use crate::brackets::{Behind, Brackets};
+use crate::bytes::{split_byte, split_word};
+use crate::given::{Given, given_to};
+use crate::kind::kind_of;
+use crate::walk::{Before, Place};
+use smap_record::MapFile;
+use std::alloc::{AllocError, Global};
+
+// A name where it stands in the text.
+#[derive(Clone, Copy)]
+pub struct Found<'t> {
+    pub name: &'t [u8],
+    pub place: Place,
+    pub given: Given,
+}
+
+// The declarations and properties of a text, in order.
+pub fn found_in<'t>(
+    alloc: Global,
+    text: &'t [u8],
+    map: &MapFile,
+) -> Result<Vec<Found<'t>>, AllocError>
+    requires { length text.now ≤ most_text_bytes }
+    ensures { IfOk result (λ found. all_named found.items
+        ≡ named_from map.now.stated start origin text.now) }
+{
+    let mut brackets = Brackets::of(alloc, text)?;
+    let mut found = Vec::new(alloc);
+    let mut before = Before::start();
+    let mut place = Place::origin();
+    let mut rest = text;
+    while let Some((byte, behind)) = split_byte(rest) {
+        let next = brackets.next();
+        let name = name_here(alloc, map, before, place, byte, rest, next);
+        push_if_some(&mut found, name)?;
+        brackets.pass(byte);
+        before = before.after(byte, rest);
+        place = place.after(byte, behind);
+        rest = behind;
+    }
+    Ok(found)
+}
+
+// Adds what was found, where something was.
+#[inline(always)]
+fn push_if_some<'t>(found: &mut Vec<Found<'t>>, name: Option<Found<'t>>) -> Result<(), AllocError>
+    ensures { OnOk result (all_named found.new.items
+        ≡ all_named found.old.items ++ option_to_list (option_map named name.entry)) }
+{
+    if let Some(name) = name {
+        found.push(name)?;
+    }
+    Ok(())
+}
+
+// What is told of the word that begins with this byte, where one does that is a declaration or a property.
+#[inline(always)]
+fn name_here<'t>(
+    alloc: Global,
+    map: &MapFile,
+    before: Before,
+    place: Place,
+    byte: u8,
+    text: &'t [u8],
+    next: Behind,
+) -> Option<Found<'t>>
+    requires { next ≡ behind_next text.now }
+    ensures { option_map named result ≡ name_here map.now.stated before place byte text.now }
+{
+    if before.begins_word(byte) {
+        name_in(alloc, map, before, place, text, next)
+    } else {
+        None
+    }
+}
+
+// What is told of the word that begins this text, where it is a declaration or a property. It is told what stands behind the
+// end of the text's first bracket.
+#[inline(always)]
+#[tactic(auto, using(crate::proofs::BracketLaws::same_next), unfolding(crate::specs::Declarations::name_in))]
+fn name_in<'t>(
+    alloc: Global,
+    map: &MapFile,
+    before: Before,
+    place: Place,
+    text: &'t [u8],
+    next: Behind,
+) -> Option<Found<'t>>
+    requires { next ≡ behind_next text.now }
+    ensures { option_map named result ≡ name_in map.now.stated before place text.now }
+{
+    let (name, behind) = split_word(text);
+    let kind = kind_of(before, name, behind, next)?;
+    let given = given_to(alloc, map, place, kind);
+    Some(Found { name, place, given })
+}

@@ -1,0 +1,47 @@
+//! The order in which declarations are kept.
+ghost use Rattle.std.specs.Prelude.{◌≡◌};
+ghost use Rattle.std.specs.List.Sorted.{IsPermutation};
+ghost use Rattle.smap_declarations.specs.Private.Found.{all_named, named};
+ghost use Rattle.smap_declarations.specs.Private.Order.{IsInOrder, is_up_to, named_cmp, place_cmp};
+
+use crate::naming::Found;
+use crate::walk::Place;
+use std::cmp::Ordering;
+
+// Sorts by the bytes of the names, and those of one name by their places.
+pub fn sort(found: &mut Vec<Found<'_>>)
+    ensures permutation { IsPermutation found.old.items found.new.items }
+    ensures ordered { IsInOrder (all_named found.new.items) }
+{
+    found.sort_unstable_by(|first, second| order(first, second));
+}
+
+fn order(first: &Found<'_>, second: &Found<'_>) -> Ordering
+    ensures { result ≡ named_cmp (named first.now) (named second.now) }
+{
+    first
+        .name
+        .cmp(&second.name)
+        .then(place_order(first.place, second.place))
+}
+
+fn place_order(first: Place, second: Place) -> Ordering
+    ensures { result ≡ place_cmp first second }
+{
+    first
+        .line
+        .cmp(&second.line)
+        .then(first.column.cmp(&second.column))
+}
+
+// Whether one stands before this name at this place, or is of it and not behind the place.
+#[inline(always)]
+pub fn is_up_to(found: &Found<'_>, name: &[u8], place: Place) -> bool
+    ensures { result ≡ is_up_to name.now place (named found.now) }
+{
+    match found.name.cmp(&name) {
+        Ordering::Less => true,
+        Ordering::Equal => found.place.is_at_or_before(place),
+        Ordering::Greater => false,
+    }
+}
