@@ -1,4 +1,7 @@
 //! Indexes: what they hold, what they answer, and with how many comparisons and segments.
+ghost use Rattle.std.specs.Prelude.{◌≡◌, ◌∷◌, [], IfOk};
+ghost use Rattle.smap_index.specs.Parts.{whole_text};
+
 use crate::same::assert_same;
 use crate::shown::{answer_text, held_text};
 use smap_index::{Answer, Index, MarkedText, Part};
@@ -17,6 +20,13 @@ fn packed(alloc: Global, text: &str) -> Result<PackedText, Fail> {
 
 // The index of one text, with checkpoints at this interval.
 fn index_of(alloc: Global, text: PackedText, interval: u32) -> Result<Index, Fail> {
+    Ok(Index::build(alloc, whole(alloc, text)?, interval)?)
+}
+
+// The text as the one part, which begins at the start.
+fn whole(alloc: Global, text: PackedText) -> Result<Vec<Part>, AllocError>
+    ensures { IfOk result (λ parts. parts.items ≡ whole_text text ∷ []) }
+{
     let mut parts = Vec::new(alloc);
     parts.push(Part {
         line: 0,
@@ -25,7 +35,7 @@ fn index_of(alloc: Global, text: PackedText, interval: u32) -> Result<Index, Fai
         source_base: 0,
         name_base: 0,
     })?;
-    Ok(Index::build(alloc, parts, interval)?)
+    Ok(parts)
 }
 
 // The counts and the mappings of an index.
@@ -152,14 +162,20 @@ fn an_index_of_no_part_is_empty(rt: HostRuntime) -> Result<(), Fail> {
     Ok(())
 }
 
+// The index of one text, with the checkpoints at this interval that were made when it was checked.
+fn marked_index(alloc: Global, text: String, interval: u32) -> Result<Index, Fail> {
+    let Ok(marked) = MarkedText::check(alloc, text, 1, 0, interval) else {
+        return Err(Fail::new("the text is refused"));
+    };
+    let (text, marks) = marked.into_fields();
+    Ok(Index::of_marks(whole(alloc, text)?, marks)?)
+}
+
 #[test]
 fn a_text_is_checked_and_marked_at_once(rt: HostRuntime) -> Result<(), Fail> {
     // Four segments, two, none and one stand on its lines.
     let text = String::from_str(rt.alloc(), "AAAA,C,C,C;C,C;;C")?;
-    let Ok(marked) = MarkedText::check(rt.alloc(), text, 1, 0, 2) else {
-        return Err(Fail::new("the text is refused"));
-    };
-    let index = Index::of_text(rt.alloc(), marked)?;
+    let index = marked_index(rt.alloc(), text, 2)?;
     assert!(&rt; index.checkpoints() == 4 && index.segments() == 7 && index.used_lines() == 3);
     let (answer, meter) = asked(rt.alloc(), &index, Direction::Before, 0, 3);
     assert!(&rt; answer == Answer::Unmapped { column: 3 } && meter.segments() == 1);
@@ -172,10 +188,7 @@ fn a_long_line_is_marked(rt: HostRuntime) -> Result<(), Fail> {
     for _ in 0..99 {
         text.push_str(",CAAC")?;
     }
-    let Ok(marked) = MarkedText::check(rt.alloc(), text, 1, 0, 10) else {
-        return Err(Fail::new("the text is refused"));
-    };
-    let index = Index::of_text(rt.alloc(), marked)?;
+    let index = marked_index(rt.alloc(), text, 10)?;
     assert!(&rt; index.checkpoints() == 10 && index.segments() == 100 && index.used_lines() == 1);
     Ok(())
 }
