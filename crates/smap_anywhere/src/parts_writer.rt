@@ -17,7 +17,7 @@ use crate::replacement::find_replacement;
 use smap_io::{ByteSink, DeviceFault};
 use smap_lines::LineOutput;
 use smap_pairs::Span;
-use smap_record::MapFile;
+use smap_record::ReadyMap;
 use smap_trace::{MOST_PRINTED_BYTES, Maps, Naming, UrlNotes, print_place};
 use std::alloc::Global;
 
@@ -118,7 +118,7 @@ fn halve_within<'r>(text: &[u8], room: &'r mut [u8]) -> &'r [u8]
 // map; and says whether it is replaced.
 fn put_place<W: ByteSink>(
     alloc: Global,
-    map: Option<&MapFile>,
+    map: Option<&ReadyMap>,
     text: &[u8],
     from: usize,
     span: &Span,

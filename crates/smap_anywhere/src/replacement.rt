@@ -6,7 +6,7 @@ ghost use Rattle.smap_trace.specs.SightSeen.{replacement_seen};
 
 use memchr::memchr2;
 use smap_pairs::Span;
-use smap_record::MapFile;
+use smap_record::ReadyMap;
 use smap_trace::{Replacement, original_at};
 use std::alloc::Global;
 
@@ -14,7 +14,7 @@ use std::alloc::Global;
 /// place in a source whose name can stand anywhere.
 pub fn find_replacement<'t>(
     alloc: Global,
-    map: Option<&'t MapFile>,
+    map: Option<&'t ReadyMap>,
     span: &Span,
 ) -> Option<Replacement<'t>>
     ensures { option_map replacement_seen result

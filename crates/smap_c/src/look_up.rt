@@ -79,7 +79,7 @@ pub extern "C" fn smap_look_up(
     ensures status { result ≡ 0 }
 {
     let mut meter = Meter::new(alloc);
-    *found = answer_numbers(map.lend().map().look_up(line, column, &mut meter));
+    *found = answer_numbers(map.lend().ready().look_up(line, column, &mut meter));
     DONE
 }
 
@@ -100,6 +100,6 @@ pub extern "C" fn smap_look_up_from(
     ensures status { result ≡ 0 }
 {
     let mut meter = Meter::new(alloc);
-    *found = answer_numbers(map.lend().map().look_up_from(line, column, &mut meter));
+    *found = answer_numbers(map.lend().ready().look_up_from(line, column, &mut meter));
     DONE
 }

@@ -5,7 +5,7 @@ ghost use Rattle.smap_c.specs.Many.{all_found};
 use crate::handles::MapHandle;
 use crate::look_up::{Found, answer_numbers};
 use crate::status::DONE;
-use smap_record::{MapFile, Meter};
+use smap_record::{Meter, ReadyMap};
 use std::alloc::Global;
 
 /// A generated position. Both count from 0, columns in UTF-16 code units.
@@ -32,12 +32,12 @@ pub extern "C" fn smap_look_up_many(
     ensures stays { map.new.held ≡ map.old.held }
     ensures status { result ≡ 0 }
 {
-    look_up_all(alloc, map.lend().map(), positions, found);
+    look_up_all(alloc, map.lend().ready(), positions, found);
     DONE
 }
 
 // Looks each of these positions up.
-fn look_up_all(alloc: Global, file: &MapFile, positions: &[Position], found: &mut [Found])
+fn look_up_all(alloc: Global, file: &ReadyMap, positions: &[Position], found: &mut [Found])
     requires places { length found.old ≡ length positions.now }
     ensures { found.new ≡ all_found file.now.stated positions.now }
 {

@@ -4,7 +4,6 @@ ghost use Rattle.smap_record.specs.NamedSources.{map_by_path};
 
 use crate::handles::MapHandle;
 use crate::status::{DONE, NO_MEMORY, REFUSED};
-use smap_record::name_sources_by_path;
 use std::alloc::Global;
 
 /// Names the sources of a map by the URL at which it stands, where that is a path from a root: each whose name is kept as it
@@ -20,7 +19,7 @@ pub extern "C" fn smap_map_use_paths(alloc: Global, map: &mut MapHandle, url: &[
     let Some(only) = map.lend().only() else {
         return REFUSED;
     };
-    match name_sources_by_path(alloc, only, url) {
+    match only.name_sources_by_path(alloc, url) {
         Ok(()) => DONE,
         Err(_no_memory) => NO_MEMORY,
     }

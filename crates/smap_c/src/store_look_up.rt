@@ -100,11 +100,11 @@ pub extern "C" fn smap_store_look_up<'a>(
     let kept = &store.lend().kept;
     match kept.peek(url, now) {
         Answer::Known(share) => {
-            let map = share.map();
+            let map = share.ready();
             let answer = answer_in(alloc, map, line, column, after);
             *found = answer_numbers(answer);
-            *source = source_of(map, answer);
-            name.text = name_of(map, answer);
+            *source = source_of(map.map(), answer);
+            name.text = name_of(map.map(), answer);
             DONE
         }
         Answer::NoneKnown(reason) => {

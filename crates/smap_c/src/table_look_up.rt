@@ -8,7 +8,7 @@ use crate::handles::TableHandle;
 use crate::look_up::{Found, answer_numbers};
 use crate::status::{DONE, REFUSED};
 use crate::texts::{Source, Text, no_source, reported};
-use smap_record::{Answer, MapFile, Meter};
+use smap_record::{Answer, MapFile, Meter, ReadyMap};
 use std::alloc::Global;
 
 /// How a place is looked up in a table.
@@ -47,13 +47,19 @@ pub extern "C" fn smap_table_look_up<'a>(
     };
     let answer = answer_in(alloc, map, line, column, options.after);
     *found = answer_numbers(answer);
-    *source = source_of(map, answer);
-    name.text = name_of(map, answer);
+    *source = source_of(map.map(), answer);
+    name.text = name_of(map.map(), answer);
     DONE
 }
 
 /// What a map answers at a position, in one direction or the other.
-pub(crate) fn answer_in(alloc: Global, map: &MapFile, line: u32, column: u32, after: bool) -> Answer
+pub(crate) fn answer_in(
+    alloc: Global,
+    map: &ReadyMap,
+    line: u32,
+    column: u32,
+    after: bool,
+) -> Answer
     ensures { result ≡ answer_in after map.now.stated line column }
 {
     let mut meter = Meter::new(alloc);

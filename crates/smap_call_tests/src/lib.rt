@@ -17,6 +17,8 @@ mod kept;
 #[cfg(test)]
 mod kept_rows;
 #[cfg(test)]
+mod lines;
+#[cfg(test)]
 mod pieces;
 #[cfg(test)]
 mod places;

@@ -6,7 +6,7 @@ use crate::places::table_of_two;
 use smap_anywhere::SeemingUrls;
 use smap_pairs::KnownUrls;
 use smap_piecewise::{HiddenFrames, KnownMaps, Rewriting, Stop, TextOptions};
-use smap_record::MapFile;
+use smap_record::ReadyMap;
 use smap_trace::Table;
 use std::alloc::Global;
 use std::process::Abort;
@@ -42,7 +42,7 @@ impl KnownMaps for LateMaps<'_> {
         self.are_known
     }
 
-    fn map_for(&self, url: &[u8]) -> Option<&MapFile> {
+    fn map_for(&self, url: &[u8]) -> Option<&ReadyMap> {
         self.table.map_for(url)
     }
 }

@@ -79,7 +79,7 @@ const WORD: &str = r#"{"version":3,"file":"word","sources":[],"names":[],"mappin
 fn is_file<M: Maps>(maps: &mut M, url: &str, file: &str) -> bool {
     maps.find(url.as_bytes());
     match maps.map_for(url.as_bytes()) {
-        Some(map) => map.file() == Some(file),
+        Some(map) => map.map().file() == Some(file),
         None => file.is_empty(),
     }
 }

@@ -7,7 +7,7 @@ ghost use Rattle.smap_replies.specs.Why.{ReportsMapWhy};
 
 use smap_command::{Direction, LookupOptions};
 use smap_positions::{lookup_as_json, lookup_text};
-use smap_record::{MapFile, Meter};
+use smap_record::{MapFile, Meter, ReadyMap};
 use smap_replies::{Failure, FileReader, MapReader, Reply, read_map_explained};
 use smap_verdicts::nearest_text;
 use std::alloc::{AllocError, Global};
@@ -28,6 +28,7 @@ pub fn answer_lookup<F: FileReader>(
         (report_of result) }
 {
     let map = read_map_explained(alloc, maps, 0, path, options.explain)?;
+    let map = ReadyMap::for_few(alloc, map);
     let (line, column) = position;
     let text = lookup_print(alloc, &map, line, column, direction, options)?;
     Ok(Reply::Bytes(text))
@@ -36,7 +37,7 @@ pub fn answer_lookup<F: FileReader>(
 // What is printed for what a map answers for a position.
 fn lookup_print(
     alloc: Global,
-    map: &MapFile,
+    map: &ReadyMap,
     line: u32,
     column: u32,
     direction: Direction,
@@ -50,7 +51,7 @@ fn lookup_print(
     }
     let mut text = lookup_text(alloc, map, line, column, direction)?;
     if options.explain {
-        text.extend_from_slice(about_text(alloc, map, line, column)?.as_bytes())?;
+        text.extend_from_slice(about_text(alloc, map.map(), line, column)?.as_bytes())?;
     }
     Ok(text)
 }

@@ -16,7 +16,7 @@ use smap_command::{AnswerOptions, Positions};
 use smap_io::{ByteSink, ByteSource};
 use smap_lines::LineFault;
 use smap_positions::PositionsSummary;
-use smap_record::MapFile;
+use smap_record::ReadyMap;
 use smap_replies::{Failure, FileReader, Reply, read_chosen};
 use std::alloc::Global;
 
@@ -40,13 +40,14 @@ pub fn answer_positions<F: FileReader, R: ByteSource, W: ByteSink>(
         (report_of result) }
 {
     let map = read_chosen(alloc, reader, &asked.map, false)?;
+    let map = ReadyMap::new(alloc, map);
     answer_over(alloc, &map, asked.options, input, output)
 }
 
 // Answers them from this map.
 fn answer_over<R: ByteSource, W: ByteSink>(
     alloc: Global,
-    map: &MapFile,
+    map: &ReadyMap,
     options: AnswerOptions,
     input: &mut R,
     output: &mut W,

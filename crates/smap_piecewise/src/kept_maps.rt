@@ -1,7 +1,7 @@
 //! The maps that are kept of URLs, as they are known at a time.
 use crate::known::KnownMaps;
 use smap_kept::{Answer, Kept};
-use smap_record::{MapFile, SharedMap};
+use smap_record::{ReadyMap, SharedMap};
 
 /// The maps that are kept of URLs, and the time at which they are asked for.
 #[derive(Drop)]
@@ -29,9 +29,9 @@ impl KnownMaps for KeptMaps {
         }
     }
 
-    fn map_for(&self, url: &[u8]) -> Option<&MapFile> {
+    fn map_for(&self, url: &[u8]) -> Option<&ReadyMap> {
         match self.kept.peek(url, self.now) {
-            Answer::Known(map) => Some(map.map()),
+            Answer::Known(map) => Some(map.ready()),
             Answer::NoneKnown(_) | Answer::Wanted => None,
         }
     }

@@ -2,7 +2,7 @@
 ghost use Rattle.std.specs.Prelude.{◌≡◌, ℕ, List, Option, Some, is_some, option_map, true};
 ghost use Rattle.smap_record.specs.Record.{MapRecord};
 
-use smap_record::MapFile;
+use smap_record::ReadyMap;
 use smap_trace::TableMaps;
 
 /// What knows the maps of some URLs, and of some that they have none.
@@ -22,7 +22,7 @@ pub trait KnownMaps {
         ensures still { still self.new ≡ still self.old };
 
     /// The map of a URL of which this is known, where it has one. The call takes no memory.
-    fn map_for(&self, url: &[u8]) -> Option<&MapFile>
+    fn map_for(&self, url: &[u8]) -> Option<&ReadyMap>
         requires { is_some (known self.now url.now) ≡ true }
         ensures { Some (option_map (λ map. map.now.stated) result) ≡ known self.now url.now };
 }
@@ -43,7 +43,7 @@ impl KnownMaps for TableMaps<'_> {
         true
     }
 
-    fn map_for(&self, url: &[u8]) -> Option<&MapFile> {
+    fn map_for(&self, url: &[u8]) -> Option<&ReadyMap> {
         self.0.map_for(url)
     }
 }

@@ -12,7 +12,7 @@ ghost use Rattle.smap_piecewise.specs.Private.PutLine.{IsFramePut, IsLinePut, Is
 use crate::appended::{append_all, append_line};
 use crate::known::KnownMaps;
 use smap_lines::end_of_line;
-use smap_record::MapFile;
+use smap_record::ReadyMap;
 use smap_trace::{
     Frame, Hiding, MOST_PRINTED_BYTES, Original, Replacement, frame, original_at, print_place,
 };
@@ -63,7 +63,7 @@ pub fn put_line<K: KnownMaps>(
 // Where a frame comes from, if its URL has this map, and that an origin for it.
 fn original_in<'m>(
     alloc: Global,
-    map: Option<&'m MapFile>,
+    map: Option<&'m ReadyMap>,
     frame: &Frame<'_>,
 ) -> Option<Original<'m>>
     ensures { option_map original_seen result ≡ original_in (parts_seen frame.now)

@@ -8,7 +8,7 @@ use crate::appended::append_all;
 use crate::known::KnownMaps;
 use smap_anywhere::{find_replacement, url_of};
 use smap_pairs::Span;
-use smap_record::MapFile;
+use smap_record::ReadyMap;
 use smap_trace::{MOST_PRINTED_BYTES, print_place};
 use std::alloc::{AllocError, Global};
 
@@ -49,7 +49,7 @@ pub fn put_place<K: KnownMaps>(
 // Appends what becomes of a place where its URL has this map, and says whether it is replaced.
 fn put_over(
     alloc: Global,
-    map: Option<&MapFile>,
+    map: Option<&ReadyMap>,
     text: &[u8],
     span: &Span,
     output: &mut Vec<u8>,

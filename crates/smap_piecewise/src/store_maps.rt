@@ -4,7 +4,7 @@ use crate::known::KnownMaps;
 use crate::location::is_location;
 use smap_kept::Answer;
 use smap_locations::without_query;
-use smap_record::MapFile;
+use smap_record::ReadyMap;
 use smap_store::UrlTable;
 
 /// The maps of a table, which come first, and those that are kept of URLs. Where maps are asked for, it is not known what
@@ -32,12 +32,12 @@ impl KnownMaps for StoreMaps<'_, '_> {
         self.kept.ask(url) || !(self.asks && is_location(without_query(url)))
     }
 
-    fn map_for(&self, url: &[u8]) -> Option<&MapFile> {
+    fn map_for(&self, url: &[u8]) -> Option<&ReadyMap> {
         if let Some(map) = self.table.map_under(url, true) {
             return Some(map);
         }
         match self.kept.kept.peek(url, self.kept.now) {
-            Answer::Known(map) => Some(map.map()),
+            Answer::Known(map) => Some(map.ready()),
             Answer::NoneKnown(_) | Answer::Wanted => None,
         }
     }

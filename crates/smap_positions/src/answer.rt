@@ -4,14 +4,14 @@ ghost use Rattle.smap_record.specs.Sources.{source_of};
 ghost use Rattle.smap_positions.specs.Lookup.{answer_excerpt, lookup_answer, source_excerpt};
 
 use smap_command::Direction;
-use smap_record::{Answer, MapFile, Meter, Origin, SourceEntry};
+use smap_record::{Answer, MapFile, Meter, Origin, ReadyMap, SourceEntry};
 use smap_text::excerpt;
 use std::alloc::{AllocError, Global};
 
 /// What a map answers for a position. The call takes no memory.
 pub fn lookup_answer(
     alloc: Global,
-    map: &MapFile,
+    map: &ReadyMap,
     line: u32,
     column: u32,
     direction: Direction,

@@ -14,14 +14,14 @@ use crate::text_form::BAD_POSITION;
 use smap_command::AnswerOptions;
 use smap_io::{ByteSink, DeviceFault};
 use smap_lines::{LineEditor, LineOutput};
-use smap_record::MapFile;
+use smap_record::ReadyMap;
 use std::alloc::Global;
 
 /// Answers the lines of a text of positions, counts them, and keeps the number of the first that is no position.
 #[derive(Drop)]
 pub struct PositionAnswerer<'m> {
     pub alloc: Global,
-    pub map: &'m MapFile,
+    pub map: &'m ReadyMap,
     pub options: AnswerOptions,
     pub lines: u64,
     pub first_bad: Option<u64>,

@@ -10,7 +10,7 @@ use crate::answerer::PositionAnswerer;
 use smap_command::AnswerOptions;
 use smap_io::{ByteSink, ByteSource};
 use smap_lines::{LineFault, MOST_TEXT_BYTES, edit_lines};
-use smap_record::MapFile;
+use smap_record::ReadyMap;
 use std::alloc::Global;
 
 /// What was in a text of positions that was answered.
@@ -36,7 +36,7 @@ pub fn answer_positions<R: ByteSource, W: ByteSink>(
     alloc: Global,
     input: &mut R,
     output: &mut W,
-    map: &MapFile,
+    map: &ReadyMap,
     options: AnswerOptions,
 ) -> Result<PositionsSummary, LineFault>
     requires input_works { (R.seen input.old).failed ≡ false }

@@ -19,7 +19,7 @@ use smap_codes::Code;
 use smap_command::{AnswerOptions, Form};
 use smap_io::{ByteSink, DeviceFault};
 use smap_lines::LineOutput;
-use smap_record::{MapFile, MapRefusal};
+use smap_record::{MapRefusal, ReadyMap};
 use smap_store::NoMap;
 use std::alloc::Global;
 
@@ -35,7 +35,7 @@ pub fn put_place_line<W: ByteSink>(
     alloc: Global,
     options: AnswerOptions,
     place: AskedPlace<'_>,
-    found: Result<&MapFile, NoMap>,
+    found: Result<&ReadyMap, NoMap>,
     output: &mut LineOutput<'_, W>,
 ) -> Result<(), DeviceFault>
     ensures { IsPut W.seen output.old output.new
@@ -78,7 +78,7 @@ fn put_place<O: Output>(
     alloc: Global,
     options: AnswerOptions,
     place: AskedPlace<'_>,
-    found: Result<&MapFile, NoMap>,
+    found: Result<&ReadyMap, NoMap>,
     output: &mut O,
 )
     ensures { O.Puts output.old output.new
@@ -94,7 +94,7 @@ fn put_place<O: Output>(
 /// Puts the line for what a map answers for a position, with the URL that was asked for, where one was.
 pub fn put_answer<O: Output>(
     alloc: Global,
-    map: &MapFile,
+    map: &ReadyMap,
     options: AnswerOptions,
     position: PrintedPosition,
     url: Option<&str>,
@@ -106,6 +106,7 @@ pub fn put_answer<O: Output>(
     let line = position.line.saturating_sub(1);
     let column = position.column.saturating_sub(1);
     let answer = lookup_answer(alloc, map, line, column, options.direction);
+    let map = map.map();
     if options.form.is_json() {
         let asked = AskedPosition {
             line: u64::from(position.line),

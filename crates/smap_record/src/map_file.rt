@@ -19,6 +19,7 @@ ghost use Rattle.smap_record.specs.Sources.{source_of, with_name_at};
 ghost use Rattle.smap_record.specs.Written.{written};
 ghost use Rattle.smap_record.specs.declared.refusal.MapRefusal.TheVariants as refusals;
 
+mod among;
 mod regular;
 
 use crate::entry::SourceEntry;

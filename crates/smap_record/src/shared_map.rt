@@ -4,6 +4,7 @@ ghost use Rattle.std.specs.Borrow.{sem};
 ghost use Rattle.smap_record.specs.Lending.{LendsOnly};
 
 use crate::map_file::MapFile;
+use crate::ready_map::ReadyMap;
 use std::alloc::{AllocError, AllocFailed, Global};
 use std::marker::Model;
 use std::sync::Arc;
@@ -11,7 +12,7 @@ use std::sync::Arc;
 /// A hold on a map, which others may hold, too. It is freed with the last that holds it. Each hold may go to a thread of its own.
 #[derive(Drop)]
 pub struct SharedMap {
-    map: Arc<MapFile, Global>,
+    map: Arc<ReadyMap, Global>,
 }
 
 impl Model for SharedMap {
@@ -29,13 +30,23 @@ impl SharedMap {
         ensures held { IfOk result (λ shared. shared ≡ map) }
         ensures back { IfErr result (λ failed. failed.value ≡ map) }
     {
-        Ok(SharedMap {
-            map: Arc::new(alloc, map)?,
-        })
+        match Arc::new(alloc, ReadyMap::new(alloc, map)) {
+            Ok(map) => Ok(SharedMap { map }),
+            Err(AllocFailed { value }) => Err(AllocFailed {
+                value: value.into_map(),
+            }),
+        }
     }
 
     /// The map.
     pub fn map(&self) -> &MapFile
+        ensures { result.now ≡ self.now }
+    {
+        self.ready().map()
+    }
+
+    /// The map, ready for look-ups.
+    pub fn ready(&self) -> &ReadyMap
         ensures { result.now ≡ self.now }
     {
         &*self.map
@@ -51,7 +62,7 @@ impl SharedMap {
     }
 
     /// The map, to be changed, where nothing else holds it. What others hold never changes.
-    pub fn only(&mut self) -> Option<&mut MapFile>
+    pub fn only(&mut self) -> Option<&mut ReadyMap>
         ensures* writes_back { sem 𝓛 (LendsOnly self.entry result) }
         ensures value { IfSome result (λ map. map.now ≡ self.old) }
     {
@@ -64,7 +75,7 @@ impl SharedMap {
         ensures back { IfErr result (λ shared. shared ≡ self) }
     {
         match Arc::try_unwrap(self.map) {
-            Ok(map) => Ok(map),
+            Ok(ready) => Ok(ready.into_map()),
             Err(map) => Err(SharedMap { map }),
         }
     }

@@ -7,7 +7,7 @@ ghost use Rattle.smap_store.specs.Loaded.{came_seen};
 
 use crate::loader::{LoadedMap, NoMap};
 use smap_kept::Bounded;
-use smap_record::MapFile;
+use smap_record::ReadyMap;
 use std::alloc::{AllocError, Global};
 use std::marker::Model;
 
@@ -38,7 +38,7 @@ impl Model for MapCache {
 // The maps, and why other URLs have none.
 #[derive(Drop)]
 pub(crate) struct HeldMaps {
-    pub(crate) maps: Bounded<MapFile>,
+    pub(crate) maps: Bounded<ReadyMap>,
     pub(crate) nones: Bounded<NoMap>,
 }
 
@@ -52,7 +52,7 @@ impl HeldMaps {
     }
 
     // What is remembered of a URL.
-    fn recall(&self, url: &[u8]) -> Option<Result<&MapFile, NoMap>>
+    fn recall(&self, url: &[u8]) -> Option<Result<&ReadyMap, NoMap>>
         ensures { option_map (result_map_both (λ map. map.now.stated) (λ why. why)) result
             ≡ found_of (known_under url.now self.now.maps.entries)
             (known_under url.now self.now.nones.entries) }
@@ -78,7 +78,10 @@ impl HeldMaps {
     {
         match loaded {
             Ok(LoadedMap { map, file_bytes }) => {
-                match self.maps.put(alloc, url, map, file_bytes) {
+                match self
+                    .maps
+                    .put(alloc, url, ReadyMap::new(alloc, map), file_bytes)
+                {
                     Ok(_) => Ok(()),
                     Err(_) => Err(AllocError),
                 }
@@ -150,7 +153,7 @@ impl MapCache {
     }
 
     // What is remembered of a URL, where something is.
-    pub(crate) fn recall(&self, url: &[u8]) -> Option<Result<&MapFile, NoMap>>
+    pub(crate) fn recall(&self, url: &[u8]) -> Option<Result<&ReadyMap, NoMap>>
         ensures { option_map (result_map_both (λ map. map.now.stated) (λ why. why)) result
             ≡ kept_under url.now self.now }
     {

@@ -10,7 +10,7 @@ use crate::cache::MapCache;
 use crate::fileless::asks_no_file;
 use crate::loader::{LoadedMap, MapLoader, NoMap};
 use smap_locations::Locations;
-use smap_record::MapFile;
+use smap_record::ReadyMap;
 use smap_trace::{Maps, Table};
 use std::alloc::Global;
 
@@ -28,7 +28,7 @@ pub struct StoredMaps<'s, 'c, L: MapLoader> {
 
 impl<L: MapLoader> StoredMaps<'_, '_, L> {
     // What is known of a URL before any file is asked for: its map, or that it has none.
-    fn known(&self, url: &[u8]) -> Option<Option<&MapFile>>
+    fn known(&self, url: &[u8]) -> Option<Option<&ReadyMap>>
         ensures { option_map (λ known. option_map (λ map. map.now.stated) known) result
             ≡ known_of self.now.words.now self.now.locations.now url.now }
     {
@@ -42,7 +42,7 @@ impl<L: MapLoader> StoredMaps<'_, '_, L> {
     }
 
     /// The map of the URL that was looked for last, or why it has none. The call takes no memory.
-    pub fn outcome_at(&self, url: &[u8]) -> Result<&MapFile, NoMap>
+    pub fn outcome_at(&self, url: &[u8]) -> Result<&ReadyMap, NoMap>
         ensures { result_map_both (λ map. map.now.stated) (λ why. why) result
             ≡ outcome_at (stored_seen self.now) url.now }
     {
@@ -109,7 +109,7 @@ impl<L: MapLoader> Maps for StoredMaps<'_, '_, L> {
         true
     }
 
-    fn map_for(&self, url: &[u8]) -> Option<&MapFile> {
+    fn map_for(&self, url: &[u8]) -> Option<&ReadyMap> {
         if let Some(known) = self.known(url) {
             return known;
         }

@@ -1,6 +1,6 @@
 //! The maps of a table, for a text that names URLs.
 use crate::url_table::UrlTable;
-use smap_record::MapFile;
+use smap_record::ReadyMap;
 use smap_trace::Maps;
 
 /// The maps of a table. With `cut` a URL under which it has none has the one under it without its query and its fragment,
@@ -26,7 +26,7 @@ impl Maps for UrlMaps<'_> {
         false
     }
 
-    fn map_for(&self, url: &[u8]) -> Option<&MapFile> {
+    fn map_for(&self, url: &[u8]) -> Option<&ReadyMap> {
         self.table.map_under(url, self.cut)
     }
 

@@ -7,7 +7,7 @@ ghost use Rattle.smap_store.specs.UrlTable.{IsAdded, IsWithPattern, IsWithWord, 
 use crate::fileless::asks_no_file;
 use crate::pattern_map::PatternMap;
 use smap_locations::{Locations, pattern_text, without_query};
-use smap_record::{MapFile, SharedMap};
+use smap_record::{ReadyMap, SharedMap};
 use smap_trace::{Table, TableRefusal, is_bad_url};
 use std::alloc::{AllocError, Global};
 use std::marker::Model;
@@ -130,7 +130,7 @@ impl UrlTable {
 
     /// The map of a URL: that under it; with `cut`, else that under it without its query and its fragment; else that of the
     /// pattern that decides for it. The call takes no memory.
-    pub fn map_under(&self, url: &[u8], cut: bool) -> Option<&MapFile>
+    pub fn map_under(&self, url: &[u8], cut: bool) -> Option<&ReadyMap>
         ensures { option_map (λ map. map.now.stated) result ≡ map_under cut self.now url.now }
     {
         if let Some(map) = self.words.map_for(url) {
@@ -145,14 +145,14 @@ impl UrlTable {
     }
 
     // The map of the pattern that decides for a URL.
-    fn map_by_pattern(&self, url: &[u8]) -> Option<&MapFile>
+    fn map_by_pattern(&self, url: &[u8]) -> Option<&ReadyMap>
         ensures { option_map (λ map. map.now.stated) result ≡ map_by_pattern self.now url.now }
     {
         if asks_no_file(&self.locations, url) {
             return None;
         }
         let place = self.locations.pattern_place(url)?;
-        Some(self.patterns[place].map.map())
+        Some(self.patterns[place].map.ready())
     }
 
     /// The maps under URLs.

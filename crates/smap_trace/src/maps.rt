@@ -3,7 +3,7 @@ ghost use Rattle.std.specs.Prelude.{◌≡◌, ℕ, List, Option, false, option_
 ghost use Rattle.smap_record.specs.Record.{MapRecord};
 
 use crate::table::Table;
-use smap_record::MapFile;
+use smap_record::ReadyMap;
 
 /// What gives the maps of the URLs that a text names.
 pub trait Maps {
@@ -23,7 +23,7 @@ pub trait Maps {
         ensures same { result ≡ false → found self.new ≡ found self.old };
 
     /// The map of the URL that was looked for last, where it has one. The call takes no memory.
-    fn map_for(&self, url: &[u8]) -> Option<&MapFile>
+    fn map_for(&self, url: &[u8]) -> Option<&ReadyMap>
         ensures { option_map (λ map. map.now.stated) result ≡ found self.now url.now };
 
     // Each URL may have a map, or none.
@@ -58,7 +58,7 @@ impl Maps for TableMaps<'_> {
         false
     }
 
-    fn map_for(&self, url: &[u8]) -> Option<&MapFile> {
+    fn map_for(&self, url: &[u8]) -> Option<&ReadyMap> {
         self.0.map_for(url)
     }
 

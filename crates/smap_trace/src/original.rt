@@ -6,7 +6,7 @@ ghost use Rattle.smap_trace.specs.Rewritten.{name_in, original_at};
 ghost use Rattle.smap_trace.specs.SightSeen.{original_seen};
 
 use smap_lines::has_control;
-use smap_record::{Answer, MapFile, Meter, SourceEntry, is_ignored, source_name};
+use smap_record::{Answer, Meter, ReadyMap, SourceEntry, is_ignored, source_name};
 use std::alloc::Global;
 
 /// Where a place comes from: a source, by its name, where it has one that can be printed, and whether its map says to
@@ -31,7 +31,7 @@ pub struct Replacement<'t> {
 /// takes no memory.
 pub fn original_at<'t>(
     alloc: Global,
-    map: &'t MapFile,
+    map: &'t ReadyMap,
     line: u32,
     column: u32,
 ) -> Option<Original<'t>>
@@ -50,7 +50,7 @@ pub struct KnownOrigin {
 }
 
 // The origin of a place in a map, if it has one.
-pub fn origin_at(alloc: Global, map: &MapFile, line: u32, column: u32) -> Option<KnownOrigin>
+pub fn origin_at(alloc: Global, map: &ReadyMap, line: u32, column: u32) -> Option<KnownOrigin>
     ensures { result ≡ origin_at map.now.stated line column }
 {
     let mut meter = Meter::new(alloc);
@@ -63,12 +63,12 @@ pub fn origin_at(alloc: Global, map: &MapFile, line: u32, column: u32) -> Option
         source: origin.source,
         line: origin.line,
         column: origin.column,
-        is_named: printable_name(map.source(origin.source)).is_some(),
+        is_named: printable_name(map.map().source(origin.source)).is_some(),
     })
 }
 
 // Where a place comes from that has this origin in a map, if it has one.
-pub fn original_from<'t>(map: &'t MapFile, origin: Option<KnownOrigin>) -> Option<Original<'t>>
+pub fn original_from<'t>(map: &'t ReadyMap, origin: Option<KnownOrigin>) -> Option<Original<'t>>
     ensures { option_map original_seen result ≡ option_map (location_from map.now.stated) origin }
 {
     let KnownOrigin {
@@ -77,7 +77,7 @@ pub fn original_from<'t>(map: &'t MapFile, origin: Option<KnownOrigin>) -> Optio
         column,
         is_named,
     } = origin?;
-    let source = map.source(source);
+    let source = map.map().source(source);
     Some(Original {
         name: known_name(source, is_named),
         ignored: is_ignored(source),

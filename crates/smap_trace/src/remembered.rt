@@ -7,7 +7,7 @@ ghost use Rattle.smap_trace.specs.Rewritten.{original_at};
 ghost use Rattle.smap_trace.specs.SightSeen.{original_seen};
 
 use crate::original::{KnownOrigin, Original, origin_at, original_from};
-use smap_record::MapFile;
+use smap_record::ReadyMap;
 use std::alloc::Global;
 
 // How many places are remembered at most, and at first.
@@ -111,7 +111,7 @@ impl Remembered {
     pub fn original_at<'t>(
         &mut self,
         alloc: Global,
-        map: &'t MapFile,
+        map: &'t ReadyMap,
         url: &[u8],
         line: u32,
         column: u32,
@@ -129,7 +129,7 @@ impl Remembered {
     fn origin_at(
         &mut self,
         alloc: Global,
-        map: &MapFile,
+        map: &ReadyMap,
         url: &[u8],
         line: u32,
         column: u32,

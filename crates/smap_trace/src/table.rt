@@ -9,7 +9,7 @@ ghost use Rattle.smap_trace.specs.declared.refusal.TableRefusal.TheVariants.{Mem
 use crate::entry::Entry;
 use crate::refusal::TableRefusal;
 use smap_locations::ByText;
-use smap_record::{MapFile, SharedMap};
+use smap_record::{MapFile, ReadyMap, SharedMap};
 use std::alloc::{AllocError, AllocFailed, Global};
 use std::marker::Model;
 
@@ -55,14 +55,15 @@ impl Table {
         if self.map_for(url.as_str().as_bytes()).is_some() {
             return Err((TableRefusal::Twice, url, map));
         }
-        match self.maps.add(url.into_bytes(), Entry::Own(map)) {
+        let own = Entry::Own(ReadyMap::new(*url.allocator(), map));
+        match self.maps.add(url.into_bytes(), own) {
             Ok(()) => Ok(()),
             Err(
                 AllocFailed {
                     value: (url, entry),
                 },
             ) => match entry {
-                Entry::Own(map) => Err((TableRefusal::Memory, text(url), map)),
+                Entry::Own(map) => Err((TableRefusal::Memory, text(url), map.into_map())),
                 Entry::Shared(_) => unreachable!("the map is the table's own"),
             },
         }
@@ -103,7 +104,7 @@ impl Table {
     }
 
     /// The map under a URL, where there is one.
-    pub fn map_for(&self, url: &[u8]) -> Option<&MapFile>
+    pub fn map_for(&self, url: &[u8]) -> Option<&ReadyMap>
         ensures { option_map (λ map. map.now.stated) result ≡ value_under url.now self.now }
     {
         match self.maps.get(url) {

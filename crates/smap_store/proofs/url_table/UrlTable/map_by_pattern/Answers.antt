@@ -26,6 +26,6 @@ returns c =
     let within : place < length items = omega (arith, low, length-map items pattern_seen) in
     let there : slice_get seen place ≡ Some one =
     slice_get-map pattern_seen items place ∙ ap (option_map pattern_seen) (slice_get_read items (length items) place c.index.result.now refl within c.index.ensures) in
-    ap (λ m. Some m.stated) c.map.ensures
+    ap (λ m. Some m.stated) c.ready.ensures
     ∙ map_placed seen (pattern_for (locations_of seen) url) place one placed low (sym (get_or_from_slice_get seen place one one there))
     ∙ sym (ap (λ b. if b then None else map_of_text seen (pattern_for (locations_of seen) url)) off) ∙ ap (λ t. map_by_pattern t url) c.self.view_is

@@ -4,6 +4,7 @@ use Rattle.smap_locations.specs.ByText.{IsWith, all_seen, value_under}
 use Rattle.smap_locations.specs.Laws.ByText.{none_found, none_under, with_seen}
 use Rattle.smap_trace.specs.Private.EntrySeen.{entry_seen}
 use Rattle.smap_trace.specs.declared.entry.Entry.TheVariants.{Own}
+use Rattle.smap_record.specs.MapFile.{Map}
 use Rattle.smap_trace.proofs.table.Table.add.Goals as goal
 use Rattle.smap_trace.proofs.table.Table.add.Goals.{in-Ok, in-Err+in-Own}
 
@@ -21,7 +22,8 @@ returns-clause-added c =
     let new = all_seen entry_seen c.add.new.self in
     elim c.match-add.branch [
       | in-Ok w ↦ rw w.result-is (subst (λ text. IsWith c.args.self.now text c.args.map.stated new) (sym key)
-          (with_seen entry_seen c.self.inside.maps c.args.self.now c.self.view_is c.into_bytes.result.items (Own c.args.map) c.add.new.self w.in-Ok.ensures.added))
+          (subst (λ (map : Map). IsWith c.args.self.now c.into_bytes.result.items map.stated new) c.new.ensures
+          (with_seen entry_seen c.self.inside.maps c.args.self.now c.self.view_is c.into_bytes.result.items (Own c.new.result) c.add.new.self w.in-Ok.ensures.added)))
       | in-Err+in-Own w ↦ rw w.result-is tt
     ]
 

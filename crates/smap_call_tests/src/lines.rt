@@ -1,0 +1,127 @@
+//! Look-ups among the checkpoints of their line, and maps that are ready for them. The answers are written by hand.
+use crate::same::assert_same;
+use crate::shown::answer_text;
+use smap_index::{Answer, Index, LineStarts, MarkedText};
+use smap_record::{MapFile, Meter, ReadyMap};
+use std::alloc::Global;
+use std::process::Abort;
+use std::test::Fail;
+
+// A line and a column, from 0, what answers at or before them and at or after them, and how many checkpoints are compared
+// at most.
+type Asked = (u32, u32, &'static str, &'static str, u64);
+
+// Of three segments on line 2 and one on line 4, each with a checkpoint.
+const ASKED: &[Asked] = &[
+    (0, 0, "none", "none", 0),
+    (2, 0, "0,0,0,0", "0,0,0,0", 2),
+    (2, 1, "1,0,0,1", "1,0,0,1", 2),
+    (2, 9, "2,0,0,2", "none", 2),
+    (3, 5, "none", "none", 0),
+    (4, 0, "0,0,1,2", "0,0,1,2", 1),
+    (4, 7, "0,0,1,2", "none", 1),
+    (5, 0, "none", "none", 3),
+    (4_294_967_295, 0, "none", "none", 3),
+];
+
+// The index of a text with a checkpoint at each segment.
+fn index_of(alloc: Global, text: &str) -> Result<Index, Fail> {
+    match MarkedText::check(alloc, String::from_str(alloc, text)?, 1, 0, 1) {
+        Ok(marked) => Ok(Index::of_text(alloc, marked)?),
+        Err(_) => Err(Fail::new("the text is refused")),
+    }
+}
+
+// Asks an index among the checkpoints of a line, in both directions.
+fn assert_asked(
+    rt: &impl Abort,
+    alloc: Global,
+    index: &Index,
+    starts: &LineStarts,
+    asked: &Asked,
+) -> Result<(), Fail> {
+    let (line, column, before, after, compared) = asked;
+    let mut meter = Meter::new(alloc);
+    assert!(rt; meter.has_room());
+    let answer = index.look_up_among(starts, *line, *column, &mut meter);
+    assert_same(rt, "before", &answer_text(alloc, &answer)?, before);
+    assert!(rt; meter.comparisons() <= *compared, "on line {line}");
+    let mut meter = Meter::new(alloc);
+    let answer = index.look_up_from_among(starts, *line, *column, &mut meter);
+    assert_same(rt, "after", &answer_text(alloc, &answer)?, after);
+    assert!(rt; meter.comparisons() <= *compared, "on line {line}");
+    Ok(())
+}
+
+#[test]
+fn the_checkpoints_of_a_line_are_compared(rt: HostRuntime) -> Result<(), Fail> {
+    let index = index_of(rt.alloc(), ";;AAAA,CAAC,CAAC;;AACA")?;
+    let starts = index.line_starts(rt.alloc())?;
+    for asked in ASKED {
+        assert_asked(&rt, rt.alloc(), &index, &starts, asked)?;
+    }
+    Ok(())
+}
+
+// Where no line has a start, all checkpoints are compared, and the answers are the same.
+#[test]
+fn no_line_needs_a_start(rt: HostRuntime) -> Result<(), Fail> {
+    let index = index_of(rt.alloc(), ";;AAAA,CAAC,CAAC;;AACA")?;
+    let starts = LineStarts::none(rt.alloc());
+    for asked in ASKED {
+        let (line, column, before, after, _) = asked;
+        let all = (*line, *column, *before, *after, 3);
+        assert_asked(&rt, rt.alloc(), &index, &starts, &all)?;
+    }
+    Ok(())
+}
+
+// A map of two segments a line, at columns 0 and 2 of each of a hundred lines: those of line n come from line n, columns 0
+// and 1.
+fn long_map(alloc: Global) -> Result<MapFile, Fail> {
+    let mut text = String::from_str(
+        alloc,
+        r#"{"version":3,"sources":["a.js"],"mappings":"AAAA,EAAC"#,
+    )?;
+    for _ in 1..100 {
+        text.push_str(";AACD,EAAC")?;
+    }
+    text.push_str("\"}")?;
+    Ok(MapFile::read(alloc, text.as_bytes(), None, 2)?)
+}
+
+#[test]
+fn a_ready_map_answers_as_the_map(rt: HostRuntime) -> Result<(), Fail> {
+    let ready = ReadyMap::new(rt.alloc(), long_map(rt.alloc())?);
+    assert!(&rt; ready.map().checkpoints() == 100);
+    for line in 0..100 {
+        let mut meter = Meter::new(rt.alloc());
+        let Answer::Found { column: 2, origin } = ready.look_up(line, 7, &mut meter) else {
+            return Err(Fail::new("no second segment before column 7"));
+        };
+        assert!(&rt; origin.line == line && origin.column == 1 && meter.comparisons() <= 7);
+        let mut meter = Meter::new(rt.alloc());
+        let Answer::Found { column: 2, origin } = ready.look_up_from(line, 1, &mut meter) else {
+            return Err(Fail::new("no second segment after column 1"));
+        };
+        assert!(&rt; origin.line == line && origin.column == 1);
+    }
+    let mut meter = Meter::new(rt.alloc());
+    assert!(&rt; ready.look_up(100, 0, &mut meter) == Answer::Nothing);
+    assert!(&rt; ready.into_map().segments() == 200);
+    Ok(())
+}
+
+#[test]
+fn a_ready_map_gives_a_source_another_name(rt: HostRuntime) -> Result<(), Fail> {
+    let mut ready = ReadyMap::new(rt.alloc(), long_map(rt.alloc())?);
+    ready.name_sources_by_path(rt.alloc(), b"/x/app.js.map")?;
+    match ready.map().source(0) {
+        Some(source) => match &source.name {
+            Some(name) => assert_same(&rt, "named", name.text(), "/x/a.js"),
+            None => panic!(&rt; "a source without a name"),
+        },
+        None => panic!(&rt; "no source"),
+    }
+    Ok(())
+}
