@@ -1,4 +1,5 @@
-//! What is said of a map file, as text and as JSON: how much it holds, or why it is refused.
+//! What is said of a map file, as text and as JSON: how much it holds, why it is refused, and which of its mappings stand
+//! nearest to a position.
 //!
 //! ```text
 //! match MapFile::read(alloc, bytes, None, 64) {
