@@ -186,6 +186,7 @@ class Store {
     if (why !== undefined) throw refusedUrl(why, url);
     const { size } = made;
     addon.put(this.changing, url, made.handle, size);
+    this.#failures.delete(url);
     came(url, made, size);
     if (!made.map) addon.closeMap(made.handle);
   }
