@@ -12,6 +12,9 @@ const [MISSING, FAILED] = [0, 1];
 // What failed is asked for again after so many milliseconds at most, and of so many URLs it is known how often.
 const [MOST_WAIT, MOST_FAILED] = [600000, 1000];
 
+// After how many milliseconds what failed, and so often in a row before, is asked for again; or null for never.
+const restAfter = (retry, times) => (retry === null ? null : Math.min(retry * 2 ** times, Math.max(retry, MOST_WAIT)));
+
 // A URL without its query and its fragment, for whose map a loader is asked.
 const cut = (url) => url.split(/[?#]/, 1)[0];
 
@@ -154,7 +157,7 @@ class Store {
       this.#failures.delete(key);
     } catch (error) {
       try {
-        if (!stays || !this.holds(key)) this.putFailed(key, this.#rest(key));
+        if (!stays || !this.holds(key)) this.putFailed(key, restAfter(this.#options.retry, this.#fail(key)));
       } finally {
         // Last, as it may add the map.
         tell(cut(key), error);
@@ -162,13 +165,13 @@ class Store {
     }
   }
 
-  // After how many milliseconds what fails now is asked for again, or null for never.
-  #rest(key) {
-    const [times, { retry }] = [this.#failures.get(key) || 0, this.#options];
+  // How often in a row a key failed before this time.
+  #fail(key) {
+    const times = this.#failures.get(key) || 0;
     this.#failures.delete(key);
     this.#failures.set(key, times + 1);
     if (this.#failures.size > MOST_FAILED) this.#failures.delete(this.#failures.keys().next().value);
-    return retry === null ? null : Math.min(retry * 2 ** times, Math.max(retry, MOST_WAIT));
+    return times;
   }
 
   // Puts that the map under a key failed, for so many milliseconds, or for ever where that is null.
@@ -183,6 +186,7 @@ class Store {
     if (why !== undefined) throw refusedUrl(why, url);
     const { size } = made;
     addon.put(this.changing, url, made.handle, size);
+    this.#failures.delete(url);
     came(url, made, size);
     if (!made.map) addon.closeMap(made.handle);
   }
@@ -206,4 +210,4 @@ class Store {
   }
 }
 
-module.exports = { Store };
+module.exports = { Store, restAfter };

@@ -6,6 +6,7 @@ const fs = require('node:fs');
 const os = require('node:os');
 const path = require('node:path');
 const { Maps, RewriteStream, Table, TraceMap, frameUrls, generatedPositionFor, rewrite, rewriteAsync } = require('smap');
+const { restAfter } = require(path.join(path.dirname(require.resolve('smap')), 'store.js'));
 const { below } = require('../vectors/chance.js').chanceFrom(7);
 
 let reported = 0;
@@ -97,6 +98,13 @@ async function failing() {
   maps.discard('none.js');
   same('what is discarded', [String(rewrite(maps, both)), asked], [both.replace(/js/g, 'ts'), ['none.js']]);
   for (const bad of [-1, NaN, '7', null]) assert.throws(() => new Maps({ load, maxBytes: 1, retryAfter: bad }), /`retryAfter` must be a number of seconds/);
+  const [often, added] = [[], new Maps({ load: (url) => (often.push(url), throwing()), maxBytes: 0, retryAfter: 0.05 })];
+  for (let times = 0; times < 2; times += 1, await pause(60)) sourceOf(added, 'a.js');
+  for (const name of ['a', 'b']) added.add(`${name}.js`, textOf(`${name}.ts`));
+  for (let times = 0; times < 2; times += 1, await pause(60)) sourceOf(added, 'a.js');
+  same('the first failure in a row after a map was added', often.length, 4);
+  same('up to ten minutes', [...Array(7).keys()].map((times) => restAfter(30000, times) / 1000), [30, 60, 120, 240, 480, 600, 600]);
+  same('what is longer', [restAfter(1e6, 0), restAfter(1e6, 9), restAfter(30000, 5000), restAfter(0, 9), restAfter(null, 9)], [1e6, 1e6, 600000, 0, null]);
   const forever = new Maps({ load: throwing, maxBytes: 1e6, retryAfter: Infinity });
   sourceOf(forever, 'a.js');
   same('for ever', [sourceOf(forever, 'a.js'), forever.refusals.length], [null, 1]);

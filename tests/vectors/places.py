@@ -562,7 +562,7 @@ def is_printed_anywhere(name: bytes) -> bool:
 
 def last_line_end(text: bytes) -> int:
     """Where the last escape of a line's end begins, 0 where there is none."""
-    return max((escape.start for escape in escapes_in(text) if escape.means in b"\n\r"), default=0)
+    return max((escape.start for escape in escapes_in(text) if escape.means in tuple(b"\n\r")), default=0)
 
 
 def chunks(line: bytes) -> Iterator[Tuple[bytes, bool]]:

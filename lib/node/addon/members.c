@@ -126,13 +126,15 @@ bool outline_of(const uint8_t *text, size_t length, char **outline, size_t *byte
     if (values[CONTENTS].length) whole = find_parts(values[CONTENTS].bytes, values[CONTENTS].length, 0, &contents);
     free(contents.numbers);
     *bytes = values[SOURCES].length + values[SOURCE_ROOT].length + values[IGNORED].length;
-    char *out = whole ? malloc(*bytes + 160) : NULL;
+    const size_t room = *bytes + 160;
+    char *out = whole ? malloc(room) : NULL;
     if (!out) return false;
-    size_t used = (size_t)sprintf(out, "{\"behind\":%zu", lines_behind(values[MAPPINGS]));
-    if (values[CONTENTS].length) used += (size_t)sprintf(out + used, ",\"contents\":%zu", contents.count / EACH);
+    size_t used = (size_t)snprintf(out, room, "{\"behind\":%zu", lines_behind(values[MAPPINGS]));
+    if (values[CONTENTS].length) used += (size_t)snprintf(out + used, room - used, ",\"contents\":%zu", contents.count / EACH);
     for (int key = SOURCES; key <= IGNORED; key++)
-        if (values[key].length) used += (size_t)sprintf(out + used, ",%s:%.*s", keys[key], (int)values[key].length, (const char *)values[key].bytes);
-    strcpy(out + used, "}");
+        if (values[key].length)
+            used += (size_t)snprintf(out + used, room - used, ",%s:%.*s", keys[key], (int)values[key].length, (const char *)values[key].bytes);
+    snprintf(out + used, room - used, "}");
     *outline = out;
     return true;
 }

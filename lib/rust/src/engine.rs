@@ -249,3 +249,25 @@ impl Engine {
 fn nanoseconds(time: Duration) -> u64 {
     u64::try_from(time.as_nanos()).unwrap_or(u64::MAX)
 }
+
+#[cfg(test)]
+mod tests {
+    use super::*;
+
+    #[test]
+    fn a_failure_holds_twice_as_long_up_to_ten_minutes() {
+        for (first, times) in [(30, [30, 60, 120, 240, 480, 600, 600]), (1000, [1000; 7])] {
+            let mut engine = Engine::new(0, None).expect("an engine");
+            engine.retry_after = Some(Duration::from_secs(first));
+            for time in times {
+                assert_eq!(engine.retry_of(b"a.js"), Some(Duration::from_secs(time)));
+            }
+            for _ in 0..100 {
+                engine.retry_of(b"a.js");
+            }
+            assert_eq!(engine.retry_of(b"b.js"), Some(Duration::from_secs(first)));
+            engine.forgive(Some(b"a.js"));
+            assert_eq!(engine.retry_of(b"a.js"), Some(Duration::from_secs(first)));
+        }
+    }
+}
