@@ -26,6 +26,8 @@ class Store {
   #awaited = new Map();
   #loading = new Set();
   #failures = new Map();
+  // How often a map was put that was not read into the store at once.
+  #puts = 0;
 
   constructor(owner, options, most) {
     const { load, loadAsync, paths = false, maxNames, atOnce = 8, retryAfter, noneFor, isNamed = false, came = () => {} } = options;
@@ -86,11 +88,11 @@ class Store {
 
   // Asks `load` for the map under a key; whether it was asked. A map that `stays` is there, and stays where that fails.
   ask(key, tell, stays) {
-    const [{ load }, url] = [this, cut(key)];
+    const [{ load }, url, puts] = [this, cut(key), this.#puts];
     if (!load || this.#loading.has(url)) return false;
     this.#loading.add(url);
     try {
-      this.#settle(key, () => this.#read(key, load(url), stays), tell, stays);
+      this.#settle(key, () => this.#read(key, load(url), !stays && this.#puts !== puts), tell, stays);
     } finally {
       this.#loading.delete(url);
     }
@@ -134,10 +136,10 @@ class Store {
     return new Under(url, this.#options.paths, this.#options.reading);
   }
 
-  // What was given under a key, which is read into the store at once if it can be; and nothing where a map was added meanwhile.
-  #read(key, data, stays) {
+  // What was given under a key, which is read into the store at once if it can be; and nothing where there is a map, which was added meanwhile.
+  #read(key, data, mayBeThere) {
     const { isNamed, came } = this.#options;
-    if (!stays && this.holds(key)) return {};
+    if (mayBeThere && this.holds(key)) return {};
     const made = isNamed ? null : readInto(this.changing, this.under(key), data);
     if (made === null) return this.#made(madeUnder, key, data);
     came(key, made, made.size);
@@ -186,6 +188,7 @@ class Store {
     if (why !== undefined) throw refusedUrl(why, url);
     const { size } = made;
     addon.put(this.changing, url, made.handle, size);
+    this.#puts += 1;
     this.#failures.delete(url);
     came(url, made, size);
     if (!made.map) addon.closeMap(made.handle);
