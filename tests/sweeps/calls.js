@@ -197,7 +197,7 @@ const TAKING = [
   },
   {
     call: 'parse smap rewrite --anywhere --hide-ignored u=m',
-    answer: 'mistake: usage: --hide-ignored with --anywhere',
+    answer: 'mistake: usage: not together: --hide-ignored, --anywhere',
     memory: 'Memory',
   },
   { call: 'parse smap positions --json m.map', answer: 'positions m.map', memory: 'Memory' },

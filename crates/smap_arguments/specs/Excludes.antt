@@ -8,15 +8,15 @@ use Rattle.smap_command.specs.declared.options.FurtherOptions.{FurtherOptions}
 
 -- sources are named by paths, and resolved against a URL
 abbrev pub base_and_paths_line : Text
-base_and_paths_line = codes "usage: --base with --paths" ++ 10 ∷ []
+base_and_paths_line = codes "usage: not together: --base, --paths" ++ 10 ∷ []
 
 -- lines of frames are dropped, and places are rewritten anywhere in a line
 abbrev pub both_flags_line : Text
-both_flags_line = codes "usage: --hide-ignored with --anywhere" ++ 10 ∷ []
+both_flags_line = codes "usage: not together: --hide-ignored, --anywhere" ++ 10 ∷ []
 
 -- each place is one of a URL that ends in nothing, as times of day are
 abbrev pub any_url_line : Text
-any_url_line = codes "usage: *=FILE with --anywhere" ++ 10 ∷ []
+any_url_line = codes "usage: not together: *=FILE, --anywhere" ++ 10 ∷ []
 
 -- a URL is the pattern of all that there are: `*` alone
 abbrev pub is_any_url : (url : Text) → Bool
@@ -28,7 +28,7 @@ many_hidden_line = codes "usage: more than 16 --hide" ++ 10 ∷ []
 
 -- they are beside places anywhere in a line
 abbrev pub hidden_anywhere_line : Text
-hidden_anywhere_line = codes "usage: --hide with --anywhere" ++ 10 ∷ []
+hidden_anywhere_line = codes "usage: not together: --hide, --anywhere" ++ 10 ∷ []
 
 module _ {A : Type 0} (maps : List (String A × String A)) where
   -- a pair is of all URLs

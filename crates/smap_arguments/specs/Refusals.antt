@@ -54,7 +54,7 @@ no_maps_text command =
 
 -- `compose` has SOURCE beside maps that are given by the names of their sources
 abbrev pub source_with_inners_line : Text
-source_with_inners_line = codes "usage: SOURCE with --inner or --inners" ++ 10 ∷ []
+source_with_inners_line = codes "usage: not together: SOURCE, --inner or --inners" ++ 10 ∷ []
 
 -- the end of what is reported where `compose` has no inner map, which is reported in clap's way, too
 abbrev pub compose_usage_lines : Text
@@ -167,7 +167,7 @@ ReportsCompose rows text = ReportsBadPair rows (codes "NAME=FILE") text ⊎ Repo
 
 -- `sources` is to write the content of a source and to do something else
 abbrev pub content_with_more_line : Text
-content_with_more_line = codes "usage: --content with GENERATED, --base, --fit, --json or --sort" ++ 10 ∷ []
+content_with_more_line = codes "usage: not together: --content, and GENERATED, --base, --fit, --json or --sort" ++ 10 ∷ []
 
 -- it has an order that there is none of
 abbrev pub bad_order_line : Text

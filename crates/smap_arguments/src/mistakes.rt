@@ -14,22 +14,22 @@ pub const LONG_BASE: &str = "usage: base URL too long\n";
 /// A base of fewer bytes is never too long: each of them would come to 4,096.
 pub const LONG_BASE_BYTES: usize = 1048576;
 
-pub const BOTH_FLAGS: &str = "usage: --hide-ignored with --anywhere\n";
+pub const BOTH_FLAGS: &str = "usage: not together: --hide-ignored, --anywhere\n";
 
 /// Standard error: `rewrite` has more texts that hide frames than there may be.
 pub const MANY_HIDDEN: &str = "usage: more than 16 --hide\n";
 
-pub const HIDDEN_ANYWHERE: &str = "usage: --hide with --anywhere\n";
+pub const HIDDEN_ANYWHERE: &str = "usage: not together: --hide, --anywhere\n";
 
 /// Standard error: a URL is `*` alone, which each place has, as times of day are.
-pub const ANY_URL: &str = "usage: *=FILE with --anywhere\n";
+pub const ANY_URL: &str = "usage: not together: *=FILE, --anywhere\n";
 
-pub const BASE_AND_PATHS: &str = "usage: --base with --paths\n";
+pub const BASE_AND_PATHS: &str = "usage: not together: --base, --paths\n";
 
 /// Standard error: `locate` is to show lines of sources, and to answer as text.
 pub const CONTEXT_ALONE: &str = "usage: --context without --json\n";
 
-pub const SOURCE_WITH_INNERS: &str = "usage: SOURCE with --inner or --inners\n";
+pub const SOURCE_WITH_INNERS: &str = "usage: not together: SOURCE, --inner or --inners\n";
 
 /// Standard error: `compose` has neither SOURCE nor a map by its name. It is reported as `no_maps_text` is.
 pub const NO_SOURCE: &str = "\
@@ -56,7 +56,7 @@ For more information, try '--help'.
 
 /// Standard error: `sources` is to write the content of a source and to do something else.
 pub const CONTENT_WITH_MORE: &str =
-    "usage: --content with GENERATED, --base, --fit, --json or --sort\n";
+    "usage: not together: --content, and GENERATED, --base, --fit, --json or --sort\n";
 
 /// Standard error: `sources` has an order that there is none of.
 pub const BAD_ORDER: &str = "usage: --sort takes bytes alone\n";
