@@ -1,8 +1,10 @@
 -- A position that is one word.
 use Rattle.std.proofs.Common.{◌≡◌, ◌∙◌, ◌<◌, ◌+◌, ℕ, Bool, true, false, List, [], ◌∷◌, ◌++◌, length, drop, Option, Some, None, refl, sym, ap, subst}
-use Rattle.std.proofs.Common.{◌≤◌, ◌&&◌, ap₂, cond, not, add-one, append-nil, append_assoc, drop-cons, get_or, inr}
+use Rattle.std.proofs.Common.{◌≤◌, ◌&&◌, ap₂, cond, not, add-one, append-nil, arith, append_assoc, drop-cons, get_or, inr}
+use Rattle.std.proofs.Math.Dec.{eqb-zero-suc}
+use native.Mathlib.Numerals.{unary_clauses}
 use Rattle.std.proofs.lemmas.List.{drop_all, get_or-map, length-map, map-append}
-use Rattle.std.specs.Prelude.{Err, IfErr, IfOk, IfSome, Ok, Result, String, string_bytes}
+use Rattle.std.specs.Prelude.{◌==◌, suc, Err, IfErr, IfOk, IfSome, Ok, Result, String, string_bytes}
 use Rattle.clap.specs.Faults.{fault_of}
 use Rattle.clap.specs.Kinds.{IsAmong, Kinds}
 use Rattle.clap.specs.Words.{Row, Text, kind_of}
@@ -16,7 +18,8 @@ use Rattle.smap_arguments.specs.Arguments.{ArgumentsAskFor, NamedAsksFor, texts}
 use Rattle.smap_arguments.specs.CommandLine.{whole_name}
 use Rattle.smap_arguments.specs.Line.{asks_generated, is_lookup, line_of}
 use Rattle.smap_arguments.specs.Refusals.{IsRead, IsRefusalOf, ReportsRead}
-use Rattle.smap_arguments.specs.Spread.{IsPushed, is_faultless, position_of, read_arguments, spread, spread_at, spread_behind, spread_words}
+use Rattle.smap_arguments.specs.Spread.{IsPushed, behind_colon, is_colon, is_faultless, numbers_behind, numbers_of, or_numbers, position_of}
+use Rattle.smap_arguments.specs.Spread.{read_arguments, spread, spread_at, spread_behind, spread_words}
 use Rattle.smap_arguments.specs.declared.usage.Usage.{Usage}
 use Rattle.smap_arguments.specs.declared.usage.Usage.TheVariants.{Help, Words, Memory}
 
@@ -71,6 +74,41 @@ parsed words (Err (Help text)) is = absurd is
 parsed words (Err (Words text)) is = (tt, tt, inr is)
 parsed words (Err Memory) is = (tt, tt, tt)
 
+-- ---- the numbers that a text ends with
+
+-- behind its first `:`, or nowhere
+abbrev pub numbers_next : Option Text → Option (Text × Text)
+numbers_next None = None
+numbers_next (Some rest) = or_numbers (numbers_of rest) (numbers_behind rest)
+
+-- how many bytes are left, where some text is
+abbrev pub left_bytes : Option Text → ℕ
+left_bytes None = 0
+left_bytes (Some rest) = length rest + 1
+
+one_on : (n m : ℕ) → (1 + n == suc m) ≡ (n == m)
+one_on n m = grind arith
+
+-- what stands behind a place, where it is counted with the byte before the text
+rest_on : (n : ℕ) (text : Text) → cond (1 + n == suc (length text)) None (Some (drop (1 + n) text)) ≡ cond (n == length text) None (Some (drop (n + 1) text))
+rest_on n text = ap₂ (λ b k. cond b None (Some (drop k text))) (one_on n (length text)) (omega arith)
+
+module _ (byte : ℕ) (text : Text) where
+  colon_or_not : (b : Bool) → is_colon byte ≡ b → numbers_behind text ≡ numbers_next (behind_colon text)
+      → numbers_behind (byte ∷ text) ≡ numbers_next (behind_colon (byte ∷ text))
+  unfolding numbers_behind
+  colon_or_not true is later = rw is (ap (λ b. numbers_next (cond b None (Some text))) (sym (eqb-zero-suc (length text))))
+  colon_or_not false is later = rw is (simp unary_clauses (later ∙ ap numbers_next (sym (rest_on _ text))))
+
+pub numbers_from : (text : Text) → numbers_behind text ≡ numbers_next (behind_colon text)
+unfolding numbers_behind
+numbers_from [] = refl
+numbers_from (byte ∷ text) = colon_or_not byte text (is_colon byte) refl (numbers_from text)
+
+-- where a text is no number, the search goes on behind its first `:`
+pub numbers_on : (text : Text) → numbers_of text ≡ None → or_numbers (numbers_of text) (numbers_behind text) ≡ numbers_next (behind_colon text)
+numbers_on text none = ap (λ n. or_numbers n (numbers_behind text)) none ∙ numbers_from text
+
 -- ---- a word that is pushed
 
 module _ {A : Type 0} (old : List (String A)) (word : String A) where
@@ -82,21 +120,21 @@ pub texts_with : {A : Type 0} (old new : List (String A)) (word : String A) (tex
 texts_with old new word text is same = ap texts is ∙ (texts_pushed old word ∙ ap (λ w. texts old ++ w ∷ []) same)
 
 -- as it is
-pub pushed_as_is : (old new : List Text) (word : Text) → new ≡ old ++ word ∷ [] → IsPushed old new word true true
-pushed_as_is old new word is words = ap (λ l. l ++ words) is ∙ append_assoc old (word ∷ []) words
+pub pushed_as_is : (is_generated : Bool) (old new : List Text) (word : Text) → new ≡ old ++ word ∷ [] → IsPushed is_generated old new word true true
+pushed_as_is is_generated old new word is words = ap (λ l. l ++ words) is ∙ append_assoc old (word ∷ []) words
 
-module _ (old new : List Text) (word : Text) where
-  spread_one : (found : Option (Text × Text)) → position_of word ≡ found → (words : List Text)
-      → spread_words (word ∷ words) ≡ spread_at found word words (spread_words words)
+module _ (is_generated : Bool) (old new : List Text) (word : Text) where
+  spread_one : (found : Option (Text × Text)) → position_of is_generated word ≡ found → (words : List Text)
+      → spread_words is_generated (word ∷ words) ≡ spread_at found word words (spread_words is_generated words)
   unfolding spread_words
-  spread_one found is words = ap (λ p. spread_at p word words (spread_words words)) is
+  spread_one found is words = ap (λ p. spread_at p word words (spread_words is_generated words)) is
 
-  pub pushed_no_position : position_of word ≡ None → new ≡ old ++ word ∷ [] → IsPushed old new word false false
+  pub pushed_no_position : position_of is_generated word ≡ None → new ≡ old ++ word ∷ [] → IsPushed is_generated old new word false false
   pushed_no_position none is words =
-      ap (λ l. l ++ spread_words words) is ∙ (append_assoc old (word ∷ []) (spread_words words) ∙ ap (λ l. old ++ l) (sym (spread_one None none words)))
+      ap (λ l. l ++ spread_words is_generated words) is ∙ (append_assoc old (word ∷ []) (spread_words is_generated words) ∙ ap (λ l. old ++ l) (sym (spread_one None none words)))
 
-  pub pushed_position : (line column : Text) → position_of word ≡ Some (line, column) → new ≡ (old ++ line ∷ []) ++ column ∷ []
-      → IsPushed old new word false true
+  pub pushed_position : (line column : Text) → position_of is_generated word ≡ Some (line, column) → new ≡ (old ++ line ∷ []) ++ column ∷ []
+      → IsPushed is_generated old new word false true
   pushed_position line column found is words =
       ap (λ l. l ++ words) is
       ∙ (append_assoc (old ++ line ∷ []) (column ∷ []) words
@@ -105,33 +143,33 @@ module _ (old new : List Text) (word : Text) where
 -- ---- the words, one by one
 
 -- the words so far are all, as far as the first i were passed
-abbrev pub ArePassed : (all : List Text) → (is_spread : Bool) → (i : ℕ) → (program : Text) (words : List Text) → Type 0
-ArePassed all is_spread i program words = all ++ spread_behind is_spread (drop i words) ≡ program ∷ spread_words words
+abbrev pub ArePassed : (is_generated : Bool) → (all : List Text) → (is_spread : Bool) → (i : ℕ) → (program : Text) (words : List Text) → Type 0
+ArePassed is_generated all is_spread i program words = all ++ spread_behind is_generated is_spread (drop i words) ≡ program ∷ spread_words is_generated words
 
-passed_on : (all new : List Text) (was_spread is_spread : Bool) (i : ℕ) (program : Text) (words : List Text) → i < length words
-    → ArePassed all was_spread i program words → IsPushed all new (get_or words i []) was_spread is_spread
-    → ArePassed new is_spread (i + 1) program words
-passed_on all new was_spread is_spread i program words within is pushed =
+passed_on : (is_generated : Bool) (all new : List Text) (was_spread is_spread : Bool) (i : ℕ) (program : Text) (words : List Text) → i < length words
+    → ArePassed is_generated all was_spread i program words → IsPushed is_generated all new (get_or words i []) was_spread is_spread
+    → ArePassed is_generated new is_spread (i + 1) program words
+passed_on is_generated all new was_spread is_spread i program words within is pushed =
     let next : drop i words ≡ get_or words i [] ∷ drop (i + 1) words =
     drop-cons words i [] within ∙ ap (λ n. get_or words i [] ∷ drop n words) (sym (add-one i)) in
-    pushed (drop (i + 1) words) ∙ (ap (λ l. all ++ spread_behind was_spread l) (sym next) ∙ is)
+    pushed (drop (i + 1) words) ∙ (ap (λ l. all ++ spread_behind is_generated was_spread l) (sym next) ∙ is)
 
-pub word_passed : {A : Type 0} (all new : List Text) (was_spread is_spread : Bool) (i : ℕ) (program : Text) (words : List (String A)) (word : String A)
+pub word_passed : {A : Type 0} (is_generated : Bool) (all new : List Text) (was_spread is_spread : Bool) (i : ℕ) (program : Text) (words : List (String A)) (word : String A)
     (text : Text) → i < length words → word ≡ get_or words i word → text ≡ string_bytes word
-    → ArePassed all was_spread i program (texts words) → IsPushed all new text was_spread is_spread
-    → ArePassed new is_spread (i + 1) program (texts words)
-word_passed all new was_spread is_spread i program words word text within here same is pushed =
+    → ArePassed is_generated all was_spread i program (texts words) → IsPushed is_generated all new text was_spread is_spread
+    → ArePassed is_generated new is_spread (i + 1) program (texts words)
+word_passed is_generated all new was_spread is_spread i program words word text within here same is pushed =
     let at : text ≡ get_or (texts words) i [] =
     same ∙ (ap (λ w. string_bytes w) here ∙ sym (get_or-map (λ w. string_bytes w) words i word [] within)) in
-    passed_on all new was_spread is_spread i program (texts words) (rw length-map within) is
-    (subst (λ w. IsPushed all new w was_spread is_spread) at pushed)
+    passed_on is_generated all new was_spread is_spread i program (texts words) (rw length-map within) is
+    (subst (λ w. IsPushed is_generated all new w was_spread is_spread) at pushed)
 
-pub passed_all : (all : List Text) (is_spread : Bool) (i : ℕ) (program : Text) (words : List Text) → length words ≤ i
-    → ArePassed all is_spread i program words → all ≡ program ∷ spread_words words
+pub passed_all : (is_generated : Bool) (all : List Text) (is_spread : Bool) (i : ℕ) (program : Text) (words : List Text) → length words ≤ i
+    → ArePassed is_generated all is_spread i program words → all ≡ program ∷ spread_words is_generated words
 unfolding spread_words
-passed_all all is_spread i program words past is =
-    sym (append-nil all) ∙ (ap (λ l. all ++ l) (sym (nothing is_spread)) ∙ (ap (λ l. all ++ spread_behind is_spread l) (sym (drop_all i words past)) ∙ is))
+passed_all is_generated all is_spread i program words past is =
+    sym (append-nil all) ∙ (ap (λ l. all ++ l) (sym (nothing is_spread)) ∙ (ap (λ l. all ++ spread_behind is_generated is_spread l) (sym (drop_all i words past)) ∙ is))
   where
-    nothing : (b : Bool) → spread_behind b [] ≡ []
+    nothing : (b : Bool) → spread_behind is_generated b [] ≡ []
     nothing true = refl
     nothing false = refl

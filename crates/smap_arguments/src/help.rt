@@ -21,7 +21,7 @@ The last mapping at the position or before it answers or, with --after, the firs
 With --explain the answer is followed by which mappings stand nearest before and after the position, and a refusal by
 why the map is refused.
 
-LINE and COLUMN may be one word, LINE:COLUMN: of a frame with `app.js:65:80` give `65:80`.
+LINE and COLUMN may be one word, LINE:COLUMN, also behind a URL as a frame has it: `app.js:65:80`.
 
 With --generated the words are MAP SOURCE LINE [COLUMN], and the answers places of the generated file that come from
 there: `smap lookup --generated --help` says more.
