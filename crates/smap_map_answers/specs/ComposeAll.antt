@@ -18,6 +18,7 @@ use Rattle.smap_record.specs.Sources.{StatedSource}
 use Rattle.smap_record.specs.Written.{text_of_source}
 use Rattle.smap_record.specs.declared.refusal.MapRefusal.{MapRefusal}
 use Rattle.smap_record.specs.declared.refusal.MapRefusal.TheVariants.{Url}
+use Rattle.smap_record.specs.FileText.{without_mark}
 use Rattle.smap_locations.specs.ListLine.{line_entry}
 use Rattle.smap_locations.specs.declared.refusal.ListFault.{ListFault}
 use Rattle.smap_locations.specs.declared.refusal.ListFault.TheVariants.{Twice}
@@ -79,11 +80,11 @@ NamesLines sources list number (line ∷ lines) old result =
     (next : Result Named Report) × NamesEntry sources list number (line_entry line) old next
     × OrRefused next (NamesLines sources list (number + 1) lines) result
 
--- the list at this path, which has these bytes
+-- the list at this path, which has these bytes; a byte order mark at its start is no part of its first line
 abbrev pub NamesBytes : List StatedSource → (list bytes : List ℕ) → (old : Named) → Result Named Report → Type 0
 NamesBytes sources list bytes old result =
     (result ≡ Err out_of_memory)
-    ⊎ MatchOption (list_bytes_refusal bytes) (NamesLines sources list 1 (lines bytes) old result)
+    ⊎ MatchOption (list_bytes_refusal bytes) (NamesLines sources list 1 (lines (without_mark bytes)) old result)
     (λ code. result ≡ Err (refused_file list code))
 
 -- the list, where there is one, is the file of number 1

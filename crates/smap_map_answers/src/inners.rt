@@ -22,7 +22,8 @@ use smap_command::USUAL_INTERVAL;
 use smap_locations::{ListFault, ListRefusal, NamedPaths, entry_of_line};
 use smap_record::{MapFile, SourceEntry};
 use smap_replies::{
-    Failure, FileReader, Standing, file_bytes, map_of, refused_argument, refused_list, text_of,
+    Failure, FileReader, Standing, file_bytes, list_text, map_of, refused_argument, refused_list,
+    text_of,
 };
 use std::alloc::{AllocError, Global};
 
@@ -111,7 +112,7 @@ fn named_bytes(
         (or_reported result) }
 {
     let text = text_of(alloc, list, bytes)?;
-    named_lines(alloc, outer, named, list, &text)
+    named_lines(alloc, outer, named, list, list_text(&text))
 }
 
 // The paths with those that the lines of a list name.

@@ -23,7 +23,7 @@ mod why;
 
 pub use files::{FileReader, Loaded, LoadedFiles, UnreadCause};
 pub use lines::{NO_MEMORY, file_failed_line, list_refused_line};
-pub use lists::{reason_of, refused_list};
+pub use lists::{list_text, reason_of, refused_list};
 pub use map::{MapReader, file_bytes, read_chosen, read_map};
 pub use outcome::{DONE, FAILED, Failure, REFUSED, Reply};
 pub use refusal::{refusal_of, refused_argument, refused_by};

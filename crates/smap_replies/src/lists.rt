@@ -1,5 +1,6 @@
-//! Why a list of files is refused.
+//! The text of a list of files, and why a list is refused.
 ghost use Rattle.std.specs.Prelude.{◌≡◌, option_copied, IfOk};
+ghost use Rattle.smap_record.specs.FileText.{without_mark};
 ghost use Rattle.smap_replies.specs.Lists.{list_refusal, reason_of};
 ghost use Rattle.smap_replies.specs.Outcome.{failure_report};
 
@@ -8,6 +9,16 @@ use crate::outcome::Failure;
 use smap_codes::Code;
 use smap_locations::{ListFault, ListRefusal};
 use std::alloc::{AllocError, Global};
+
+/// The text of a list: that of its file without a byte order mark at its start, as some editors write one.
+pub fn list_text(text: &str) -> &str
+    ensures { result.now ≡ without_mark text.now }
+{
+    match text.strip_prefix("\u{FEFF}") {
+        Some(rest) => rest,
+        None => text,
+    }
+}
 
 /// Why the list at a path is refused.
 pub fn refused_list(alloc: Global, list: &str, refused: ListRefusal) -> Result<Failure, AllocError>

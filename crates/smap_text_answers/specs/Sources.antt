@@ -11,6 +11,7 @@ use Rattle.smap_store.specs.MapList.{PutsRule, TakesList, rule_fault}
 use Rattle.smap_locations.specs.ListLine.{is_rule}
 use Rattle.smap_locations.specs.declared.refusal.ListFault.{ListFault}
 use Rattle.smap_locations.specs.declared.refusal.ListRefusal.{ListRefusal}
+use Rattle.smap_record.specs.FileText.{without_mark}
 use Rattle.smap_replies.specs.Files.{MayRead, IsUnread}
 use Rattle.smap_replies.specs.Lines.{argument_refused_line, list_refused_line}
 use Rattle.smap_replies.specs.Lists.{list_bytes_refusal, list_refusal, misuse_for, reason_of}
@@ -59,7 +60,7 @@ abbrev pub excluded_line : (anywhere : Bool) → (bytes : List ℕ) → Option �
 excluded_line anywhere bytes = if anywhere then option_map (λ index. index + 1) (position is_of_any_url (lines bytes)) else None
 
 abbrev pub excluded_reason : List ℕ
-excluded_reason = codes "*=FILE with --anywhere"
+excluded_reason = codes "not together: *=FILE, --anywhere"
 
 -- the lines of a list add to the locations, unless one is excluded
 abbrev pub AddsAllowed : (anywhere : Bool) → (list bytes : List ℕ) → Maps → LocationsSeen → Result MapSources Report → Type 0
@@ -67,11 +68,12 @@ AddsAllowed anywhere list bytes words locations result =
     MatchOption (excluded_line anywhere bytes) (AddsLines list bytes words locations result)
     (λ number. result ≡ Err (misuse (list_refused_line list number excluded_reason)))
 
--- the list at this path, which has these bytes, adds to the locations or is refused, unless memory runs out
+-- the list at this path, which has these bytes, adds to the locations or is refused, unless memory runs out; a byte order mark at
+-- its start is no part of its first line
 abbrev pub AddsList : (anywhere : Bool) → (list bytes : List ℕ) → Maps → LocationsSeen → Result MapSources Report → Type 0
 AddsList anywhere list bytes words locations result =
     (result ≡ Err out_of_memory)
-    ⊎ MatchOption (list_bytes_refusal bytes) (AddsAllowed anywhere list bytes words locations result)
+    ⊎ MatchOption (list_bytes_refusal bytes) (AddsAllowed anywhere list (without_mark bytes) words locations result)
     (λ code. result ≡ Err (refused_file list code))
 
 -- the list, where there is one, is read under this number, and adds to the locations

@@ -10,15 +10,15 @@ ghost use Rattle.smap_store.specs.MapList.{PutsRule, rule_fault};
 use crate::trace::table_of;
 use smap_locations::{ListFault, Locations, is_rule};
 use smap_replies::{
-    Failure, FileReader, MapReader, file_bytes, list_refused_line, reason_of, refused_argument,
-    refused_list, text_of,
+    Failure, FileReader, MapReader, file_bytes, list_refused_line, list_text, reason_of,
+    refused_argument, refused_list, text_of,
 };
 use smap_store::{add_list, add_rule};
 use smap_trace::Table;
 use std::alloc::{AllocError, Global};
 
 // Why a line of all URLs is refused: places are rewritten anywhere in a text, and times of day are such places.
-const EXCLUDED: &str = "*=FILE with --anywhere";
+const EXCLUDED: &str = "not together: *=FILE, --anywhere";
 
 /// What a text is rewritten over: the maps of words, which are read first, and the files and folders of the others.
 #[derive(Drop)]
@@ -128,8 +128,9 @@ fn with_lines(
     ensures { AddsList anywhere list.now bytes.items sources.words sources.locations
         (or_reported result) }
 {
-    let text = text_of(alloc, list, bytes)?;
-    if let Some(number) = excluded_line(anywhere, &text) {
+    let whole = text_of(alloc, list, bytes)?;
+    let text = list_text(&whole);
+    if let Some(number) = excluded_line(anywhere, text) {
         let line = list_refused_line(alloc, list, number, EXCLUDED)?;
         return Err(Failure::Misuse(line));
     }
@@ -137,7 +138,7 @@ fn with_lines(
         words,
         mut locations,
     } = sources;
-    match add_list(alloc, &mut locations, &words, &text) {
+    match add_list(alloc, &mut locations, &words, text) {
         Ok(()) => Ok(MapSources { words, locations }),
         Err(refused) => Err(refused_list(alloc, list, refused)?),
     }
