@@ -32,11 +32,15 @@ is_in_brackets text =
 abbrev pub bracketed : ℕ → List ℕ
 bracketed index = codes "[" ++ (decimal index ++ codes "]")
 
+-- the name is this text, as it stands or as it is printed
+abbrev pub is_called : (text name : List ℕ) → Bool
+is_called text name = bytes_eq name text || bytes_eq (shown name) text
+
 -- the source of this index is asked by this text: by its index in brackets, or else by its name
 abbrev pub is_asked : List StatedSource → (text : List ℕ) → (index : ℕ) → Bool
 is_asked sources text index =
     if is_in_brackets text then bytes_eq (bracketed index) text
-    else option_map_or (λ name. bytes_eq name text) (option_and_then text_of_source (slice_get sources index)) false
+    else option_map_or (is_called text) (option_and_then text_of_source (slice_get sources index)) false
 
 -- their indices, in order
 abbrev pub asked_sources : List StatedSource → (text : List ℕ) → List ℕ
@@ -78,9 +82,19 @@ alike_source sources text index = option_map_or (alike_line text) (option_and_th
 abbrev pub alike_lines : List StatedSource → (text : List ℕ) → List ℕ
 alike_lines sources text = flat_map (alike_source sources text) (range_with_len 0 (length sources))
 
+-- behind what they are, or that there is none
+abbrev pub alike_heading : List ℕ
+alike_heading = codes "  the names of sources that end alike:\n"
+
+abbrev pub none_alike_line : List ℕ
+none_alike_line = codes "  no name of a source ends alike: smap sources MAP prints all\n"
+
+abbrev pub alike_text : (lines : List ℕ) → List ℕ
+alike_text lines = if length lines == 0 then none_alike_line else alike_heading ++ lines
+
 -- and, where that is asked, the names that end alike
 abbrev pub no_source_text : (explain : Bool) → List StatedSource → (text : List ℕ) → List ℕ
-no_source_text explain sources text = no_source_line text ++ (if explain then alike_lines sources text else [])
+no_source_text explain sources text = no_source_line text ++ (if explain then alike_text (alike_lines sources text) else [])
 
 -- of these sources, where there are any
 abbrev pub sources_result : Generated → MapRecord → List ℕ → Report

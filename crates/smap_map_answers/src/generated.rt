@@ -1,5 +1,5 @@
 //! Looking an original place up in a map file: the generated places that come from it.
-ghost use Rattle.std.specs.Prelude.{◌≡◌, string_bytes, IfOk};
+ghost use Rattle.std.specs.Prelude.{◌≡◌, ◌++◌, string_bytes, IfOk};
 ghost use Rattle.std.specs.Char.{is_ascii_digit};
 ghost use Rattle.std.specs.List.{list_all};
 ghost use Rattle.smap_index.specs.Parts.{joined};
@@ -7,8 +7,8 @@ ghost use Rattle.smap_replies.specs.Map.{IsResult};
 ghost use Rattle.smap_replies.specs.Outcome.{OrMemory, report_of};
 ghost use Rattle.smap_replies.specs.Why.{ReportsChosen};
 ghost use Rattle.smap_map_answers.specs.Generated.{asked_sources, bracketed, direction_of, generated_result};
-ghost use Rattle.smap_map_answers.specs.Generated.{is_asked, is_in_brackets, mappings_from, mappings_of};
-ghost use Rattle.smap_map_answers.specs.Generated.{alike_line, alike_lines, alike_source, ends_alike};
+ghost use Rattle.smap_map_answers.specs.Generated.{is_asked, is_called, is_in_brackets, mappings_from, mappings_of};
+ghost use Rattle.smap_map_answers.specs.Generated.{alike_line, alike_lines, alike_source, alike_text, ends_alike};
 ghost use Rattle.smap_map_answers.specs.Generated.{no_source_line, no_source_text, sources_result};
 
 use smap_codes::Code;
@@ -19,6 +19,12 @@ use smap_record::{MapFile, Mapping, source_name};
 use smap_replies::{Failure, FileReader, Reply, read_chosen};
 use smap_text::shown;
 use std::alloc::{AllocError, Global};
+
+// What stands before the names that end alike.
+const ALIKE: &str = "  the names of sources that end alike:\n";
+
+// What stands in their place, where there is none.
+const NONE_ALIKE: &str = "  no name of a source ends alike: smap sources MAP prints all\n";
 
 /// Looks an original place up in the map of the command. Where it is none, and that is asked, why is reported
 /// too.
@@ -73,9 +79,17 @@ fn no_source_text(
     let mut lines = no_source_line(alloc, text)?;
     if explain {
         let alike = alike_lines(alloc, map, text)?;
+        lines.push_str(alike_heading(&alike))?;
         lines.push_str(&alike)?;
     }
     Ok(lines)
+}
+
+// What stands before the names that end alike, or in their place.
+fn alike_heading(lines: &str) -> &'static str
+    ensures { result.now ++ lines.now ≡ alike_text lines.now }
+{
+    if lines.is_empty() { NONE_ALIKE } else { ALIKE }
 }
 
 // The names of the sources that end alike, a line each. A map has far fewer sources than a number of 32 bits counts, so that
@@ -158,9 +172,20 @@ fn is_asked(alloc: Global, map: &MapFile, text: &str, index: u32) -> Result<bool
         return Ok(bracketed.as_str() == text);
     }
     match source_name(map.source(index)) {
-        Some(name) => Ok(name == text),
+        Some(name) => is_called(alloc, text, name),
         None => Ok(false),
     }
+}
+
+// Whether a name is a text, as it stands or as it is printed.
+fn is_called(alloc: Global, text: &str, name: &str) -> Result<bool, AllocError>
+    ensures { IfOk result (λ called. called ≡ is_called text.now name.now) }
+{
+    if name == text {
+        return Ok(true);
+    }
+    let name = shown(alloc, name)?;
+    Ok(name.as_str() == text)
 }
 
 // An index in brackets.
