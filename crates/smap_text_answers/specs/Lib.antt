@@ -1,6 +1,7 @@
 pub mod Lines
 pub mod Nearest
 pub mod UrlLines
+pub mod Dotted
 pub mod Loader
 pub mod Request
 pub mod Rewrite

@@ -2,9 +2,11 @@
 -- lines over a store of maps, and says what that came to. The status is the greatest of all that was reported.
 use Rattle.std.specs.Prelude.{◌≡◌, ℕ, ◌+◌, false, Result, Ok, Err, length, map, option_map, string_bytes, unwrap_or}
 use Rattle.url.specs.Parts.{Parts}
+use Rattle.smap_io.specs.Device.{SinkSeen}
 use Rattle.smap_lines.specs.Editing.{EditsFrontInto, EditsInto, devices_seen}
 use Rattle.smap_lines.specs.Limits.{most_text_bytes}
 use Rattle.smap_lines.specs.declared.counts.LineCounts.{LineCounts}
+use Rattle.smap_text_answers.specs.Dotted.{TellsDotted, with_errors}
 use Rattle.smap_text_answers.specs.ByPath.{AnswersAll, AnswersLine}
 use Rattle.smap_text_answers.specs.Locating.{BecomesAnswer, LocateStep}
 use Rattle.smap_text_answers.specs.declared.storing.StoreEnd.{StoreEnd}
@@ -41,8 +43,10 @@ AnswersByPath Reads asked sources end before after =
 abbrev pub LocatesOver : MayRead → Locate → Result MapSources Report → (status : ℕ) → (before after : Streams) → Type 0
 LocatesOver Reads asked (Err refused) status before after = (after.input ≡ before.input) × Ends refused status before.sinks after.sinks
 LocatesOver Reads asked (Ok sources) status before after =
-    (end : StoreEnd LineCounts) × (between : Streams) × IsLocatedOverStore Reads asked sources end before between
-    × AnswersByPath Reads asked sources end before between × (after.input ≡ between.input) × EndsStore end status between.sinks after.sinks
+    (end : StoreEnd LineCounts) × (warned : SinkSeen) × (between : Streams)
+    × TellsDotted (map argument_of asked.maps.items) before.sinks.errors warned
+    × IsLocatedOverStore Reads asked sources end (with_errors warned before) between
+    × AnswersByPath Reads asked sources end (with_errors warned before) between × (after.input ≡ between.input) × EndsStore end status between.sinks after.sinks
 
 abbrev pub RunsLocate : MayRead → Locate → (status : ℕ) → (before after : Streams) → Type 0
 RunsLocate Reads asked status before after = (gathered : Result MapSources Report)

@@ -24,6 +24,7 @@ use Rattle.smap_trace.specs.MapsOf.{MapsByUrl, RewritesBy}
 use Rattle.smap_trace.specs.Noted.{nothing_noted}
 use Rattle.smap_trace.specs.Passed.{PlaceCount}
 use Rattle.smap_trace.specs.UrlNotes.{NotesSeen}
+use Rattle.smap_text_answers.specs.Dotted.{TellsDotted, with_errors}
 use Rattle.smap_text_answers.specs.UrlLines.{TellsUrls}
 use Rattle.smap_trace.specs.Rewriting.{Looked, RewriteAsked, RewritesFrontOver, RewritesOver}
 use Rattle.smap_trace.specs.declared.outcome.RewriteCounts.{RewriteCounts}
@@ -177,21 +178,52 @@ SaysUrls Reads base k request sources end notes others status before after =
 
 -- ---- what a terminal is told
 
-abbrev pub has_passed : Result RewriteCounts LineFault → Bool
-has_passed (Ok counts) = nat_lt 0 counts.passed
-has_passed (Err fault) = false
+-- nothing else was said up to this status: no refusal, no summary and no URL
+abbrev pub is_silent : RequestSeen → NotesSeen → (status : ℕ) → Bool
+is_silent request notes status =
+    request.hint && (not request.summary && ((not request.explain || length notes.notes == 0) && status == 0))
 
--- places were passed, and nothing else was said up to this status: no refusal, no summary and no URL
-abbrev pub is_hinted : RequestSeen → StoreEnd RewriteCounts → NotesSeen → (status : ℕ) → Bool
-is_hinted request end notes status =
-    request.hint && (not request.summary && ((not request.explain || length notes.notes == 0) && (status == 0 && has_passed end.result)))
+-- places were passed over
+abbrev pub has_passed : RewriteCounts → Bool
+has_passed counts = nat_lt 0 counts.passed
 
-abbrev pub hint_line : List ℕ
-hint_line = codes "smap rewrite --anywhere takes places in lines that are no frames\n"
+-- nothing of a text that is not empty was replaced or left out, and either it has frames or no place was passed over; what
+-- became of its URLs was not said
+abbrev pub is_as_it_was : RequestSeen → RewriteCounts → Bool
+is_as_it_was request counts =
+    not request.explain && ((nat_lt 0 counts.summary.lines && (counts.summary.mapped == 0 && counts.summary.hidden == 0))
+    && (nat_lt 0 counts.summary.frames || not (has_passed counts)))
 
--- what takes them is said then
-abbrev pub Hints : RequestSeen → StoreEnd RewriteCounts → NotesSeen → (status : ℕ) → (before after : SinkSeen) → Type 0
-Hints request end notes status before after = MatchBool (is_hinted request end notes status) (IsReportedTo before after hint_line) (after ≡ before)
+-- what takes the places that were passed over
+abbrev pub passed_line : List ℕ
+passed_line = codes "smap rewrite --anywhere takes places in lines that are no frames\n"
+
+-- how many frames there were, or places anywhere, and what says why
+abbrev pub counted_text : (anywhere : Bool) → List ℕ
+counted_text anywhere = if anywhere then codes " places" else codes " frames"
+
+abbrev pub none_mapped_line : (anywhere : Bool) → RewriteCounts → List ℕ
+none_mapped_line anywhere counts =
+    line_from (codes "0 of " ∷ decimal counts.summary.frames ∷ counted_text anywhere ∷ codes " mapped; --explain says why" ∷ [])
+
+abbrev pub none_mapped_text : (anywhere : Bool) → RewriteCounts → List ℕ
+none_mapped_text anywhere counts = none_mapped_line anywhere counts ++ (if has_passed counts then passed_line else [])
+
+-- this is said, and the status of that
+abbrev pub HintsCounts : RequestSeen → RewriteCounts → (status : ℕ) → (before after : SinkSeen) → Type 0
+HintsCounts request counts status before after =
+    MatchBool (is_as_it_was request counts) (ReportsSummary (none_mapped_text request.anywhere counts) status before after)
+    ((status ≡ 0) × MatchBool (has_passed counts) (IsReportedTo before after passed_line) (after ≡ before))
+
+-- of a text that was rewritten to its end
+abbrev pub HintsResult : RequestSeen → Result RewriteCounts LineFault → (status : ℕ) → (before after : SinkSeen) → Type 0
+HintsResult request (Ok counts) status before after = HintsCounts request counts status before after
+HintsResult request (Err fault) status before after = (status ≡ 0) × (after ≡ before)
+
+-- where nothing else was said
+abbrev pub Hints : RequestSeen → StoreEnd RewriteCounts → NotesSeen → (said status : ℕ) → (before after : SinkSeen) → Type 0
+Hints request end notes said status before after =
+    MatchBool (is_silent request notes said) (HintsResult request end.result status before after) ((status ≡ 0) × (after ≡ before))
 
 -- ---- the run
 
@@ -199,12 +231,14 @@ Hints request end notes status before after = MatchBool (is_hinted request end n
 abbrev pub RewritesSources : MayRead → Option Parts → (k : ℕ) → RequestSeen → Result MapSources Report → (status : ℕ) → (before after : Streams) → Type 0
 RewritesSources Reads base k request (Err refused) status before after = (after.input ≡ before.input) × Ends refused status before.sinks after.sinks
 RewritesSources Reads base k request (Ok sources) status before after =
-    (end : StoreEnd RewriteCounts) × (notes : NotesSeen) × (others : NotesSeen) × (between : Streams) × (told : Sinks) × (summed : SinkSeen) × (named : SinkSeen)
-    × (ended : ℕ) × (summing : ℕ) × (said : ℕ) × IsTextOverStore Reads base k request sources end notes others before between
-    × AnswersByPath Reads base k request sources end before between × (after.input ≡ between.input) × EndsStore end ended between.sinks told
+    (end : StoreEnd RewriteCounts) × (notes : NotesSeen) × (others : NotesSeen) × (warned : SinkSeen) × (between : Streams) × (told : Sinks)
+    × (summed : SinkSeen) × (named : SinkSeen) × (ended : ℕ) × (summing : ℕ) × (said : ℕ) × (hinted : ℕ)
+    × TellsDotted request.arguments before.sinks.errors warned
+    × IsTextOverStore Reads base k request sources end notes others (with_errors warned before) between
+    × AnswersByPath Reads base k request sources end (with_errors warned before) between × (after.input ≡ between.input) × EndsStore end ended between.sinks told
     × (after.sinks.output ≡ told.output) × (after.sinks.code ≡ told.code) × SumsUp end request.summary request.anywhere summing told.errors summed
-    × SaysUrls Reads base k request sources end notes others said summed named × Hints request end notes status named after.sinks.errors
-    × (status ≡ max (max ended summing) said)
+    × SaysUrls Reads base k request sources end notes others said summed named × Hints request end notes (max (max ended summing) said) hinted named after.sinks.errors
+    × (status ≡ max (max (max ended summing) said) hinted)
 
 abbrev pub RewritesFrom : MayRead → Option Parts → (k : ℕ) → RequestSeen → (status : ℕ) → (before after : Streams) → Type 0
 RewritesFrom Reads base k request status before after =

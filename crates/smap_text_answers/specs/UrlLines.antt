@@ -59,13 +59,24 @@ word_name url (Some file) = Some url
 abbrev pub deciding_name : (url : List ℕ) → List (List ℕ × List ℕ) → LocationsSeen → List ℕ
 deciding_name url arguments locations = unwrap_or (or_else (word_name url (word_file url arguments)) (decided_by locations url)) []
 
--- the first place for which the map has nothing
-abbrev pub unmapped_text : Option (ℕ × ℕ) → List ℕ
-unmapped_text None = []
-unmapped_text (Some (line, column)) = codes ", no mapping at " ++ (decimal line ++ (codes ":" ++ decimal column))
+-- the first place for which the map has nothing that can be put there
+abbrev pub unmapped_text : ℕ × ℕ → List ℕ
+unmapped_text (line, column) = concat (codes ", nothing for " ∷ decimal line ∷ codes ":" ∷ decimal column ∷ codes ": see smap lookup" ∷ [])
 
-abbrev pub found_text : (name file : List ℕ) → (unmapped : Option (ℕ × ℕ)) → List ℕ
-found_text name file unmapped = concat (codes "by " ∷ shown (take 1024 name) ∷ codes " from " ∷ shown file ∷ unmapped_text unmapped ∷ [])
+-- or, where there is none, how many frames were left out
+abbrev pub hidden_text : (count : ℕ) → List ℕ
+hidden_text count = if count == 0 then [] else concat (codes ", " ∷ decimal count ∷ codes " hidden" ∷ [])
+
+abbrev pub rest_text : (unmapped : Option (ℕ × ℕ)) → (left : ℕ) → List ℕ
+rest_text None left = hidden_text left
+rest_text (Some place) left = unmapped_text place
+
+abbrev pub found_text : (name file : List ℕ) → UrlNoteSeen → List ℕ
+found_text name file note = concat (
+    codes "by " ∷ shown (take 1024 name)
+    ∷ codes " from " ∷ shown file
+    ∷ rest_text note.unmapped (note.frames - note.mapped)
+    ∷ [])
 
 -- ---- no file is asked for it
 
@@ -74,12 +85,13 @@ no_file_asked_text = codes "no file is asked for such a URL"
 
 -- ---- no argument has the URL
 
-abbrev pub nearest_text : Option (List ℕ) → List ℕ
-nearest_text None = []
-nearest_text (Some nearest) = codes ", the nearest is " ++ shown nearest
+abbrev pub nearest_text : (url : List ℕ) → Option (List ℕ) → List ℕ
+nearest_text url None = []
+nearest_text url (Some nearest) =
+    if bytes_eq nearest url then codes ", but for a folder: URL=FILE gives its map" else codes ", the nearest is " ++ shown nearest
 
-abbrev pub unknown_text : Option (List ℕ) → List ℕ
-unknown_text nearest = codes "no argument has this URL" ++ nearest_text nearest
+abbrev pub unknown_text : (url : List ℕ) → Option (List ℕ) → List ℕ
+unknown_text url nearest = codes "no argument has this URL" ++ nearest_text url nearest
 
 -- ---- its file gives no map
 
@@ -103,10 +115,10 @@ late_text path = codes "no map came from " ++ shown path
 -- ---- no URL was named
 
 abbrev pub no_frame_line : List ℕ
-no_frame_line = codes "no line is a frame: --anywhere finds places in other text, and a text in UTF-16 is to be converted first\n"
+no_frame_line = codes "no line is a frame: --anywhere finds places in other text; UTF-16 and what is compressed are to be converted first, and a line and a column that stand apart are for smap locate\n"
 
 abbrev pub no_place_line : List ℕ
-no_place_line = codes "no place was found: a place is a URL of an argument before :LINE:COLUMN, and a text in UTF-16 is to be converted first\n"
+no_place_line = codes "no place was found: a place is a URL of an argument before :LINE:COLUMN; UTF-16 and what is compressed are to be converted first, and a line and a column that stand apart are for smap locate\n"
 
 abbrev pub nothing_line : (anywhere : Bool) → List ℕ
 nothing_line anywhere = if anywhere then no_place_line else no_frame_line
@@ -136,10 +148,10 @@ module _ (Reads : MayRead) (paths : Bool) (base : Option Parts) (k number : ℕ)
     -- why a URL has no map
     abbrev pub IsWhy : (url text : List ℕ) → Type 0
     IsWhy url text = MatchBool (asks_no_file locations url) (text ≡ no_file_asked_text)
-        (MatchOption (path_for locations url) (text ≡ unknown_text (nearest_of url arguments)) (λ path. IsCause url path text))
+        (MatchOption (path_for locations url) (text ≡ unknown_text url (nearest_of url arguments)) (λ path. IsCause url path text))
 
     abbrev pub IsEnd : UrlNoteSeen → (text : List ℕ) → Type 0
-    IsEnd note text = MatchBool note.found (text ≡ found_text (deciding_name note.url arguments locations) (url_file note.url arguments locations) note.unmapped) (IsWhy note.url text)
+    IsEnd note text = MatchBool note.found (text ≡ found_text (deciding_name note.url arguments locations) (url_file note.url arguments locations) note) (IsWhy note.url text)
 
     -- of frames, or of places anywhere
     module _ (anywhere : Bool) where

@@ -1,7 +1,8 @@
 //! What is reported where rewriting over files and folders of maps ends.
 ghost use Rattle.std.specs.Prelude.{◌≡◌, string_bytes, IfOk};
-ghost use Rattle.smap_text_answers.specs.RewriteFrom.{Hints, ReportsSummary, SumsUp, has_passed, is_hinted};
-ghost use Rattle.smap_text_answers.specs.RewriteFrom.{maps_text, passed_text, summary_line, trace_text};
+ghost use Rattle.smap_text_answers.specs.RewriteFrom.{Hints, HintsCounts, ReportsSummary, SumsUp, counted_text, has_passed};
+ghost use Rattle.smap_text_answers.specs.RewriteFrom.{is_as_it_was, is_silent, maps_text, none_mapped_text, passed_text, summary_line};
+ghost use Rattle.smap_text_answers.specs.RewriteFrom.{trace_text};
 ghost use Rattle.smap_text_answers.specs.Request.{request_seen};
 ghost use Rattle.smap_trace.specs.NotesSeen.{notes_seen};
 
@@ -9,11 +10,11 @@ use crate::request::TextRequest;
 use crate::storing::StoreEnd;
 use smap_io::ByteSink;
 use smap_replies::{DONE, FAILED, FileReader, NO_MEMORY, print_error};
-use smap_trace::{RewriteCounts, RewriteFault, UrlNotes};
+use smap_trace::{RewriteCounts, UrlNotes};
 use std::alloc::{AllocError, Global};
 
 // What takes the places of lines that are no frames.
-const HINT: &str = "smap rewrite --anywhere takes places in lines that are no frames\n";
+const PASSED: &str = "smap rewrite --anywhere takes places in lines that are no frames\n";
 
 /// Reports what was done, where that is asked, or that memory ran out for it; and gives the status of that.
 pub fn sum_up<F: FileReader, E: ByteSink>(
@@ -105,42 +106,110 @@ fn passed_text(alloc: Global, anywhere: bool, counts: &RewriteCounts) -> Result<
     format!(in alloc; " passed {passed}")
 }
 
-/// Tells a terminal what takes the places that were passed, where there are some and nothing else was said.
+/// Tells a terminal, where nothing else was said up to this status, how many frames there were where none was replaced, and
+/// what takes the places that were passed over; and gives the status of that.
 pub fn hint<F: FileReader, E: ByteSink>(
+    alloc: Global,
     request: &TextRequest<'_, '_, F>,
     end: &StoreEnd<RewriteCounts>,
     notes: &UrlNotes,
-    status: u8,
+    said: u8,
     errors: &mut E,
-)
-    ensures { Hints (request_seen request.now) end.now (notes_seen notes.now) status
+) -> u8
+    ensures { Hints (request_seen request.now) end.now (notes_seen notes.now) said result
         (E.seen errors.old) (E.seen errors.new) }
 {
-    if is_hinted(request, end, notes, status) {
-        print_error(errors, HINT.as_bytes());
+    if !is_silent(request, notes, said) {
+        return DONE;
+    }
+    match end.result {
+        Ok(counts) => hint_counts(alloc, request, &counts, errors),
+        Err(_) => DONE,
     }
 }
 
-// Whether that is so, where all that was said ended with this status.
-fn is_hinted<F: FileReader>(
-    request: &TextRequest<'_, '_, F>,
-    end: &StoreEnd<RewriteCounts>,
-    notes: &UrlNotes,
-    status: u8,
-) -> bool
-    ensures { result ≡ is_hinted (request_seen request.now) end.now (notes_seen notes.now) status }
+// Whether nothing else was said up to this status.
+fn is_silent<F: FileReader>(request: &TextRequest<'_, '_, F>, notes: &UrlNotes, said: u8) -> bool
+    ensures { result ≡ is_silent (request_seen request.now) (notes_seen notes.now) said }
 {
     let options = request.options;
     let is_silent = !options.summary && (!options.explain || notes.notes.is_empty());
-    request.hint && is_silent && status == DONE && has_passed(&end.result)
+    request.hint && is_silent && said == DONE
 }
 
-// Whether places were passed.
-fn has_passed(end: &Result<RewriteCounts, RewriteFault>) -> bool
-    ensures { result ≡ has_passed end.now }
+// Tells of a text that has these counts, and gives the status of that.
+fn hint_counts<F: FileReader, E: ByteSink>(
+    alloc: Global,
+    request: &TextRequest<'_, '_, F>,
+    counts: &RewriteCounts,
+    errors: &mut E,
+) -> u8
+    ensures { HintsCounts (request_seen request.now) counts.now result
+        (E.seen errors.old) (E.seen errors.new) }
 {
-    match end {
-        Ok(counts) => counts.passed > 0,
-        Err(_) => false,
+    if is_as_it_was(request, counts) {
+        return report_none_mapped(alloc, request.options.anywhere, counts, errors);
     }
+    if has_passed(counts) {
+        print_error(errors, PASSED.as_bytes());
+    }
+    DONE
+}
+
+// Whether a text came out as it went in, and has something in which that may be a mistake.
+fn is_as_it_was<F: FileReader>(request: &TextRequest<'_, '_, F>, counts: &RewriteCounts) -> bool
+    ensures { result ≡ is_as_it_was (request_seen request.now) counts.now }
+{
+    let summary = counts.summary;
+    let is_same = summary.lines > 0 && summary.mapped == 0 && summary.hidden == 0;
+    !request.options.explain && is_same && (summary.frames > 0 || !has_passed(counts))
+}
+
+// Whether places were passed over.
+fn has_passed(counts: &RewriteCounts) -> bool
+    ensures { result ≡ has_passed counts.now }
+{
+    counts.passed > 0
+}
+
+// Reports that no frame was replaced, or that memory ran out, and gives the status of that.
+fn report_none_mapped<E: ByteSink>(
+    alloc: Global,
+    anywhere: bool,
+    counts: &RewriteCounts,
+    errors: &mut E,
+) -> u8
+    ensures { ReportsSummary (none_mapped_text anywhere counts.now) result
+        (E.seen errors.old) (E.seen errors.new) }
+{
+    match none_mapped_text(alloc, anywhere, counts) {
+        Ok(text) => {
+            print_error(errors, text.as_bytes());
+            DONE
+        }
+        Err(_) => {
+            print_error(errors, NO_MEMORY.as_bytes());
+            FAILED
+        }
+    }
+}
+
+// Standard error: how many frames there were, or places anywhere, and what takes those that were passed over.
+fn none_mapped_text(
+    alloc: Global,
+    anywhere: bool,
+    counts: &RewriteCounts,
+) -> Result<String, AllocError>
+    ensures { IfOk result (λ text. string_bytes text ≡ none_mapped_text anywhere counts.now) }
+{
+    let (frames, counted) = (counts.summary.frames, counted_text(anywhere));
+    let passed = if has_passed(counts) { PASSED } else { "" };
+    format!(in alloc; "0 of {frames}{counted} mapped; --explain says why\n{passed}")
+}
+
+// What is counted, for one line.
+fn counted_text(anywhere: bool) -> &'static str
+    ensures { result.now ≡ counted_text anywhere }
+{
+    if anywhere { " places" } else { " frames" }
 }

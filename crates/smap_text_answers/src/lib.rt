@@ -9,6 +9,7 @@
 #![tactic(auto)]
 
 mod answering;
+mod dotted;
 mod ending;
 mod lines;
 mod loader;

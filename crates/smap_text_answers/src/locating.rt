@@ -10,6 +10,7 @@ ghost use Rattle.smap_text_answers.specs.Locating.{BecomesAnswer, LocateStep};
 ghost use Rattle.smap_text_answers.specs.StoreRun.{store_of};
 ghost use Rattle.smap_trace.specs.Rewriting.{Looked};
 
+use crate::dotted::tell_dotted;
 use crate::loader::FileLoader;
 use crate::locator::Locator;
 use crate::sources::{MapSources, sources_of};
@@ -49,6 +50,7 @@ pub fn answer_locate<F: FileReader, R: ByteSource, W: ByteSink, E: ByteSink>(
     let list = asked.list.as_deref();
     match sources_of(alloc, &maps, asked.paths, false, &asked.maps, list) {
         Ok(sources) => {
+            tell_dotted(&asked.maps, errors);
             let run = StoreRun {
                 maps: &maps,
                 paths: asked.paths,

@@ -1,9 +1,14 @@
 //! Which argument is nearest to a URL that none has.
-ghost use Rattle.std.specs.Prelude.{◌≡◌, map, option_copied};
+ghost use Rattle.std.specs.Prelude.{◌≡◌, length, map, min, option_copied};
 ghost use Rattle.smap_replies.specs.Arguments.{argument_of};
-ghost use Rattle.smap_text_answers.specs.Nearest.{common_ending, ending_with, nearer, nearest_of};
+ghost use Rattle.smap_text_answers.specs.Nearest.{common_ending, front_ending, nearer, nearest_of, shared, shared_so_far};
 
-/// The URL of the first argument of those that share the longest ending with this one, where one shares some.
+use smap_locations::is_folder;
+
+// How many bytes of a URL are compared with the prefix of a folder.
+const MOST_FRONT_BYTES: usize = 1024;
+
+/// The URL, or the prefix, of the first argument of those that share most with this URL, where one shares something.
 pub fn nearest_of<'a>(url: &[u8], arguments: &'a [(String, String)]) -> Option<&'a str>
     ensures { option_copied result ≡ nearest_of url.now (map argument_of arguments.now) }
 {
@@ -19,21 +24,46 @@ fn nearer<'a>(url: &[u8], nearest: Option<&'a str>, argument: &'a str) -> Option
     ensures { option_copied result
         ≡ nearer url.now (option_copied nearest.entry) (argument.now, argument.now) }
 {
-    if ending_with(url, nearest) < common_ending(url, argument.as_bytes()) {
+    if shared_so_far(url, nearest) < shared(url, argument.as_bytes()) {
         Some(argument)
     } else {
         nearest
     }
 }
 
-// How long the ending is that a URL shares with the nearest so far.
-fn ending_with(url: &[u8], nearest: Option<&str>) -> usize
-    ensures { result ≡ ending_with url.now (option_copied nearest.entry) }
+// How much a URL shares with the nearest so far.
+fn shared_so_far(url: &[u8], nearest: Option<&str>) -> usize
+    ensures { result ≡ shared_so_far url.now (option_copied nearest.entry) }
 {
     match nearest {
-        Some(nearest) => common_ending(url, nearest.as_bytes()),
+        Some(nearest) => shared(url, nearest.as_bytes()),
         None => 0,
     }
+}
+
+// How much a URL shares with what an argument names: with the URL of a file an ending, and with the prefix of a folder one of
+// its fronts does.
+fn shared(url: &[u8], name: &[u8]) -> usize
+    ensures { result ≡ shared url.now name.now }
+{
+    if is_folder(name) {
+        front_ending(url, name)
+    } else {
+        common_ending(url, name)
+    }
+}
+
+// How long the longest ending is that a front of a URL shares with a prefix.
+fn front_ending(url: &[u8], prefix: &[u8]) -> usize
+    ensures { result ≡ front_ending url.now prefix.now (min 1024 (length url.now)) }
+{
+    let most = url.len().min(MOST_FRONT_BYTES);
+    let (mut count, mut longest) = (0, 0);
+    while count < most {
+        count += 1;
+        longest = longest.max(common_ending(&url[..count], prefix));
+    }
+    longest
 }
 
 // How long the ending is that two texts share.

@@ -12,6 +12,7 @@ ghost use Rattle.smap_trace.specs.NotesSeen.{notes_seen};
 ghost use Rattle.smap_trace.specs.Noted.{nothing_noted};
 ghost use Rattle.smap_trace.specs.Rewriting.{Looked, RewritesFrontOver, RewritesOver};
 
+use crate::dotted::tell_dotted;
 use crate::ending::{hint, sum_up};
 use crate::loader::FileLoader;
 use crate::request::TextRequest;
@@ -50,6 +51,7 @@ pub fn rewrite_from<F: FileReader, R: ByteSource, W: ByteSink, E: ByteSink>(
 {
     match sources_for(alloc, request) {
         Ok(sources) => {
+            tell_dotted(request.arguments, errors);
             let store = StoreRun {
                 maps: request.maps,
                 paths: request.options.paths,
@@ -72,8 +74,8 @@ pub fn rewrite_from<F: FileReader, R: ByteSource, W: ByteSink, E: ByteSink>(
             };
             let said = say_urls(&run, &end, &work.notes, errors);
             let status = ended.max(summed).max(said);
-            hint(request, &end, &work.notes.named, status, errors);
-            status
+            let hinted = hint(alloc, request, &end, &work.notes.named, status, errors);
+            status.max(hinted)
         }
         Err(failure) => report(&Err(failure), output, errors, first),
     }

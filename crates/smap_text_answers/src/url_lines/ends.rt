@@ -5,7 +5,7 @@ ghost use Rattle.smap_locations.specs.ListLine.{is_rule};
 ghost use Rattle.smap_replies.specs.Arguments.{argument_of};
 ghost use Rattle.smap_text_answers.specs.Private.Causes.{SaysWhy};
 ghost use Rattle.smap_text_answers.specs.UrlLines.{IsCause, IsEnd};
-ghost use Rattle.smap_text_answers.specs.UrlLines.{body_of, cause_text, deciding_name, found_text, late_text, nearest_text, unknown_text, unmapped_text, unread_text, url_file, word_file};
+ghost use Rattle.smap_text_answers.specs.UrlLines.{body_of, cause_text, deciding_name, found_text, late_text, nearest_text, rest_text, unknown_text, unread_text, url_file, word_file};
 ghost use Rattle.smap_trace.specs.NotesSeen.{note_seen};
 
 use super::shown_url;
@@ -22,6 +22,9 @@ use std::alloc::{AllocError, Global};
 // The end of the line of a URL for which no file is asked, as of node's own modules.
 const NO_FILE_ASKED: &str = "no file is asked for such a URL";
 
+// The end of that of a URL which is the prefix of a folder.
+const FOLDER_ALONE: &str = ", but for a folder: URL=FILE gives its map";
+
 /// The end of the line of a URL: where its map came from, or why it has none.
 pub(super) fn end_of<F: FileReader, E: ByteSink>(
     alloc: Global,
@@ -37,7 +40,7 @@ pub(super) fn end_of<F: FileReader, E: ByteSink>(
     if note.found {
         let file = url_file(alloc, &note.url, arguments, locations)?;
         let name = deciding_name(alloc, &note.url, arguments, locations)?;
-        return found_text(alloc, &name, &file, note.unmapped);
+        return found_text(alloc, &name, &file, note);
     }
     if asks_no_file(locations, &note.url) {
         return Vec::from_slice(alloc, NO_FILE_ASKED.as_bytes());
@@ -45,7 +48,7 @@ pub(super) fn end_of<F: FileReader, E: ByteSink>(
     match locations.path_for(alloc, &note.url)? {
         Some(path) => cause_of(alloc, loader, &note.url, &path),
         None => {
-            let text = unknown_text(alloc, nearest_of(&note.url, arguments))?;
+            let text = unknown_text(alloc, &note.url, nearest_of(&note.url, arguments))?;
             Ok(text.into_bytes())
         }
     }
@@ -108,50 +111,58 @@ fn is_file_of(url: &[u8], word: &str, path: &str) -> bool
     !is_rule(word, path) && url == word.as_bytes()
 }
 
-// What decided where the map of a URL is, where it came from, and the first place for which it has nothing.
+// What decided where the map of a URL is, where it came from, and what became of the frames that were not replaced.
 fn found_text(
     alloc: Global,
     name: &[u8],
     file: &str,
-    unmapped: Option<(u32, u32)>,
+    note: &UrlNote,
 ) -> Result<Vec<u8>, AllocError>
-    ensures { IfOk result (λ text. text.items ≡ found_text name.now file.now unmapped) }
+    ensures { IfOk result (λ text. text.items ≡ found_text name.now file.now (note_seen note.now)) }
 {
     let (name, file) = (shown_url(alloc, name)?, shown(alloc, file)?);
-    let unmapped = unmapped_text(alloc, unmapped)?;
+    let rest = rest_text(alloc, note.unmapped, note.frames.saturating_sub(note.mapped))?;
     let mut text = Vec::from_slice(alloc, b"by ")?;
     text.extend_from_slice(&name)?;
     text.extend_from_slice(b" from ")?;
     text.extend_from_slice(file.as_bytes())?;
-    text.extend_from_slice(unmapped.as_bytes())?;
+    text.extend_from_slice(rest.as_bytes())?;
     Ok(text)
 }
 
-// The first place for which a map has nothing.
-fn unmapped_text(alloc: Global, unmapped: Option<(u32, u32)>) -> Result<String, AllocError>
-    ensures { IfOk result (λ text. string_bytes text ≡ unmapped_text unmapped) }
+// The first place for which a map has nothing that can be put there, or how many frames were left out.
+fn rest_text(
+    alloc: Global,
+    unmapped: Option<(u32, u32)>,
+    left: u64,
+) -> Result<String, AllocError>
+    ensures { IfOk result (λ text. string_bytes text ≡ rest_text unmapped left) }
 {
     match unmapped {
-        Some((line, column)) => format!(in alloc; ", no mapping at {line}:{column}"),
-        None => Ok(String::new(alloc)),
+        Some((line, column)) => {
+            format!(in alloc; ", nothing for {line}:{column}: see smap lookup")
+        }
+        None if left == 0 => Ok(String::new(alloc)),
+        None => format!(in alloc; ", {left} hidden"),
     }
 }
 
 // That no argument has a URL, and which one is nearest.
-fn unknown_text(alloc: Global, nearest: Option<&str>) -> Result<String, AllocError>
+fn unknown_text(alloc: Global, url: &[u8], nearest: Option<&str>) -> Result<String, AllocError>
     ensures { IfOk result (λ text.
-        string_bytes text ≡ unknown_text (option_copied nearest.entry)) }
+        string_bytes text ≡ unknown_text url.now (option_copied nearest.entry)) }
 {
-    let nearest = nearest_text(alloc, nearest)?;
+    let nearest = nearest_text(alloc, url, nearest)?;
     format!(in alloc; "no argument has this URL{nearest}")
 }
 
-// Which argument is nearest, where one is.
-fn nearest_text(alloc: Global, nearest: Option<&str>) -> Result<String, AllocError>
+// Which argument is nearest, where one is; a folder that has this very URL names no file for it.
+fn nearest_text(alloc: Global, url: &[u8], nearest: Option<&str>) -> Result<String, AllocError>
     ensures { IfOk result (λ text.
-        string_bytes text ≡ nearest_text (option_copied nearest.entry)) }
+        string_bytes text ≡ nearest_text url.now (option_copied nearest.entry)) }
 {
     match nearest {
+        Some(nearest) if nearest.as_bytes() == url => String::from_str(alloc, FOLDER_ALONE),
         Some(nearest) => {
             let nearest = shown(alloc, nearest)?;
             format!(in alloc; ", the nearest is {nearest}")

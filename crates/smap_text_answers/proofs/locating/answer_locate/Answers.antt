@@ -13,7 +13,9 @@ returns-in-Ok g c =
       (rw (c.as_ref.ensures.value, c.as_deref-list.ensures.value, c.deref.ensures.value) at c.in-Ok.ensures),
       (
         run.result,
+        g.E.ByteSink.seen c.tell_dotted.new.errors,
         streams_seen (g.R.ByteSource.seen run.new.input) (g.W.ByteSink.seen run.new.output) (g.E.ByteSink.seen run.new.errors) run.new.first,
+        c.tell_dotted.ensures,
         over,
         run_by_path (g.F.FileReader.gives c.args.reader.now) c.args.asked.now c.in-Ok.sources run.result _ _ over,
         refl,

@@ -1,0 +1,43 @@
+//! What is said of a pattern that is not what it looks like: `*.js`.
+ghost use Rattle.std.specs.Prelude.{◌≡◌, map};
+ghost use Rattle.std.specs.List.{list_any};
+ghost use Rattle.smap_replies.specs.Arguments.{argument_of};
+ghost use Rattle.smap_text_answers.specs.Dotted.{TellsDotted, is_dotted};
+
+use smap_io::ByteSink;
+use smap_locations::is_separator;
+use smap_replies::print_error;
+
+const DOTTED: &str =
+    "a pattern such as *.js has only files that are called .js: *app.js has app.js, and * alone has each URL\n";
+
+/// Says once what a pattern of a file has that begins with `.`, where one of the arguments is such a one.
+pub fn tell_dotted<E: ByteSink>(arguments: &[(String, String)], errors: &mut E)
+    ensures { TellsDotted (map argument_of arguments.now) (E.seen errors.old)
+        (E.seen errors.new) }
+{
+    if has_dotted(arguments) {
+        print_error(errors, DOTTED.as_bytes());
+    }
+}
+
+// Whether one of the arguments is such a pattern.
+fn has_dotted(arguments: &[(String, String)]) -> bool
+    ensures { result ≡ list_any (λ a. is_dotted a.0) (map argument_of arguments.now) }
+{
+    arguments.iter().any(|(url, _)| is_dotted(url.as_bytes()))
+}
+
+// Whether this is a pattern of one piece that begins with `.`.
+fn is_dotted(url: &[u8]) -> bool
+    ensures { result ≡ is_dotted url.now }
+{
+    url.starts_with(b"*.") && !has_separator(url)
+}
+
+// Whether a text has more than one piece.
+fn has_separator(url: &[u8]) -> bool
+    ensures { result ≡ list_any is_separator url.now }
+{
+    url.iter().any(|byte| is_separator(*byte))
+}
