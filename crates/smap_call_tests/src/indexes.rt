@@ -11,7 +11,7 @@ use std::process::Abort;
 use std::test::Fail;
 
 // The text, checked for as many sources and names as indices can name.
-fn packed(alloc: Global, text: &str) -> Result<PackedText, Fail> {
+pub(crate) fn packed(alloc: Global, text: &str) -> Result<PackedText, Fail> {
     match PackedText::check(String::from_str(alloc, text)?, 2147483648, 2147483648) {
         Ok(packed) => Ok(packed),
         Err(_) => Err(Fail::new("the text is refused")),
@@ -19,7 +19,7 @@ fn packed(alloc: Global, text: &str) -> Result<PackedText, Fail> {
 }
 
 // The index of one text, with checkpoints at this interval.
-fn index_of(alloc: Global, text: PackedText, interval: u32) -> Result<Index, Fail> {
+pub(crate) fn index_of(alloc: Global, text: PackedText, interval: u32) -> Result<Index, Fail> {
     Ok(Index::build(alloc, whole(alloc, text)?, interval)?)
 }
 

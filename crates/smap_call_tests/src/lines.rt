@@ -1,7 +1,8 @@
 //! Look-ups among the checkpoints of their line, and maps that are ready for them. The answers are written by hand.
+use crate::indexes::{index_of, packed};
 use crate::same::assert_same;
 use crate::shown::answer_text;
-use smap_index::{Answer, Index, LineStarts, MarkedText};
+use smap_index::{Answer, Index, LineStarts};
 use smap_record::{MapFile, Meter, ReadyMap};
 use std::alloc::Global;
 use std::process::Abort;
@@ -11,7 +12,9 @@ use std::test::Fail;
 // at most.
 type Asked = (u32, u32, &'static str, &'static str, u64);
 
-// Of three segments on line 2 and one on line 4, each with a checkpoint.
+// Three segments on line 2 and one on line 4, each with a checkpoint.
+const TEXT: &str = ";;AAAA,CAAC,CAAC;;AACA";
+
 const ASKED: &[Asked] = &[
     (0, 0, "none", "none", 0),
     (2, 0, "0,0,0,0", "0,0,0,0", 2),
@@ -23,14 +26,6 @@ const ASKED: &[Asked] = &[
     (5, 0, "none", "none", 3),
     (4_294_967_295, 0, "none", "none", 3),
 ];
-
-// The index of a text with a checkpoint at each segment.
-fn index_of(alloc: Global, text: &str) -> Result<Index, Fail> {
-    match MarkedText::check(alloc, String::from_str(alloc, text)?, 1, 0, 1) {
-        Ok(marked) => Ok(Index::of_text(alloc, marked)?),
-        Err(_) => Err(Fail::new("the text is refused")),
-    }
-}
 
 // Asks an index among the checkpoints of a line, in both directions.
 fn assert_asked(
@@ -55,7 +50,7 @@ fn assert_asked(
 
 #[test]
 fn the_checkpoints_of_a_line_are_compared(rt: HostRuntime) -> Result<(), Fail> {
-    let index = index_of(rt.alloc(), ";;AAAA,CAAC,CAAC;;AACA")?;
+    let index = index_of(rt.alloc(), packed(rt.alloc(), TEXT)?, 1)?;
     let starts = index.line_starts(rt.alloc())?;
     for asked in ASKED {
         assert_asked(&rt, rt.alloc(), &index, &starts, asked)?;
@@ -66,7 +61,7 @@ fn the_checkpoints_of_a_line_are_compared(rt: HostRuntime) -> Result<(), Fail> {
 // Where no line has a start, all checkpoints are compared, and the answers are the same.
 #[test]
 fn no_line_needs_a_start(rt: HostRuntime) -> Result<(), Fail> {
-    let index = index_of(rt.alloc(), ";;AAAA,CAAC,CAAC;;AACA")?;
+    let index = index_of(rt.alloc(), packed(rt.alloc(), TEXT)?, 1)?;
     let starts = LineStarts::none(rt.alloc());
     for asked in ASKED {
         let (line, column, before, after, _) = asked;
