@@ -80,10 +80,12 @@ def seconds(value: Any, what: str) -> Optional[float]:
 
 def file_bytes(data: Any, what: str) -> Held:
     """The bytes of a file: those that are given, which are not copied, a text in UTF-8, or those of the file at a path."""
-    if not isinstance(data, (bytes, str)) and isinstance(data, os.PathLike):
+    if isinstance(data, (bytes, str)):
+        return data if isinstance(data, bytes) else data.encode()
+    if isinstance(data, os.PathLike):
         with open(data, "rb") as file:
             return file.read()
-    return _bytes(data, f"{what} is bytes, a str or a Path")
+    return _viewed(data, f"{what} is bytes, a str or a Path")
 
 
 def file_name(data: Any) -> Optional[str]:
@@ -99,7 +101,7 @@ def path_hint(data: Any) -> str:
 
 def trace_bytes(data: Any) -> Held:
     """The bytes of a trace."""
-    return _bytes(data, "a trace is bytes or a str")
+    return data.encode() if isinstance(data, str) else _viewed(data, "a trace is bytes or a str")
 
 
 def positions(data: Any) -> Tuple[Held, int]:
@@ -130,11 +132,9 @@ def whole_url(value: Any, what: str) -> str:
     return cast(str, value)
 
 
-def _bytes(data: Any, what: str) -> Held:
+def _viewed(data: Any, what: str) -> Held:
     if isinstance(data, bytes):
         return data
-    if isinstance(data, str):
-        return data.encode()
     try:
         view = memoryview(data)
     except TypeError:
