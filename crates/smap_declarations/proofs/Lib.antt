@@ -1,5 +1,6 @@
 pub mod BracketLaws
 pub mod DecidingLaws
 pub mod EntryLaws
+mod Examples
 pub mod NamingLaws
 pub mod OrderLaws

@@ -97,7 +97,7 @@ fn is_between(keyword: Keyword, byte: u8) -> bool
 
 impl Place {
     // The place at a text's start.
-    pub fn origin() -> Place
+    pub(crate) fn origin() -> Place
         ensures { result ≡ origin }
     {
         Place { line: 0, column: 0 }
@@ -106,7 +106,7 @@ impl Place {
     // The place behind a byte, which this text follows.
     #[inline(always)]
     #[tactic(auto, unfolding(crate::specs::Walk::place_after))]
-    pub fn after(self, byte: u8, behind: &[u8]) -> Place
+    pub(crate) fn after(self, byte: u8, behind: &[u8]) -> Place
         requires line { self.line + 1 < 2 ^ 32 }
         requires column { self.column + 2 < 2 ^ 32 }
         ensures { result ≡ place_after self byte behind.now }
@@ -126,7 +126,7 @@ impl Place {
 
     // Whether this place is not after that.
     #[inline(always)]
-    pub fn is_at_or_before(self, other: Place) -> bool
+    pub(crate) fn is_at_or_before(self, other: Place) -> bool
         ensures { result ≡ is_at_or_before self other }
     {
         self.line < other.line || (self.line == other.line && self.column <= other.column)
