@@ -1,5 +1,5 @@
 -- A walk through the mappings of parts gives the first that is left, and leaves the others.
-use Rattle.std.proofs.Common.{◌≡◌, ℕ, ◌+◌, List, [], ◌∷◌, ◌++◌, false, Some, None, cond, drop, length, refl, sym, ap, subst, ◌∙◌, arith}
+use Rattle.std.proofs.Common.{◌≡◌, ℕ, ◌+◌, List, [], ◌∷◌, ◌++◌, false, drop, length, refl, sym, ap, subst, ◌∙◌, arith}
 use Rattle.std.specs.List.{list_any}
 use Rattle.std.proofs.lemmas.Bool.{or_parts}
 use Rattle.std.proofs.lemmas.List.{append_assoc}
@@ -13,7 +13,7 @@ use Rattle.smap_index.specs.Parts.{placed_mapping, placed, joined}
 use Rattle.smap_index.specs.Joined.{left_of, IsAtFront, IsWalkThrough}
 use Rattle.smap_index.specs.declared.part.Part.{Part}
 use Rattle.smap_index.proofs.LastLaws.{next_left, none_left}
-use Rattle.smap_index.proofs.WalkLaws.{after_next, same_place}
+use Rattle.smap_index.proofs.WalkLaws.{after_next}
 
 -- ---- a step of the walk
 
@@ -45,13 +45,11 @@ module _ (parts : List Part) (part : Part) (rest : List Part) (is : parts ≡ pa
       in_range = walk.in_range;
     }
 
-    pub first_given : (there : Mapping) → cond (is_mapping_past_limit (placed_mapping part m)) None (Some (placed_mapping part m))
-        ≡ Some there → left_of parts n ≡ there ∷ left_of parts more
-    first_given there placed_is =
-        let same = same_place (placed_mapping part m) there placed_is in
+    pub first_given : left_of parts n ≡ placed_mapping part m ∷ left_of parts more
+    first_given =
         ap (λ parts. left_of parts n) is ∙ ap (λ list. list ++ joined rest) (next_left part n m after next)
-        ∙ (λ i. same i ∷ drop (sym counted i) (placed part) ++ joined rest)
-        ∙ ap (λ parts. there ∷ left_of parts more) (sym is)
+        ∙ (λ i. placed_mapping part m ∷ drop (sym counted i) (placed part) ++ joined rest)
+        ∙ ap (λ parts. placed_mapping part m ∷ left_of parts more) (sym is)
 
   -- at the end of the first part
   module _ (none : ℕ) (new : none ≡ 0) where

@@ -1,9 +1,9 @@
 -- A walk through a text takes one mapping more at each step.
-use Rattle.std.proofs.Common.{◌≡◌, ℕ, ◌+◌, List, [], ◌∷◌, ◌++◌, ◌||◌, Bool, true, false, Option, Some, None, take, cond, suc, zero, length, refl}
-use Rattle.std.proofs.Common.{arith, sym, ap, subst, ◌∙◌, ⊎_elim}
+use Rattle.std.proofs.Common.{◌≡◌, ℕ, ◌+◌, List, [], ◌∷◌, ◌++◌, ◌||◌, Bool, true, false, Option, Some, None, take, suc, zero, length, refl}
+use Rattle.std.proofs.Common.{arith, sym, ap, subst, ◌∙◌}
 use Rattle.std.specs.Prelude.{option_map, IfSome}
 use Rattle.std.specs.List.{last_or, list_any, slice_get}
-use Rattle.std.proofs.lemmas.Bool.{or_parts, or_from, cases_Bool, cond-true, cond-false}
+use Rattle.std.proofs.lemmas.Bool.{or_parts, or_from}
 use Rattle.std.proofs.lemmas.List.{length-map, take_all}
 use Rattle.std.proofs.lemmas.List.Folds.{list_any-append}
 use Rattle.std.proofs.lemmas.Option.{slice_get-map}
@@ -57,14 +57,6 @@ or_more false true c = refl
 or_more false false true = refl
 or_more false false false = refl
 
--- a mapping that has its place is there
-pub same_place : (m there : Mapping) → cond (is_mapping_past_limit m) None (Some m) ≡ Some there → m ≡ there
-same_place m there is =
-    ⊎_elim
-    (λ past. absurd (let e = cond-true (is_mapping_past_limit m) None (Some m) past in cc (e, is)))
-    (λ within. let e = cond-false (is_mapping_past_limit m) None (Some m) within in cc (e, is))
-    (cases_Bool (is_mapping_past_limit m))
-
 -- before the first mapping no test has passed
 or_none : (a : Bool) → (a || false) ≡ a
 or_none true = refl
@@ -116,10 +108,3 @@ none_at test (x ∷ list) (suc j) m none there = none_at test list j m (or_parts
 pub in_range_at : (part : Part) (j : ℕ) (m : Mapping) → list_any is_mapping_past_limit (placed part) ≡ false
     → slice_get (mappings_of part.text) j ≡ Some m → is_mapping_past_limit (placed_mapping part m) ≡ false
 in_range_at part j m none there = none_at is_mapping_past_limit (placed part) j (placed_mapping part m) none (placed_there part j m there)
-
--- so it has its place
-pub placed_in_range : (part : Part) (j : ℕ) (m : Mapping) (after : Cursor) → IsNext part.text j m after
-    → list_any is_mapping_past_limit (placed part) ≡ false → cond (is_mapping_past_limit (placed_mapping part m)) None (Some (placed_mapping part m)) ≡ None → ⊥
-placed_in_range part j m after next none kept =
-    let e = cond-false (is_mapping_past_limit (placed_mapping part m)) None (Some (placed_mapping part m)) (in_range_at part j m none next.mapping_is) in
-    cc (e, kept)

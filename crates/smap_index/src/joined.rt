@@ -7,7 +7,7 @@ ghost use Rattle.smap_index.specs.Parts.{joined};
 ghost use Rattle.smap_index.specs.Joined.{IsAtFront};
 
 use crate::part::Part;
-use crate::placed::placed_mapping;
+use crate::placed::placed_within;
 use smap_mappings::{Cursor, Mapping, Meter};
 use std::alloc::Global;
 use std::marker::Model;
@@ -78,10 +78,7 @@ impl<'a> Iterator for JoinedMappings<'a> {
             let state = part.text.state_at(self.cursor);
             if let Some((mapping, after)) = part.text.next(&state, &mut self.meter) {
                 self.cursor = after.cursor();
-                let Some(placed) = placed_mapping(part, &mapping) else {
-                    unreachable!("no mapping of an index is past the limit");
-                };
-                return Some(placed);
+                return Some(placed_within(part, &mapping));
             }
             self.parts = rest;
             self.cursor = front(rest);

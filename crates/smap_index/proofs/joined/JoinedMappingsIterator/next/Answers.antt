@@ -1,9 +1,9 @@
 use Rattle.std.proofs.Common.{◌≡◌, ◌∷◌, length, sym, ap, ◌∙◌, arith}
 use Rattle.smap_index.specs.Joined.{left_of}
-use Rattle.smap_index.proofs.WalkLaws.{placed_in_range}
+use Rattle.smap_mappings.specs.declared.mapping.Mapping.{Mapping}
+use Rattle.smap_index.proofs.WalkLaws.{in_range_at}
 use Rattle.smap_index.proofs.JoinedLaws.{left_none, first_state, first_in_range, walk_on, first_given, rest_left, walk_rest}
 use Rattle.smap_index.proofs.joined.JoinedMappingsIterator.next.Goals as goal
-use Rattle.smap_index.proofs.joined.JoinedMappingsIterator.next.Goals.{In-Some, In-Some-placed_mapping}
 
 pub loop-part-init : goal.loop-part-init
 loop-part-init c = record { same = c.self.view_is; walk = c.self.invariant }
@@ -19,12 +19,11 @@ next-requires-clause-room c =
     let after = first_state _ _ _ c.in-Some.ensures.cases.0 _ _ c.loop-part.invariant.walk _ c.state_at-state.ensures in
     omega (arith, after.count, c.segments-segments.ensures.bound, c.segments-segments.ensures.count, c.start-start.ensures.packed.short)
 
-pub unreachable-requires : goal.unreachable-requires
-unreachable-requires c =
+pub placed_within-requires : goal.placed_within-requires
+placed_within-requires c =
     let walk = c.loop-part.invariant.walk in
     let next = c.in-Some-next.ensures.some _ (first_state _ _ _ c.in-Some.ensures.cases.0 _ _ walk _ c.state_at-state.ensures) in
-    placed_in_range c.in-Some.part.now _ c.in-Some-next.mapping c.in-Some-next.after next
-    (first_in_range _ _ _ c.in-Some.ensures.cases.0 _ _ walk) (sym c.placed_mapping.ensures ∙ c.in_default-placed_mapping.is)
+    in_range_at c.in-Some.part.now _ c.in-Some-next.mapping (first_in_range _ _ _ c.in-Some.ensures.cases.0 _ _ walk) next.mapping_is
 
 pub invariant_of-self : goal.invariant_of-self
 invariant_of-self c =
@@ -33,13 +32,14 @@ invariant_of-self c =
     walk_on _ _ _ c.in-Some.ensures.cases.0 _ _ walk c.in-Some-next.mapping c.in-Some-next.after next c.next.new.meter.segments
     (ap (λ m. m.segments) c.in-Some-next.ensures.counted) _ (cc)
 
-given : (c : In-Some-placed_mapping) → left_of c.loop-part.self-inside.parts.now c.loop-part.self-inside.meter.segments
-    ≡ c.in-Some-placed_mapping.placed ∷ left_of c.loop-part.self-inside.parts.now c.next.new.meter.segments
+given : (c : goal.After-placed_within) → left_of c.loop-part.self-inside.parts.now c.loop-part.self-inside.meter.segments
+    ≡ c.placed_within.result ∷ left_of c.loop-part.self-inside.parts.now c.next.new.meter.segments
 given c =
     let walk = c.loop-part.invariant.walk in
     let next = c.in-Some-next.ensures.some _ (first_state _ _ _ c.in-Some.ensures.cases.0 _ _ walk _ c.state_at-state.ensures) in
     first_given _ _ _ c.in-Some.ensures.cases.0 _ _ walk c.in-Some-next.mapping c.in-Some-next.after next c.next.new.meter.segments
-    (ap (λ m. m.segments) c.in-Some-next.ensures.counted) c.in-Some-placed_mapping.placed (sym c.placed_mapping.ensures ∙ c.in-Some-placed_mapping.is)
+    (ap (λ m. m.segments) c.in-Some-next.ensures.counted)
+    ∙ ap (λ (m : Mapping). m ∷ left_of c.loop-part.self-inside.parts.now c.next.new.meter.segments) (sym c.placed_within.ensures)
 
 pub returns-in-Some-next-clause-steps : goal.returns-in-Some-next-clause-steps
 returns-in-Some-next-clause-steps c = sym c.loop-part.invariant.same ∙ given c
