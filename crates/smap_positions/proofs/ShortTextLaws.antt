@@ -1,5 +1,6 @@
 -- What is written behind a short text.
-use Rattle.std.proofs.Common.{◌≡◌, ◌+◌, ◌≤◌, ℕ, List, ◌++◌, length, take, drop, sym, ap, ◌∙◌, arith, append_assoc, length-append}
+use Rattle.std.proofs.Common.{◌≡◌, ◌+◌, ◌/◌, ◌<◌, ◌≤◌, ℕ, decimal, List, ◌++◌, length, take, drop, sym, ap, ◌∙◌, arith, append_assoc, length-append}
+use Rattle.itoa.proofs.Decimal.{length_one, length_pair, length_two}
 use Rattle.std.proofs.lemmas.List.{length-take, take-append-drop, take_at}
 
 -- bytes that are written where a text ends stand behind it
@@ -11,3 +12,11 @@ written_behind old new bytes start end within count before written =
     ∙ sym (append_assoc (take start old) bytes (drop end old)) in
     ap (take end) whole
     ∙ take_at (take start old ++ bytes) (drop end old) end (omega (arith, length-append (take start old) bytes, length-take start old))
+
+-- how many digits a number below 10000 has
+pub length_three : (n : ℕ) → 100 ≤ n → n < 1000 → length (decimal n) ≡ 3
+length_three n low high = length_pair n low (omega arith) ∙ ap (λ count. count + 2) (length_one (n / 100) (omega arith))
+
+pub length_four : (n : ℕ) → 1000 ≤ n → n < 10000 → length (decimal n) ≡ 4
+length_four n low high =
+    length_pair n (omega arith) (omega arith) ∙ ap (λ count. count + 2) (length_two (n / 100) (omega arith) (omega arith))

@@ -1,5 +1,6 @@
 //! Short texts in rooms of fixed size.
-ghost use Rattle.std.specs.Prelude.{◌≡◌, ◌++◌, ◌<◌, [], IfSome, decimal, false, length, true};
+ghost use Rattle.std.specs.Prelude.{◌≡◌, ◌++◌, ◌+◌, ◌<◌, ◌≤◌, [], IfSome, decimal, false, length, true};
+ghost use Rattle.smap_positions.specs.Private.ShortText.{most_short};
 
 use itoa::write_digits;
 use std::marker::Model;
@@ -75,10 +76,31 @@ impl ShortText {
         if MOST_SHORT - self.length < MOST_DECIMAL_DIGITS {
             return false;
         }
-        let end = self.length + count_digits(number);
+        // Each count stands apart, so that its digits are written without asking again how many there are.
+        if number < 10 {
+            self.add_digits(number, 1);
+        } else if number < 100 {
+            self.add_digits(number, 2);
+        } else if number < 1000 {
+            self.add_digits(number, 3);
+        } else if number < 10_000 {
+            self.add_digits(number, 4);
+        } else {
+            self.add_digits(number, count_digits(number));
+        }
+        true
+    }
+
+    // Puts a number of so many digits behind the text.
+    #[inline(always)]
+    fn add_digits(&mut self, number: u64, count: usize)
+        requires digits { count ≡ length (decimal number) }
+        requires room { length self.old + 20 ≤ most_short }
+        ensures { self.new ≡ self.old ++ decimal number }
+    {
+        let end = self.length + count;
         write_digits(number, &mut self.bytes, end);
         self.length = end;
-        true
     }
 
     /// Puts a piece of fixed size behind the text, if there is room for any, and says whether there is.

@@ -1,21 +1,17 @@
-use Rattle.std.proofs.Common.{◌≡◌, ◌+◌, decimal, sym, ap, arith}
-use Rattle.std.proofs.lemmas.Fmt.{length-decimal-le}
-use Rattle.smap_positions.proofs.ShortTextLaws.{written_behind}
+use Rattle.std.proofs.Common.{sym}
+use Rattle.itoa.proofs.Decimal.{length_one, length_two}
+use Rattle.smap_positions.proofs.ShortTextLaws.{length_four, length_three}
 use Rattle.smap_positions.proofs.short_text.ShortText.add_number.Goals as goal
 
-pub overflow_add-end : goal.overflow_add-end
-overflow_add-end c =
-    omega (arith, c.count_digits.ensures, length-decimal-le 20 c.args.number (omega arith) (omega arith) (omega arith))
+pub add_digits-requires-clause-digits : goal.add_digits-requires-clause-digits
+add_digits-requires-clause-digits c = sym (length_one c.args.number c.if-number-lt10.true)
 
-pub write_digits-requires : goal.write_digits-requires
-write_digits-requires c =
-    let few = length-decimal-le 20 c.args.number (omega arith) (omega arith) (omega arith) in
-    (omega (arith, c.count_digits.ensures), omega (arith, few, c.count_digits.ensures, c.self.told))
+pub add_digits-requires-then-number-lt100-clause-digits : goal.add_digits-requires-then-number-lt100-clause-digits
+add_digits-requires-then-number-lt100-clause-digits c = sym (length_two c.args.number c.if-number-lt10.false c.if-number-lt100.true)
 
-pub returns-clause-added : goal.returns-clause-added
-returns-clause-added c room =
-    let start : c.write_digits.result ≡ c.self.inside.length = omega (arith, c.write_digits.ensures.start, c.count_digits.ensures) in
-    let before = rw start at c.write_digits.ensures.before in
-    let written = rw start at c.write_digits.ensures.written in
-    rw (← c.self.view_is) (written_behind c.self.inside.bytes c.write_digits.new.buf (decimal c.args.number) c.self.inside.length _
-    (omega (arith, c.self.told, c.self.invariant)) (ap (λ n. c.self.inside.length + n) (sym c.count_digits.ensures)) before written)
+pub add_digits-requires-then-number-lt1000-clause-digits : goal.add_digits-requires-then-number-lt1000-clause-digits
+add_digits-requires-then-number-lt1000-clause-digits c = sym (length_three c.args.number c.if-number-lt100.false c.if-number-lt1000.true)
+
+pub add_digits-requires-then-number-lt10000-clause-digits : goal.add_digits-requires-then-number-lt10000-clause-digits
+add_digits-requires-then-number-lt10000-clause-digits c =
+    sym (length_four c.args.number c.if-number-lt1000.false c.if-number-lt10000.true)
