@@ -51,7 +51,7 @@ const waiting: Promise<Buffer> = rewriteAsync(kept, 'x', { stripAnsi: true });
 names.push(...frameUrls('x', { anywhere: true }), context ? context.before.join(context.line) : '', String(inFolder.get('x')));
 table[Symbol.dispose]();
 map.close();
-export const all = [fits, past + inside + same, waiting, kept.lookUp('x', 1, 0), kept.load(['x']), line, original, answers, columns, lines, text, written, list, names, content, ignored, total, made, places, saved, new Refused('x').number];
+export const all = [fits, past + inside + same, waiting, kept.lookUp('x', 1, 0), kept.load(['x']), line, original, answers, columns, lines, text, written, list, names, content, ignored, total, made, places, saved, new Refused('x').code];
 
 // What no call takes.
 // @ts-expect-error

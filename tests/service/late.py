@@ -37,6 +37,7 @@ class Release:
         self.path, self.states, self.answers, self.failures = path, [(time.monotonic(), None)], [], []
 
     def becomes(self, version):
+        when = time.monotonic()
         if version is None:
             self.path.unlink()
         else:
@@ -44,7 +45,7 @@ class Release:
             new.write_text(text_of(version) if version > 0 else '{"version":3}')
             new.replace(self.path)
         if version is None or version > 0:
-            self.states.append((time.monotonic(), version))
+            self.states.append((when, version))
 
     def ask(self, port, url, until):
         try:
@@ -57,7 +58,7 @@ class Release:
 
     def may_be(self, begin, end):
         """What may be answered between two times: what the map was since what was seen before ceased to hold."""
-        ends = [when for when, _ in self.states[1:]] + [end + 1]
+        ends = [after for after, _ in self.states[1:]] + [end + 1]
         return [version for (when, version), over in zip(self.states, ends) if when <= end and over + HOLDS + SLACK >= begin]
 
 
