@@ -7,6 +7,8 @@ mod beginnings;
 #[cfg(test)]
 mod composing;
 #[cfg(test)]
+mod declarations;
+#[cfg(test)]
 mod devices;
 #[cfg(test)]
 mod facts;
