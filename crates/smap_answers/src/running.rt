@@ -57,8 +57,8 @@ pub fn run<R: ByteSource, W: ByteSink, E: ByteSink>(
 /// The code of the first refusal that is reported on standard error is put into `first`, where that has none. Where the
 /// command asks for it, the control sequences of a terminal are left out of the input before anything else looks at it. The
 /// caller gives a command at whose interval checkpoints may stand and whose numbers of bytes are in their ranges, and
-/// devices that have not failed. With `hint` standard error is told at the end, where nothing else was said, which option of
-/// `rewrite` takes the places of lines that are no frames.
+/// devices that have not failed. With `hint` standard error is told at the end, where nothing else was said, that `rewrite`
+/// mapped nothing, and which option takes the places of lines that are no frames.
 pub fn run_reading<F: FileReader, R: ByteSource, W: ByteSink, E: ByteSink>(
     alloc: Global,
     reader: &F,

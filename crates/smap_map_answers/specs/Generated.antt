@@ -89,7 +89,7 @@ alike_heading = codes "  the names of sources that end alike:\n"
 abbrev pub none_alike_line : List ℕ
 none_alike_line = codes "  no name of a source ends alike: smap sources MAP prints all\n"
 
-abbrev pub alike_text : (lines : List ℕ) → List ℕ
+unfoldable pub alike_text : (lines : List ℕ) → List ℕ
 alike_text lines = if length lines == 0 then none_alike_line else alike_heading ++ lines
 
 -- and, where that is asked, the names that end alike

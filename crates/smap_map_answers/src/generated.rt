@@ -86,6 +86,7 @@ fn no_source_text(
 }
 
 // What stands before the names that end alike, or in their place.
+#[tactic(auto, unfolding(crate::specs::Generated::alike_text))]
 fn alike_heading(lines: &str) -> &'static str
     ensures { result.now ++ lines.now ≡ alike_text lines.now }
 {

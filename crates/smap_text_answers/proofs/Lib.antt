@@ -1,5 +1,6 @@
 mod BesideLaws
 mod ByPathLaws
+mod DottedLaws
 mod BytesLaws
 mod CauseLaws
 mod Examples

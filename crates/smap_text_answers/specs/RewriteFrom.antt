@@ -232,13 +232,13 @@ abbrev pub RewritesSources : MayRead → Option Parts → (k : ℕ) → RequestS
 RewritesSources Reads base k request (Err refused) status before after = (after.input ≡ before.input) × Ends refused status before.sinks after.sinks
 RewritesSources Reads base k request (Ok sources) status before after =
     (end : StoreEnd RewriteCounts) × (notes : NotesSeen) × (others : NotesSeen) × (warned : SinkSeen) × (between : Streams) × (told : Sinks)
-    × (summed : SinkSeen) × (named : SinkSeen) × (ended : ℕ) × (summing : ℕ) × (said : ℕ) × (hinted : ℕ)
+    × (summed : SinkSeen) × (named : SinkSeen) × (ended : ℕ) × (summing : ℕ) × (said : ℕ) × (reported : ℕ) × (hinted : ℕ)
     × TellsDotted request.arguments before.sinks.errors warned
     × IsTextOverStore Reads base k request sources end notes others (with_errors warned before) between
     × AnswersByPath Reads base k request sources end (with_errors warned before) between × (after.input ≡ between.input) × EndsStore end ended between.sinks told
     × (after.sinks.output ≡ told.output) × (after.sinks.code ≡ told.code) × SumsUp end request.summary request.anywhere summing told.errors summed
-    × SaysUrls Reads base k request sources end notes others said summed named × Hints request end notes (max (max ended summing) said) hinted named after.sinks.errors
-    × (status ≡ max (max (max ended summing) said) hinted)
+    × SaysUrls Reads base k request sources end notes others said summed named × Hints request end notes reported hinted named after.sinks.errors
+    × (reported ≡ max (max ended summing) said) × (status ≡ max reported hinted)
 
 abbrev pub RewritesFrom : MayRead → Option Parts → (k : ℕ) → RequestSeen → (status : ℕ) → (before after : Streams) → Type 0
 RewritesFrom Reads base k request status before after =

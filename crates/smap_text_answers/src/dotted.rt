@@ -1,6 +1,7 @@
 //! What is said of a pattern that is not what it looks like: `*.js`.
-ghost use Rattle.std.specs.Prelude.{◌≡◌, map};
+ghost use Rattle.std.specs.Prelude.{◌≡◌, map, string_bytes};
 ghost use Rattle.std.specs.List.{list_any};
+ghost use Rattle.smap_locations.specs.Patterns.{is_separator};
 ghost use Rattle.smap_replies.specs.Arguments.{argument_of};
 ghost use Rattle.smap_text_answers.specs.Dotted.{TellsDotted, is_dotted};
 
@@ -24,6 +25,13 @@ pub fn tell_dotted<E: ByteSink>(arguments: &[(String, String)], errors: &mut E)
 // Whether one of the arguments is such a pattern.
 fn has_dotted(arguments: &[(String, String)]) -> bool
     ensures { result ≡ list_any (λ a. is_dotted a.0) (map argument_of arguments.now) }
+{
+    is_any_dotted(arguments)
+}
+
+// The same, of the pairs as they are.
+fn is_any_dotted(arguments: &[(String, String)]) -> bool
+    ensures { result ≡ list_any (λ a. is_dotted (string_bytes a.0)) arguments.now }
 {
     arguments.iter().any(|(url, _)| is_dotted(url.as_bytes()))
 }

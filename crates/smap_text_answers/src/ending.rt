@@ -1,8 +1,8 @@
 //! What is reported where rewriting over files and folders of maps ends.
 ghost use Rattle.std.specs.Prelude.{◌≡◌, string_bytes, IfOk};
 ghost use Rattle.smap_text_answers.specs.RewriteFrom.{Hints, HintsCounts, ReportsSummary, SumsUp, counted_text, has_passed};
-ghost use Rattle.smap_text_answers.specs.RewriteFrom.{is_as_it_was, is_silent, maps_text, none_mapped_text, passed_text, summary_line};
-ghost use Rattle.smap_text_answers.specs.RewriteFrom.{trace_text};
+ghost use Rattle.smap_text_answers.specs.RewriteFrom.{is_as_it_was, is_silent, maps_text, none_mapped_line, none_mapped_text, passed_text};
+ghost use Rattle.smap_text_answers.specs.RewriteFrom.{summary_line, trace_text};
 ghost use Rattle.smap_text_answers.specs.Request.{request_seen};
 ghost use Rattle.smap_trace.specs.NotesSeen.{notes_seen};
 
@@ -202,9 +202,23 @@ fn none_mapped_text(
 ) -> Result<String, AllocError>
     ensures { IfOk result (λ text. string_bytes text ≡ none_mapped_text anywhere counts.now) }
 {
+    let mut text = none_mapped_line(alloc, anywhere, counts)?;
+    if has_passed(counts) {
+        text.push_str(PASSED)?;
+    }
+    Ok(text)
+}
+
+// Standard error: how many frames there were, or places anywhere.
+fn none_mapped_line(
+    alloc: Global,
+    anywhere: bool,
+    counts: &RewriteCounts,
+) -> Result<String, AllocError>
+    ensures { IfOk result (λ text. string_bytes text ≡ none_mapped_line anywhere counts.now) }
+{
     let (frames, counted) = (counts.summary.frames, counted_text(anywhere));
-    let passed = if has_passed(counts) { PASSED } else { "" };
-    format!(in alloc; "0 of {frames}{counted} mapped; --explain says why\n{passed}")
+    format!(in alloc; "0 of {frames}{counted} mapped; --explain says why\n")
 }
 
 // What is counted, for one line.

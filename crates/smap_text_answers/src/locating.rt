@@ -50,11 +50,12 @@ pub fn answer_locate<F: FileReader, R: ByteSource, W: ByteSink, E: ByteSink>(
     let list = asked.list.as_deref();
     match sources_of(alloc, &maps, asked.paths, false, &asked.maps, list) {
         Ok(sources) => {
-            tell_dotted(&asked.maps, errors);
+            let arguments: &[(String, String)] = &asked.maps;
+            tell_dotted(arguments, errors);
             let run = StoreRun {
                 maps: &maps,
                 paths: asked.paths,
-                arguments: &asked.maps,
+                arguments,
                 cache_bytes: asked.cache_bytes.unwrap_or(USUAL_CACHE_BYTES),
                 sources: &sources,
             };

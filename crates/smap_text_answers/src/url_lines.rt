@@ -22,9 +22,11 @@ use std::alloc::{AllocError, Global};
 const MOST_URL_BYTES: usize = 1024;
 
 // No URL was noted: no line is a frame.
-const NO_FRAME: &str = "no line is a frame: --anywhere finds places in other text; UTF-16 and what is compressed are to be converted first, and a line and a column that stand apart are for smap locate\n";
+const NO_FRAME: &str =
+    "no line is a frame: --anywhere finds places in other text; UTF-16 and what is compressed are to be converted first, and a line and a column that stand apart are for smap locate\n";
 
-const NO_PLACE: &str = "no place was found: a place is a URL of an argument before :LINE:COLUMN; UTF-16 and what is compressed are to be converted first, and a line and a column that stand apart are for smap locate\n";
+const NO_PLACE: &str =
+    "no place was found: a place is a URL of an argument before :LINE:COLUMN; UTF-16 and what is compressed are to be converted first, and a line and a column that stand apart are for smap locate\n";
 
 /// Reports what became of the URLs that were noted, or that memory ran out, and gives the status of that.
 pub fn tell_urls<F: FileReader, E: ByteSink>(

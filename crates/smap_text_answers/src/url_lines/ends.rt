@@ -112,16 +112,15 @@ fn is_file_of(url: &[u8], word: &str, path: &str) -> bool
 }
 
 // What decided where the map of a URL is, where it came from, and what became of the frames that were not replaced.
-fn found_text(
-    alloc: Global,
-    name: &[u8],
-    file: &str,
-    note: &UrlNote,
-) -> Result<Vec<u8>, AllocError>
+fn found_text(alloc: Global, name: &[u8], file: &str, note: &UrlNote) -> Result<Vec<u8>, AllocError>
     ensures { IfOk result (λ text. text.items ≡ found_text name.now file.now (note_seen note.now)) }
 {
     let (name, file) = (shown_url(alloc, name)?, shown(alloc, file)?);
-    let rest = rest_text(alloc, note.unmapped, note.frames.saturating_sub(note.mapped))?;
+    let rest = rest_text(
+        alloc,
+        note.unmapped,
+        note.frames.saturating_sub(note.mapped),
+    )?;
     let mut text = Vec::from_slice(alloc, b"by ")?;
     text.extend_from_slice(&name)?;
     text.extend_from_slice(b" from ")?;
@@ -131,11 +130,7 @@ fn found_text(
 }
 
 // The first place for which a map has nothing that can be put there, or how many frames were left out.
-fn rest_text(
-    alloc: Global,
-    unmapped: Option<(u32, u32)>,
-    left: u64,
-) -> Result<String, AllocError>
+fn rest_text(alloc: Global, unmapped: Option<(u32, u32)>, left: u64) -> Result<String, AllocError>
     ensures { IfOk result (λ text. string_bytes text ≡ rest_text unmapped left) }
 {
     match unmapped {

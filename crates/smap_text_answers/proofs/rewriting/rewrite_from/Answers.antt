@@ -33,6 +33,7 @@ returns-in-Ok g c =
         c.finish-ended.result,
         c.sum_up-summed.result,
         c.say_urls-said.result,
+        c.max-status.result,
         c.hint-hinted.result,
         c.tell_dotted.ensures,
         over,
@@ -44,6 +45,7 @@ returns-in-Ok g c =
         c.sum_up-summed.ensures,
         c.say_urls-said.ensures,
         c.hint-hinted.ensures,
+        search rules,
         search rules,
       ),
     )
