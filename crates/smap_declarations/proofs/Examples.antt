@@ -1,5 +1,5 @@
 -- Worked examples of the definitions: each holds by computing both sides.
-use Rattle.std.proofs.Common.{◌≡◌, ℕ, List, [], ◌∷◌, ◌++◌, Some, None, Bool, true, false, refl, codes, map}
+use Rattle.std.proofs.Common.{◌≡◌, ℕ, List, [], ◌∷◌, ◌++◌, Some, None, true, false, refl, codes, map}
 use Rattle.smap_record.specs.Record.{MapRecord}
 use Rattle.smap_declarations.specs.Brackets.{behind_bracket, behind_end}
 use Rattle.smap_declarations.specs.Bytes.{behind_blanks, behind_word, word_in}
@@ -9,7 +9,6 @@ use Rattle.smap_declarations.specs.Functions.{begins_function, begins_plainly, i
 use Rattle.smap_declarations.specs.Walk.{before_after, origin, place_after, start}
 use Rattle.smap_declarations.specs.declared.brackets.Behind.TheVariants.{Arrow, Body, Other}
 use Rattle.smap_declarations.specs.declared.walk.Place.{Place}
-use Rattle.smap_index.specs.Answer.{answer_at_or_before}
 
 -- ---- brackets
 

@@ -4,3 +4,4 @@ pub mod EntryLaws
 mod Examples
 pub mod NamingLaws
 pub mod OrderLaws
+pub mod PassingLaws

@@ -1,37 +1,18 @@
 -- A step of the pass over a text.
-use Rattle.std.proofs.Common.{◌≡◌, ◌+◌, ◌≤◌, ℕ, Bool, true, false, cond, List, ◌∷◌, ◌++◌, refl, sym, ap, ap₂, ◌∙◌, arith}
+use Rattle.std.proofs.Common.{◌≡◌, ◌+◌, ◌≤◌, ℕ, Bool, true, false, cond, List, ◌∷◌, ◌++◌, refl, ap, arith}
 use Rattle.std.specs.Prelude.{nat_lt, option_to_list}
-use Rattle.std.proofs.lemmas.List.{append_assoc}
 use Rattle.smap_record.specs.Record.{MapRecord}
-use Rattle.smap_declarations.specs.Declarations.{Named, name_here, named_from}
+use Rattle.smap_declarations.specs.Declarations.{name_here, named_from}
 use Rattle.smap_declarations.specs.Walk.{before_after, ends_line, place_after, units_at}
 use Rattle.smap_declarations.specs.declared.walk.Before.{Before}
 use Rattle.smap_declarations.specs.declared.walk.Place.{Place}
 
-first_named : (stated : MapRecord) (before : Before) (place : Place) (c : ℕ) (text : List ℕ)
+pub first_named : (stated : MapRecord) (before : Before) (place : Place) (c : ℕ) (text : List ℕ)
     → named_from stated before place (c ∷ text)
     ≡ option_to_list (name_here stated before place c (c ∷ text))
     ++ named_from stated (before_after before c (c ∷ text)) (place_after place c text) text
 unfolding named_from
 first_named stated before place c text = refl
-
--- those found so far, and those from here on, are those of the whole text
-pub one_byte : (stated : MapRecord) (before after_byte : Before) (place after_place : Place) (c : ℕ) (rest text : List ℕ) (found more whole : List Named)
-    → rest ≡ c ∷ text
-    → after_byte ≡ before_after before c rest
-    → after_place ≡ place_after place c text
-    → more ≡ found ++ option_to_list (name_here stated before place c rest)
-    → found ++ named_from stated before place rest ≡ whole
-    → more ++ named_from stated after_byte after_place text ≡ whole
-one_byte stated before after_byte place after_place c rest text found more whole is byte_is place_is more_is so_far =
-    let here = λ (t : List ℕ). option_to_list (name_here stated before place c t) in
-    let behind = ap₂ (λ (b : Before) (p : Place). named_from stated b p text) byte_is place_is in
-    let step = ap (named_from stated before place) is ∙ first_named stated before place c text
-    ∙ sym (ap (λ t. here t ++ named_from stated (before_after before c t) (place_after place c text) text) is) in
-    ap₂ (λ m r. m ++ r) more_is behind
-    ∙ append_assoc found (here rest) (named_from stated (before_after before c rest) (place_after place c text) text)
-    ∙ ap (λ l. found ++ l) (sym step)
-    ∙ so_far
 
 -- ---- places
 

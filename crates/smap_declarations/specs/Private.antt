@@ -3,3 +3,4 @@ pub mod Open
 pub mod Found
 pub mod Entries
 pub mod Order
+pub mod Passing

@@ -20,6 +20,7 @@ mod kind;
 mod name_list;
 mod naming;
 mod order;
+mod passing;
 mod refusal;
 mod walk;
 

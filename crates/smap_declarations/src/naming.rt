@@ -1,6 +1,7 @@
 //! One pass over a generated text, which finds its declarations and properties.
 ghost use Rattle.std.specs.Prelude.{◌≡◌, ◌≤◌, ◌++◌, IfOk, OnOk, length, option_map, option_to_list};
-ghost use Rattle.smap_declarations.specs.Declarations.{name_here, name_in, named_from};
+ghost use Rattle.smap_declarations.specs.Bytes.{behind_word, word_in};
+ghost use Rattle.smap_declarations.specs.Declarations.{name_in, named_from};
 ghost use Rattle.smap_declarations.specs.Limits.{most_text_bytes};
 ghost use Rattle.smap_declarations.specs.Private.Found.{all_named, named};
 ghost use Rattle.smap_declarations.specs.Private.Open.{behind_next};
@@ -10,7 +11,8 @@ use crate::brackets::{Behind, Brackets};
 use crate::bytes::{split_byte, split_word};
 use crate::given::{Given, given_to};
 use crate::kind::kind_of;
-use crate::walk::{Before, Place};
+use crate::passing::Walk;
+use crate::walk::Place;
 use smap_record::MapFile;
 use std::alloc::{AllocError, Global};
 
@@ -34,17 +36,18 @@ pub fn found_in<'t>(
 {
     let mut brackets = Brackets::of(alloc, text)?;
     let mut found = Vec::new(alloc);
-    let mut before = Before::start();
-    let mut place = Place::origin();
-    let mut rest = text;
-    while let Some((byte, behind)) = split_byte(rest) {
-        let next = brackets.next();
-        let name = name_here(alloc, map, before, place, byte, rest, next);
-        push_if_some(&mut found, name)?;
-        brackets.pass(byte);
-        before = before.after(byte, rest);
-        place = place.after(byte, behind);
-        rest = behind;
+    let mut walk = Walk::start(text);
+    while let Some((byte, behind)) = split_byte(walk.rest) {
+        if walk.before.begins_word(byte) {
+            let (word, after) = split_word(walk.rest);
+            let next = brackets.next();
+            let name = name_in(alloc, map, walk, word, after, next);
+            push_if_some(&mut found, name)?;
+            walk = walk.past_word(byte, behind, word, after);
+        } else {
+            brackets.pass(byte);
+            walk = walk.past_byte(byte, behind);
+        }
     }
     Ok(found)
 }
@@ -61,44 +64,30 @@ fn push_if_some<'t>(found: &mut Vec<Found<'t>>, name: Option<Found<'t>>) -> Resu
     Ok(())
 }
 
-// What is told of the word that begins with this byte, where one does that is a declaration or a property.
-#[inline(always)]
-fn name_here<'t>(
-    alloc: Global,
-    map: &MapFile,
-    before: Before,
-    place: Place,
-    byte: u8,
-    text: &'t [u8],
-    next: Behind,
-) -> Option<Found<'t>>
-    requires { next ≡ behind_next text.now }
-    ensures { option_map named result ≡ name_here map.now.stated before place byte text.now }
-{
-    if before.begins_word(byte) {
-        name_in(alloc, map, before, place, text, next)
-    } else {
-        None
-    }
-}
-
-// What is told of the word that begins this text, where it is a declaration or a property. It is told what stands behind the
-// end of the text's first bracket.
+// What is told of the word that the rest of a text begins with, where it is a declaration or a property. It is told what stands
+// behind the end of the rest's first bracket.
 #[inline(always)]
 #[tactic(auto, using(crate::proofs::BracketLaws::same_next), unfolding(crate::specs::Declarations::name_in))]
 fn name_in<'t>(
     alloc: Global,
     map: &MapFile,
-    before: Before,
-    place: Place,
-    text: &'t [u8],
+    walk: Walk<'t>,
+    word: &'t [u8],
+    after: &'t [u8],
     next: Behind,
 ) -> Option<Found<'t>>
-    requires { next ≡ behind_next text.now }
-    ensures { option_map named result ≡ name_in map.now.stated before place text.now }
+    requires word { word.now ≡ word_in walk.rest.now }
+    requires after { after.now ≡ behind_word walk.rest.now }
+    requires next { next ≡ behind_next walk.rest.now }
+    ensures { option_map named result
+        ≡ name_in map.now.stated walk.entry.before walk.entry.place walk.entry.rest.now }
 {
-    let (name, behind) = split_word(text);
-    let kind = kind_of(before, name, behind, next)?;
+    let kind = kind_of(walk.before, word, after, next)?;
+    let place = walk.place;
     let given = given_to(alloc, map, place, kind);
-    Some(Found { name, place, given })
+    Some(Found {
+        name: word,
+        place,
+        given,
+    })
 }

@@ -7,11 +7,12 @@ use Rattle.smap_declarations.proofs.naming.found_in.Given as goal
 
 abbrev pub invariant-loop-byte : goal.invariant-loop-byte
 invariant-loop-byte l = record {
-  found : all_named l.found.items ++ named_from l.map.stated l.before l.place l.rest ≡ named_from l.map.stated start origin l.text;
-  brackets : l.brackets ≡ behind_brackets l.rest;
-  line : l.place.line + length l.rest ≤ length l.text;
-  column : l.place.column + 2 * length l.rest ≤ 2 * length l.text;
+  found : all_named l.found.items ++ named_from l.map.stated l.walk.before l.walk.place l.walk.rest.now
+      ≡ named_from l.map.stated start origin l.text;
+  brackets : l.brackets ≡ behind_brackets l.walk.rest.now;
+  line : l.walk.place.line + length l.walk.rest.now ≤ length l.text;
+  column : l.walk.place.column + 2 * length l.walk.rest.now ≤ 2 * length l.text;
 }
 
 abbrev pub decreases-loop-byte : goal.decreases-loop-byte
-decreases-loop-byte l = length l.rest
+decreases-loop-byte l = length l.walk.rest.now
