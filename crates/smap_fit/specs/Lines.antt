@@ -8,6 +8,11 @@ abbrev pub code_of : List ℕ → List ℕ
 code_of [] = []
 code_of (c ∷ cs) = if c == 0xFEFF then cs else c ∷ cs
 
+-- how many bytes it has where it stands there
+abbrev pub mark_bytes : List ℕ → ℕ
+mark_bytes [] = 0
+mark_bytes (c ∷ cs) = if c == 0xFEFF then 3 else 0
+
 -- the lines of the code in a text
 abbrev pub lines_in : (text : List ℕ) → List (List ℕ)
 lines_in text = lines_of (code_of (chars text))

@@ -3,6 +3,7 @@ use Rattle.std.specs.Prelude.{◌≡◌, ℕ, ◌<◌, ◌+◌, Bool, List, Opti
 use Rattle.std.specs.Str.{chars}
 use Rattle.smap_mappings.specs.declared.mapping.Mapping.{Mapping}
 use Rattle.smap_mappings.specs.declared.mapping.Origin.{Origin}
+use Rattle.smap_fit.specs.Lines.{code_of, mark_bytes}
 use Rattle.smap_fit.specs.Owners.{is_same_owner, owned_bytes}
 
 -- the source that a mapping has
@@ -22,13 +23,13 @@ pub record IsSegmentsBySource (sources : ℕ) (mappings : List Mapping) (counts 
   pub all : length counts ≡ sources
   pub each : (source : ℕ) → source < sources → slice_index counts source ≡ count_by (has_source source) mappings
 
--- the bytes of a text that come from a source by these mappings
+-- the bytes of a text that come from a source by these mappings: line 0, column 0 is where its code begins
 abbrev pub source_bytes : List Mapping → (text : List ℕ) (source : ℕ) → ℕ
-source_bytes mappings text source = owned_bytes (Some source) mappings 0 0 (chars text)
+source_bytes mappings text source = owned_bytes (Some source) mappings 0 0 (code_of (chars text))
 
--- and those that come from none
+-- and those that come from none, as those of a byte order mark at the start
 abbrev pub unmapped_bytes : List Mapping → (text : List ℕ) → ℕ
-unmapped_bytes mappings text = owned_bytes None mappings 0 0 (chars text)
+unmapped_bytes mappings text = mark_bytes (chars text) + owned_bytes None mappings 0 0 (code_of (chars text))
 
 -- so many bytes of a text come from each of so many sources, and so many from none: together they are the text's
 pub record IsBytesBySource (sources : ℕ) (mappings : List Mapping) (text : List ℕ) (counts : List ℕ) (unmapped : ℕ) : Type 0 where

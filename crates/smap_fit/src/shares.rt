@@ -7,6 +7,7 @@ ghost use Rattle.smap_fit.specs.Shares.{IsBytesBySource};
 use crate::counts::{add, no_counts};
 use crate::line_ends::place_after;
 use crate::owners::Owners;
+use crate::text_lines::code_of;
 use smap_record::MapFile;
 use std::alloc::{AllocError, Global};
 
@@ -37,6 +38,7 @@ impl BytesBySource {
 /// mapping of its line, or to the line's end. What stands before a line's first mapping, line ends, and what mappings
 /// without an origin own come from none. Of mappings at one position the last owns; one past its line's end owns
 /// nothing, and one between the two units of a character begins behind it. Lines end in LF, CR LF, CR, U+2028 or U+2029.
+/// A byte order mark at the start is no column, and comes from none.
 pub fn bytes_by_source(
     alloc: Global,
     map: &MapFile,
@@ -46,15 +48,14 @@ pub fn bytes_by_source(
         (length map.now.stated.sources) (joined map.now.stated.parts) generated.now
         bytes.sources.items bytes.unmapped) }
 {
+    let code = code_of(generated);
     let mut bytes = BytesBySource {
         sources: no_counts(alloc, map)?,
-        unmapped: 0,
+        unmapped: (generated.len() - code.len()) as u64,
     };
-    // Its contract says that the bytes fit in 64 bits.
-    let _length = generated.len();
     let mut owners = Owners::new(map.mappings(alloc));
     let (mut line, mut column): (u64, u64) = (0, 0);
-    let mut rest = generated.chars();
+    let mut rest = code.chars();
     while let Some(character) = rest.next() {
         let owner = owners.owner_of(character, line, column);
         bytes.add(owner, character.len_utf8() as u64);

@@ -1,7 +1,7 @@
 //! A text that is cut into its lines.
-ghost use Rattle.std.specs.Prelude.{◌≡◌, option_map, slice_get, IfOk};
+ghost use Rattle.std.specs.Prelude.{◌≡◌, ◌+◌, length, option_map, slice_get, IfOk};
 ghost use Rattle.std.specs.Str.{chars};
-ghost use Rattle.smap_fit.specs.Lines.{code_of, lines_in};
+ghost use Rattle.smap_fit.specs.Lines.{code_of, lines_in, mark_bytes};
 ghost use Rattle.smap_fit.specs.Private.Texts.{line_texts};
 
 use crate::characters::split_character;
@@ -40,7 +40,8 @@ impl<'a> TextLines<'a> {
 
 /// The text without a byte order mark at its start, which engines pass over.
 pub fn code_of(text: &str) -> &str
-    ensures { chars result.now ≡ code_of (chars text.now) }
+    ensures code { chars result.now ≡ code_of (chars text.now) }
+    ensures bytes { length result.now + mark_bytes (chars text.now) ≡ length text.now }
 {
     match split_character(text) {
         Some(('\u{FEFF}', code)) => code,

@@ -8,6 +8,7 @@ use Rattle.smap_index.specs.Parts.{joined}
 use Rattle.smap_mappings.specs.Order.{IsAtOrBefore, IsInOrder}
 use Rattle.smap_mappings.specs.Range.{position_at}
 use Rattle.smap_mappings.specs.Within.{IsWithin}
+use Rattle.smap_fit.specs.Lines.{code_of}
 use Rattle.smap_fit.specs.Owners.{column_after, line_after, owned_bytes}
 use Rattle.smap_fit.specs.Private.Counts.{counts_after, unmapped_after}
 use Rattle.smap_fit.specs.Private.Left.{with_next}
@@ -23,16 +24,18 @@ loop-character-init c =
     let left : c.new-owners.result.last ∷ with_next c.new-owners.result.next c.new-owners.result.rest ≡ position_at 0 0 ∷ all =
     ap (λ m. m ∷ with_next c.new-owners.result.next c.new-owners.result.rest) c.new-owners.ensures.last
     ∙ ap (λ l. position_at 0 0 ∷ l) (c.new-owners.ensures.list ∙ c.mappings.ensures.list) in
-    let text : chars_rest c.chars-rest.result ≡ c.args.generated.now = c.chars-rest.ensures.rest in
+    let code = c.code_of-code.result.now in
+    let text : chars_rest c.chars-rest.result ≡ code = c.chars-rest.ensures.rest in
     let alike : (owner : Option ℕ) → owned_bytes owner (c.new-owners.result.last ∷ with_next c.new-owners.result.next c.new-owners.result.rest) 0 0 (chars (chars_rest c.chars-rest.result))
-    ≡ owned_bytes owner all 0 0 (chars c.args.generated.now) =
+    ≡ owned_bytes owner all 0 0 (code_of (chars c.args.generated.now)) =
     λ owner. ap (λ t. owned_bytes owner (c.new-owners.result.last ∷ with_next c.new-owners.result.next c.new-owners.result.rest) 0 0 (chars t)) text
-    ∙ ap (λ l. owned_bytes owner l 0 0 (chars c.args.generated.now)) left
-    ∙ sym (same_bytes owner 0 0 all (position_at 0 0 ∷ all) (chars c.args.generated.now) (starts_alike all)) in
+    ∙ ap (λ l. owned_bytes owner l 0 0 (chars code)) left
+    ∙ sym (same_bytes owner 0 0 all (position_at 0 0 ∷ all) (chars code) (starts_alike all))
+    ∙ ap (owned_bytes owner all 0 0) c.code_of-code.ensures.code in
     let counted = λ (s : ℕ). ap (λ l. slice_index l s) none ∙ none_counted (length c.args.map.now.stated.sources) s in
     let summed = ap sum none ∙ sum_of_none (length c.args.map.now.stated.sources) in
     record {
-      text = subst IsUtf8 (sym text) c.utf8.generated;
+      text = subst IsUtf8 (sym text) c.code_of-code.utf8;
       ordered = subst IsInOrder (sym left) (starts_in_order all c.mappings.ensures.ordered);
       last = subst (λ m. IsAtOrBefore m (position_at 0 0)) (sym c.new-owners.ensures.last) (inr (refl, omega arith));
       done = c.new-owners.ensures.done;
@@ -40,10 +43,10 @@ loop-character-init c =
           (starts_within (length c.args.map.now.stated.sources) (length c.args.map.now.stated.names) all c.mappings.ensures.within);
       places = ap length none ∙ length-replicate (length c.args.map.now.stated.sources) 0;
       each = λ source inside. omega (arith, counted source, alike (Some source));
-      none = omega (arith, alike None);
-      total = omega (arith, summed, ap length text);
-      line = omega (arith, ap length text);
-      column = omega (arith, ap length text);
+      none = omega (arith, alike None, c.code_of-code.ensures.bytes);
+      total = omega (arith, summed, ap length text, c.code_of-code.ensures.bytes);
+      line = omega (arith, ap length text, c.code_of-code.ensures.bytes);
+      column = omega (arith, ap length text, c.code_of-code.ensures.bytes);
     }
 
 pub add-requires-clause-within : goal.add-requires-clause-within

@@ -8,23 +8,23 @@ use Rattle.smap_fit.proofs.line_place.LinePlace.standing.Goals as goal
 pub returns-in_default-clause-standing : goal.returns-in_default-clause-standing
 returns-in_default-clause-standing c = λ whole is.
     ended whole c.loop-self.self.column c.args.column c.loop-self.self.before (chars c.loop-self.self.left.now)
-    (c.loop-self.invariant.left whole is) c.in_default.ensures c.loop-self-test.true
+    (c.loop-self.invariant.left whole is) c.in_default.ensures.chars c.loop-self-test.true
 
 pub returns-in_default-clause-text : goal.returns-in_default-clause-text
 returns-in_default-clause-text c = λ whole is.
     ended_text whole c.loop-self.self.column c.args.column c.loop-self.self.before (chars c.loop-self.self.left.now)
-    (c.loop-self.invariant.left whole is) c.in_default.ensures c.loop-self-test.true
+    (c.loop-self.invariant.left whole is) c.in_default.ensures.chars c.loop-self-test.true
 
 pub returns-then-column-self-clause-standing : goal.returns-then-column-self-clause-standing
 returns-then-column-self-clause-standing c = λ whole is.
     between_units whole c.loop-self.self.column c.args.column c.loop-self.self.before (chars c.loop-self.self.left.now)
-    c.in-Some.character (chars c.in-Some.left.now) (c.loop-self.invariant.left whole is) c.in-Some.ensures c.loop-self-test.true
+    c.in-Some.character (chars c.in-Some.left.now) (c.loop-self.invariant.left whole is) c.in-Some.ensures.chars c.loop-self-test.true
     (subst (λ units. c.args.column - c.loop-self.self.column < units) c.units_of-units.ensures c.if-column-self.true)
 
 pub returns-then-column-self-clause-text : goal.returns-then-column-self-clause-text
 returns-then-column-self-clause-text c = λ whole is.
     between_units_text whole c.loop-self.self.column c.args.column c.loop-self.self.before (chars c.loop-self.self.left.now)
-    c.in-Some.character (chars c.in-Some.left.now) (c.loop-self.invariant.left whole is) c.in-Some.ensures c.loop-self-test.true
+    c.in-Some.character (chars c.in-Some.left.now) (c.loop-self.invariant.left whole is) c.in-Some.ensures.chars c.loop-self-test.true
     (subst (λ units. c.args.column - c.loop-self.self.column < units) c.units_of-units.ensures c.if-column-self.true)
 
 pub loop-self-preserved : goal.loop-self-preserved
@@ -33,7 +33,7 @@ loop-self-preserved c = record {
   left = λ whole is.
       subst (λ units. IsLeft whole (c.loop-self.self.column + units) (Some c.in-Some.character) (chars c.in-Some.left.now)) (sym c.units_of-units.ensures)
       (passed whole c.loop-self.self.column c.loop-self.self.before c.in-Some.character (chars c.in-Some.left.now)
-      (subst (IsLeft whole c.loop-self.self.column c.loop-self.self.before) c.in-Some.ensures (c.loop-self.invariant.left whole is)));
+      (subst (IsLeft whole c.loop-self.self.column c.loop-self.self.before) c.in-Some.ensures.chars (c.loop-self.invariant.left whole is)));
 }
 
 pub returns-then-goes_on-clause-standing : goal.returns-then-goes_on-clause-standing

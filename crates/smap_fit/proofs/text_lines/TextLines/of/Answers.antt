@@ -10,7 +10,7 @@ use Rattle.smap_fit.proofs.text_lines.TextLines.of.Goals as goal
 
 pub loop-rest-init : goal.loop-rest-init
 loop-rest-init c =
-    ap (λ (l : List (Bor (List ℕ))). map line_text l ++ lines_of (chars c.code_of.result.now)) c.new-lines.ensures.items ∙ ap lines_of c.code_of.ensures
+    ap (λ (l : List (Bor (List ℕ))). map line_text l ++ lines_of (chars c.code_of.result.now)) c.new-lines.ensures.items ∙ ap lines_of c.code_of.ensures.code
 
 pub loop-rest-preserved : goal.loop-rest-preserved
 loop-rest-preserved c =
