@@ -14,8 +14,8 @@ pub enum Kind {
     Property,
 }
 
-// Which of both a word is that has this before it and this behind it, where it is one. It is told what stands behind the
-// end of the first bracket behind it.
+// Which of both a word is that has this before it and this behind it, where it is one. The call is told what stands behind
+// the end of the first bracket behind the word.
 #[tactic(auto, unfolding(crate::specs::Declarations::kind_of))]
 pub fn kind_of(before: Before, word: &[u8], behind: &[u8], next: Behind) -> Option<Kind>
     requires { next ≡ behind_next behind.now }
