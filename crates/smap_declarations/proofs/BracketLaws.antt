@@ -6,7 +6,7 @@ use Rattle.std.proofs.lemmas.Bool.{eqb-true, false≢true}
 use Rattle.std.proofs.Math.Seq.{drop-cons}
 use Rattle.smap_declarations.specs.Brackets.{behind_bracket, behind_end, has_first}
 use Rattle.smap_declarations.specs.Bytes.{behind_blanks, behind_word, is_blank, is_word_byte}
-use Rattle.smap_declarations.specs.Functions.{behind_quote, is_before, is_quote}
+use Rattle.smap_declarations.specs.Functions.{is_before}
 use Rattle.smap_declarations.specs.Private.Open.{behind_brackets, behind_ends, behind_next, first_or_other, others}
 use Rattle.smap_declarations.specs.declared.brackets.Behind.{Behind}
 use Rattle.smap_declarations.specs.declared.brackets.Behind.TheVariants.{Other}
@@ -49,16 +49,6 @@ past_blanks text = past_front is_blank refl text
 pub past_word : (text : List ℕ) → behind_brackets (behind_word text) ≡ behind_brackets text
 unfolding behind_word
 past_word text = past_front is_word_byte refl text
-
-quote_at_first : (c : ℕ) (text : List ℕ) (quote same : Bool) → is_quote c ≡ quote
-    → behind_brackets (cond (quote && same) text (c ∷ text)) ≡ behind_brackets (c ∷ text)
-quote_at_first c text false same is = refl
-quote_at_first c text true false is = refl
-quote_at_first c text true true is = sym (past_other c text (differs is_quote c refl is (nat_eq c 0x28) refl))
-
-pub past_quote : (before : ℕ) (text : List ℕ) → behind_brackets (behind_quote before text) ≡ behind_brackets text
-past_quote before [] = refl
-past_quote before (c ∷ text) = quote_at_first c text (is_quote c) (nat_eq c before) refl
 
 -- the brackets behind a byte
 pub past_byte : (c : ℕ) (text : List ℕ) → cond (nat_eq c 0x28) (others (behind_brackets (c ∷ text))) (behind_brackets (c ∷ text)) ≡ behind_brackets text
@@ -117,13 +107,10 @@ next_past_blanks text = ap first_or_other (past_blanks text)
 pub next_past_word : (text : List ℕ) → behind_next (behind_word text) ≡ behind_next text
 next_past_word text = ap first_or_other (past_word text)
 
-pub next_past_quote : (before : ℕ) (text : List ℕ) → behind_next (behind_quote before text) ≡ behind_next text
-next_past_quote before text = ap first_or_other (past_quote before text)
-
 pub next_past_other : (c : ℕ) (text : List ℕ) → nat_eq c 0x28 ≡ false → behind_next (c ∷ text) ≡ behind_next text
 next_past_other c text other = ap first_or_other (past_other c text other)
 
-pub ruleset same_next = (next_past_blanks, next_past_word, next_past_quote, next_past_other)
+pub ruleset same_next = (next_past_blanks, next_past_word, next_past_other)
 
 -- ---- from the text's end to its start
 

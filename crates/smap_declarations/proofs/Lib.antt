@@ -5,3 +5,4 @@ mod Examples
 pub mod NamingLaws
 pub mod OrderLaws
 pub mod PassingLaws
+pub mod WordTable

@@ -1,7 +1,8 @@
 //! What follows a name that is given a function. Each call is told what stands behind the end of the text's first bracket.
 ghost use Rattle.std.specs.Prelude.{◌≡◌};
 ghost use Rattle.smap_declarations.specs.Brackets.{first_of};
-ghost use Rattle.smap_declarations.specs.Functions.{begins_function, begins_plainly, behind_quote, is_arrow, is_assigned, is_before, is_body, is_empty, is_given_function, is_key, is_keyword, is_method, is_quote, is_value_function};
+ghost use Rattle.smap_declarations.specs.Bytes.{behind_blanks};
+ghost use Rattle.smap_declarations.specs.Functions.{begins_function, begins_plainly, is_arrow, is_before, is_body, is_empty, is_given_function, is_key, is_keyword, is_quote, is_value_function};
 ghost use Rattle.smap_declarations.specs.Private.Open.{behind_next};
 
 use crate::brackets::{Behind, first_of};
@@ -43,7 +44,7 @@ fn is_before_arrow(text: &[u8], next: Behind) -> bool
 
 // Whether it begins with brackets that end before `{`.
 #[tactic(auto, using(crate::proofs::BracketLaws::is_before_first))]
-fn is_before_body(text: &[u8], next: Behind) -> bool
+pub fn is_before_body(text: &[u8], next: Behind) -> bool
     requires { next ≡ behind_next text.now }
     ensures { result ≡ is_before is_body text.now }
 {
@@ -77,17 +78,9 @@ fn begins_function(text: &[u8], next: Behind) -> bool
     word == b"async".as_slice() && begins_plainly(behind_blanks(behind), next)
 }
 
-// Whether a name that has this behind it is given a function by `=`.
-#[tactic(auto, using(crate::proofs::BracketLaws::same_next), unfolding(crate::specs::Functions::is_assigned))]
-pub fn is_assigned(text: &[u8], next: Behind) -> bool
-    requires { next ≡ behind_next text.now }
-    ensures { result ≡ is_assigned text.now }
-{
-    is_given_function(behind_blanks(text), next)
-}
-
+// Whether a text begins with an `=` that is none of `==` and `=>`, and a function.
 #[tactic(auto, using(crate::proofs::BracketLaws::same_next))]
-fn is_given_function(text: &[u8], next: Behind) -> bool
+pub fn is_given_function(text: &[u8], next: Behind) -> bool
     requires { next ≡ behind_next text.now }
     ensures { result ≡ is_given_function text.now }
 {
@@ -102,13 +95,20 @@ fn is_given_function(text: &[u8], next: Behind) -> bool
     }
 }
 
-// Whether it is the key of a function, behind this byte.
+// Whether a name that has this behind it, and then blanks and this, is the key of a function, behind this byte.
 #[tactic(auto, using(crate::proofs::BracketLaws::same_next), unfolding(crate::specs::Functions::is_key))]
-pub fn is_key(before: u8, text: &[u8], next: Behind) -> bool
-    requires { next ≡ behind_next text.now }
+pub fn is_key(before: u8, text: &[u8], rest: &[u8], next: Behind) -> bool
+    requires rest { rest.now ≡ behind_blanks text.now }
+    requires next { next ≡ behind_next text.now }
     ensures { result ≡ is_key before text.now }
 {
-    is_value_function(behind_blanks(behind_quote(before, text)), next)
+    match split_byte(text) {
+        Some((quote, behind)) if is_quote(quote) && quote == before => {
+            is_value_function(behind_blanks(behind), next)
+        }
+        Some(_) => is_value_function(rest, next),
+        None => is_value_function(rest, next),
+    }
 }
 
 #[tactic(auto, using(crate::proofs::BracketLaws::same_next))]
@@ -123,27 +123,9 @@ fn is_value_function(text: &[u8], next: Behind) -> bool
     }
 }
 
-// What is behind a name's second quotation mark, where this is its first.
-fn behind_quote(before: u8, text: &[u8]) -> &[u8]
-    ensures { result.now ≡ behind_quote before text.now }
-{
-    match split_byte(text) {
-        Some((quote, behind)) if is_quote(quote) && quote == before => behind,
-        _ => text,
-    }
-}
-
+// Whether a byte is a quotation mark.
 fn is_quote(byte: u8) -> bool
     ensures { result ≡ is_quote byte }
 {
     byte == b'"' || byte == b'\''
-}
-
-// Whether it is the name of a method.
-#[tactic(auto, using(crate::proofs::BracketLaws::same_next), unfolding(crate::specs::Functions::is_method))]
-pub fn is_method(text: &[u8], next: Behind) -> bool
-    requires { next ≡ behind_next text.now }
-    ensures { result ≡ is_method text.now }
-{
-    is_before_body(behind_blanks(text), next)
 }

@@ -4,7 +4,8 @@ ghost use Rattle.smap_declarations.specs.Declarations.{is_behind_dot, is_declara
 ghost use Rattle.smap_declarations.specs.Private.Open.{behind_next};
 
 use crate::brackets::Behind;
-use crate::functions::{is_assigned, is_key, is_method};
+use crate::bytes::behind_blanks;
+use crate::functions::{is_before_body, is_given_function, is_key};
 use crate::walk::Before;
 
 /// A declaration of a name, or a property of that name.
@@ -14,20 +15,21 @@ pub enum Kind {
     Property,
 }
 
-// Which of both a word is that has this before it and this behind it, where it is one. It is told what stands behind the
-// end of the first bracket behind it.
-#[tactic(auto, unfolding(crate::specs::Declarations::kind_of))]
+// Which of both a word is that has this before it and this behind it, where it is one. The call is told what stands behind
+// the end of the first bracket behind the word.
+#[tactic(auto, using(crate::proofs::BracketLaws::same_next), unfolding(crate::specs::Declarations::kind_of, crate::specs::Functions::is_assigned, crate::specs::Functions::is_method))]
 pub fn kind_of(before: Before, word: &[u8], behind: &[u8], next: Behind) -> Option<Kind>
     requires { next ≡ behind_next behind.now }
     ensures { result ≡ kind_of before word.now behind.now }
 {
-    let assigned = is_assigned(behind, next);
+    let rest = behind_blanks(behind);
+    let assigned = is_given_function(rest, next);
     let behind_dot = before.byte == b'.';
     if !behind_dot && (before.keyword.is_some() || assigned) {
         Some(Kind::Declaration)
     } else if (behind_dot && assigned)
-        || is_key(before.byte, behind, next)
-        || (!behind_dot && !is_statement(word) && is_method(behind, next))
+        || is_key(before.byte, behind, rest, next)
+        || (!behind_dot && !is_statement(word) && is_before_body(rest, next))
     {
         Some(Kind::Property)
     } else {

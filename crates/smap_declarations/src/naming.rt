@@ -64,8 +64,8 @@ fn push_if_some<'t>(found: &mut Vec<Found<'t>>, name: Option<Found<'t>>) -> Resu
     Ok(())
 }
 
-// What is told of the word that the rest of a text begins with, where it is a declaration or a property. It is told what stands
-// behind the end of the rest's first bracket.
+// What is told of the word that the rest of a text begins with, where it is a declaration or a property. The call is told
+// what stands behind the end of the rest's first bracket.
 #[inline(always)]
 #[tactic(auto, using(crate::proofs::BracketLaws::same_next), unfolding(crate::specs::Declarations::name_in))]
 fn name_in<'t>(
