@@ -1,9 +1,12 @@
 //! The order in which declarations are kept.
 ghost use Rattle.std.specs.Prelude.{◌≡◌};
+ghost use Rattle.std.specs.Cmp.Lexicographic.{slice_cmp};
 ghost use Rattle.std.specs.List.Sorted.{IsPermutation};
+ghost use Rattle.std.specs.Ordering.{nat_cmp};
 ghost use Rattle.smap_declarations.specs.Private.Found.{all_named, named};
 ghost use Rattle.smap_declarations.specs.Private.Order.{IsInOrder, is_up_to, named_cmp, place_cmp};
 
+use crate::bytes::split_byte;
 use crate::naming::Found;
 use crate::walk::Place;
 use std::cmp::Ordering;
@@ -19,10 +22,27 @@ pub fn sort(found: &mut Vec<Found<'_>>)
 fn order(first: &Found<'_>, second: &Found<'_>) -> Ordering
     ensures { result ≡ named_cmp (named first.now) (named second.now) }
 {
-    first
-        .name
-        .cmp(&second.name)
-        .then(place_order(first.place, second.place))
+    name_order(first.name, second.name).then(place_order(first.place, second.place))
+}
+
+// By the first bytes, which mostly differ, and else by all.
+#[inline(always)]
+fn name_order(first: &[u8], second: &[u8]) -> Ordering
+    ensures { result ≡ slice_cmp nat_cmp first.now second.now }
+{
+    let Some((a, _)) = split_byte(first) else {
+        return first.cmp(&second);
+    };
+    let Some((b, _)) = split_byte(second) else {
+        return first.cmp(&second);
+    };
+    if a < b {
+        Ordering::Less
+    } else if b < a {
+        Ordering::Greater
+    } else {
+        first.cmp(&second)
+    }
 }
 
 fn place_order(first: Place, second: Place) -> Ordering
@@ -39,7 +59,7 @@ fn place_order(first: Place, second: Place) -> Ordering
 pub fn is_up_to(found: &Found<'_>, name: &[u8], place: Place) -> bool
     ensures { result ≡ is_up_to name.now place (named found.now) }
 {
-    match found.name.cmp(&name) {
+    match name_order(found.name, name) {
         Ordering::Less => true,
         Ordering::Equal => found.place.is_at_or_before(place),
         Ordering::Greater => false,
