@@ -1,5 +1,7 @@
 //! Which names generated texts declare, and which names their maps give to functions of frames.
-use smap_declarations::{Declarations, DeclarationsRefusal, MOST_TEXT_BYTES, Place, function_name};
+use smap_declarations::{
+    Declarations, DeclarationsRefusal, MOST_GENERATED_BYTES, Place, function_name,
+};
 use smap_record::{MapFile, Meter};
 use std::test::Fail;
 
@@ -263,7 +265,7 @@ fn a_text_has_at_most_so_many_bytes(rt: HostRuntime) -> Result<(), Fail> {
         64,
     )?;
     let mut text = String::new(rt.alloc());
-    for _ in 0..MOST_TEXT_BYTES / 5 + 1 {
+    for _ in 0..MOST_GENERATED_BYTES / 5 + 1 {
         text.push_str("a(){}")?;
     }
     let listed = Declarations::of_text(rt.alloc(), text.as_str(), &map);

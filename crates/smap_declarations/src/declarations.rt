@@ -21,7 +21,7 @@ use std::alloc::{AllocError, Global};
 use std::marker::Model;
 
 /// How many bytes a text has at most whose declarations are listed: 64 MiB.
-pub const MOST_TEXT_BYTES: usize = 67_108_864;
+pub const MOST_GENERATED_BYTES: usize = 67_108_864;
 
 /// The declarations and properties of a generated text, with the names that its map gives them. The text itself is not kept.
 #[derive(Drop)]
@@ -55,7 +55,7 @@ impl Declarations {
             (IsPermutation (declarations_of map.now.stated text.now)) }
         ensures memory { length text.now ≤ most_text_bytes → IsOkUnless result refusals.Memory }
     {
-        if text.len() > MOST_TEXT_BYTES {
+        if text.len() > MOST_GENERATED_BYTES {
             return Err(DeclarationsRefusal::TooLarge);
         }
         let mut found = found_in(alloc, without_mark(text.as_bytes()), map)?;

@@ -24,7 +24,7 @@ mod passing;
 mod refusal;
 mod walk;
 
-pub use declarations::{Declarations, MOST_TEXT_BYTES};
+pub use declarations::{Declarations, MOST_GENERATED_BYTES};
 pub use frames::function_name;
 pub use refusal::DeclarationsRefusal;
 pub use walk::Place;

@@ -95,8 +95,9 @@ pub struct BestShift {
     pub misfits: u64,
 }
 
-/// The shift with which a map fits a generated text best, of those by up to three lines and two columns. Of several the first,
-/// with columns in the order 0, 1 on, 1 back, 2 on, 2 back, and for each of these lines in the same order, up to three.
+/// The shift with which a map fits a generated text best, of those by up to three lines and two columns. Of several the
+/// first, with columns in the order 0, 1 on, 1 back, 2 on, 2 back, and for each of these lines in the same order, up to
+/// three.
 pub fn best_shift(alloc: Global, map: &MapFile, generated: &str) -> Result<BestShift, AllocError>
     ensures { IfOk result
         (IsBest (lines_in generated.now) (joined map.now.stated.parts)) }

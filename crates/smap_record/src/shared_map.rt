@@ -9,7 +9,8 @@ use std::alloc::{AllocError, AllocFailed, Global};
 use std::marker::Model;
 use std::sync::Arc;
 
-/// A hold on a map, which others may hold, too. It is freed with the last that holds it. Each hold may go to a thread of its own.
+/// A hold on a map, which others may hold, too. It is freed with the last that holds it. Each hold may go to a thread of its
+/// own.
 #[derive(Drop)]
 pub struct SharedMap {
     map: Arc<ReadyMap, Global>,

@@ -1,6 +1,7 @@
 //! The names of a map's sources (ECMA-426, Resolving sources): each is the URL that the URL Standard's parser gives,
-//! and a text that does not parse stands as it is. And what a source is called where something else stands: by the name of
-//! the outer source that an inner map is of, or by the path that is the map's URL, from whose folder a relative path goes on.
+//! and a text that does not parse stands as it is. And what a source is called where something else stands: by the name
+//! of the outer source that an inner map is of, or by the path that is the map's URL, from whose folder a relative path
+//! goes on.
 //!
 //! ```text
 //! let base = Url::parse(alloc, "https://ex.test/js/app.js")?;

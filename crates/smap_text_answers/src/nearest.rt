@@ -41,8 +41,8 @@ fn shared_so_far(url: &[u8], nearest: Option<&str>) -> usize
     }
 }
 
-// How much a URL shares with what an argument names: with the URL of a file an ending, and with the prefix of a folder one of
-// its fronts does.
+// How much a URL shares with what an argument names: with the URL of a file an ending, and with the prefix of a folder one
+// of its fronts does.
 fn shared(url: &[u8], name: &[u8]) -> usize
     ensures { result ≡ shared url.now name.now }
 {

@@ -145,11 +145,11 @@ impl Index {
         answer_on(line, self.next_to(stretch, &bound, line, meter).after)
     }
 
-    // The mappings next to a bound, looked for in a stretch that holds the lines from `from` up to the bound's: the last that
-    // stands up to it, where that is on line `from` or on one after it, and the first that does not, where that is on the
-    // bound's line or the stretch goes to the end of the table. Where the last checkpoint that stands up to it is on a line
-    // before `from`, nothing is decoded: so a look-up, which asks for its line alone, decodes none of another. The call is
-    // inlined, since a look-up asks for one of the two.
+    // The mappings next to a bound, looked for in a stretch that holds the lines from `from` up to the bound's: the last
+    // that stands up to it, where that is on line `from` or on one after it, and the first that does not, where that is on
+    // the bound's line or the stretch goes to the end of the table. Where the last checkpoint that stands up to it is on a
+    // line before `from`, nothing is decoded: so a look-up, which asks for its line alone, decodes none of another. The call
+    // is inlined, since a look-up asks for one of the two.
     #[inline(always)]
     pub(super) fn next_to(
         &self,
