@@ -1,4 +1,6 @@
 //! Look-ups among the checkpoints of their line, and maps that are ready for them. The answers are written by hand.
+ghost use Rattle.smap_index.specs.LineStarts.{AreLineStarts, marked_lines};
+
 use crate::indexes::{index_of, packed};
 use crate::same::assert_same;
 use crate::shown::answer_text;
@@ -34,7 +36,9 @@ fn assert_asked(
     index: &Index,
     starts: &LineStarts,
     asked: &Asked,
-) -> Result<(), Fail> {
+) -> Result<(), Fail>
+    requires { AreLineStarts (marked_lines index.now.parts index.now.k) starts.now }
+{
     let (line, column, before, after, compared) = asked;
     let mut meter = Meter::new(alloc);
     assert!(rt; meter.has_room());
