@@ -1,6 +1,7 @@
 #!/usr/bin/env bash
 # Measures the services of examples/service/ over smap in Python and node, and that in node over @jridgewell/trace-mapping: how many events of
-# ten frames they answer in a second to 8 clients, and the peak of their memory, where maps may count for 300 MB.
+# ten frames they answer in a second to CLIENTS, 8 if it is not given, and the peak of their memory, where maps may count for BOUND MB,
+# 300 if it is not given.
 #
 #   bench/scripts/service.sh [MAP..]
 #
@@ -35,14 +36,14 @@ measure() {
     shift
     # What the last one said goes first, lest its port be taken for that of the next.
     : >"$folder/said"
-    "$@" https://example.test/ "$folder/releases" 0 300 >"$folder/said" &
+    "$@" https://example.test/ "$folder/releases" 0 "${BOUND:-300}" >"$folder/said" &
     service=$!
     until port=$(sed -n 's/.*://p' "$folder/said") && [ -n "$port" ]; do
         kill -0 "$service" || exit 1
         sleep 0.05
     done
     local answer
-    answer=$(node "$root/bench/service/load.js" "$port" https://example.test/ "$folder/releases" 8 "${EVENTS:-10000}")
+    answer=$(node "$root/bench/service/load.js" "$port" https://example.test/ "$folder/releases" "${CLIENTS:-8}" "${EVENTS:-10000}")
     printf '%-28s %6s events in a second, peak %4d MB, %s frames found\n' "$what" "${answer% *}" \
         "$(($(sed -n 's/^VmHWM:[[:space:]]*\([0-9]*\) kB/\1/p' "/proc/$service/status") * 1024 / 1000000))" "${answer#* }"
     kill "$service"
