@@ -227,6 +227,16 @@ uint32_t smap_map_read_within(const uint8_t *bytes, size_t length, const uint8_t
  * URLs, stay. For it a map is read without a base. Returns 1 where another handle, a table or a place holds the map, too. */
 uint32_t smap_map_use_paths(smap_map *map, const uint8_t *url, size_t length);
 
+/* Returns 0 where a URL is such a path, its query and its fragment aside, and else 1. */
+uint32_t smap_is_path(const uint8_t *url, size_t length);
+
+/* Names the sources of a map by the path at which its file stands, which need not begin at a root: each source whose name is a path,
+ * as the map gives it, gets the one that goes on from the folder of the file. At "dist/a.js.map" "../src/a.ts" becomes "src/a.ts",
+ * and "/a.ts" stays. A `./` before the file's path stays in front, and a query or a fragment behind the name. Names that are URLs stay.
+ * For it a map is read without a base. Returns 1 where another handle, a table or a place holds the map, too (SMAP_CODE_REFUSED), and
+ * where the names would be made of more than `most_names` bytes, each of those of the path and its own (M18). */
+uint32_t smap_map_stand_at(smap_map *map, const uint8_t *path, size_t length, uint64_t most_names, smap_refusal *refusal);
+
 /* Makes `other` another handle of the same map. Each is freed by itself, in any order. */
 uint32_t smap_map_share(smap_map *map, smap_map *other);
 
@@ -254,6 +264,10 @@ uint32_t smap_look_up_from(const smap_map *map, uint32_t line, uint32_t column, 
 /* Looks `count` positions up as smap_look_up does. `places` is the length of `found`, which is `count` too. Returns 0. */
 uint32_t smap_look_up_many(const smap_map *map, const smap_position *positions, size_t count, smap_found *found, size_t places);
 
+/* Gives the column of the first mapping on the line that stands behind this column: up to there smap_look_up answers the same. Returns 1
+ * where there is none, so that it holds to the line's end. */
+uint32_t smap_next_column(const smap_map *map, uint32_t line, uint32_t column, uint32_t *next);
+
 /* Makes the index from original to generated of a map, which may be freed before it: 16 bytes for each mapping that has an original,
  * and 24 for each source. */
 uint32_t smap_originals_new(const smap_map *map, smap_originals *originals);
@@ -263,6 +277,10 @@ uint32_t smap_originals_new(const smap_map *map, smap_originals *originals);
  * 0 where there is none, or no such source. Returns 1 for another direction. */
 uint32_t smap_generated(const smap_originals *originals, uint32_t source, uint32_t line, uint32_t column, uint32_t direction,
                         smap_generated_places *places);
+
+/* Lends all generated places whose original is on line `line` of source `source`, by original columns, and those of one in the order of
+ * the map. `count` is 0 where there is none, or no such source. Returns 0. */
+uint32_t smap_generated_on_line(const smap_originals *originals, uint32_t source, uint32_t line, smap_generated_places *places);
 
 /* Frees the originals, and leaves their handle empty. */
 void smap_originals_free(smap_originals *originals);

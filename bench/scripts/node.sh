@@ -1,7 +1,7 @@
 #!/usr/bin/env bash
 # Times the library in node beside @jridgewell/trace-mapping: the memory that 300 maps of 3.2 MB take, which are read in one
-# loop and of which none is closed; and every mapping of a map of about 28 MB. Each is run RUNS times, and the least time
-# and the highest peak count. Both have to come to the same sum. PREFIX may name where lib/build has put the library; else it
+# loop and of which none is closed; every mapping of a map of about 28 MB; and calls one by one in smaller maps, in one process by
+# turns. Each is run RUNS times, and the least time and the highest peak count. Both have to come to the same sum. PREFIX may name where lib/build has put the library; else it
 # is built. It needs what lib/node/build does.
 set -euo pipefail
 
@@ -39,3 +39,7 @@ for call in eachMapping decodedMappings; do
     reported "$call of trace-mapping" 3 node "$readers/each-mapping.js" trace "$folder/large" "$call"
 done
 reported 'mappings of smap' 3 node "$readers/each-mapping.js" smap "$folder/large" mappings
+
+printf '\nmap and segments|call|smap, ns|trace-mapping, ns|ratio\n'
+node "$readers/small-calls.js" "$root/examples/preset-react.js.map" "$root/examples/receipt.min.js.map"
+ROUNDS=50 node "$readers/small-calls.js" "$real"

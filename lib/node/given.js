@@ -49,11 +49,16 @@ function interval(value) {
   return Math.min(Math.max(whole(value, 'interval'), 0), MOST);
 }
 
-// How a map is read: an interval, by itself or among others, and of how many bytes the names of its sources may be together.
+// How many segments stand between checkpoints of a map of so many bytes: where nothing is said, few in a small one, which is looked up faster
+// so, and takes little more memory.
+const [SMALL, IN_SMALL, USUAL] = [1 << 20, 8, 64];
+const intervalOf = ({ interval: each }, size) => (each === undefined ? (size < SMALL ? IN_SMALL : USUAL) : each);
+
+// How a map is read: an interval, if one is given, by itself or among others, and of how many bytes the names of its sources may be together.
 function reading(value) {
   const words = typeof value === 'object' && value !== null ? options(value, 'interval', 'maxNames') : { interval: value };
-  const { interval: each = 64, maxNames = MOST_NAMES } = words;
-  return { interval: interval(each), maxNames: count(maxNames, 'maxNames', Number.MAX_SAFE_INTEGER) };
+  const { interval: each, maxNames = MOST_NAMES } = words;
+  return { interval: each === undefined ? each : interval(each), maxNames: count(maxNames, 'maxNames', Number.MAX_SAFE_INTEGER) };
 }
 
 // A number from 0, up to a greatest.
@@ -94,12 +99,20 @@ function utf8(value, what) {
 // These bytes as a Buffer, which are not copied.
 const asBuffer = (bytes) => (Buffer.isBuffer(bytes) ? bytes : Buffer.from(bytes.buffer, bytes.byteOffset, bytes.length));
 
+// Each TraceMap has this key, by which one is known that another copy of this package made.
+const COPIES = Symbol.for('smap.TraceMap');
+const isAnyTraceMap = (value) => typeof value === 'object' && value !== null && value[COPIES] === true;
+
 // The bytes of a map: those given, those of its text, or those of a parsed map as JSON.
 function mapBytes(value) {
   if (isUint8Array(value)) return asBuffer(steady(value));
   if (typeof value === 'string') return utf8(value, 'a map');
   if (typeof value !== 'object' || value === null || ArrayBuffer.isView(value) || isAnyArrayBuffer(value)) {
     throw new TypeError('a map must be a text, a Uint8Array or a parsed map');
+  }
+  if (isAnyTraceMap(value)) return value.write();
+  if (value.type === 'Buffer' && Array.isArray(value.data)) {
+    throw new TypeError('a map must be a text, a Uint8Array or a parsed map, and this is what JSON makes of a Buffer');
   }
   if (typeof value.then === 'function') throw new TypeError('a map must be a text, a Uint8Array or a parsed map, and not a promise of one');
   return Buffer.from(JSON.stringify(withText(typeof value.toJSON === 'function' ? value.toJSON() : value)));
@@ -156,4 +169,4 @@ function options(value, ...known) {
   return value;
 }
 
-module.exports = { boolean, bytes, callable, column, count, line, lineFromZero, mapBytes, mapUrl, options, positions, reading, source, steady, text, time, utf8 };
+module.exports = { COPIES, boolean, bytes, callable, column, count, intervalOf, isAnyTraceMap, line, lineFromZero, mapBytes, mapUrl, options, positions, reading, source, steady, text, time, utf8 };

@@ -55,20 +55,15 @@ export interface Counts {
   checkpoints: number;
 }
 
-/** A mapping. */
-export type EachMapping = {
-  generatedLine: number;
-  generatedColumn: number;
-  source: string | null;
-  originalLine: number | null;
-  originalColumn: number | null;
-  name: string | null;
-};
+/** A mapping; with an original it has a line and a column of it. */
+export type EachMapping =
+  | { generatedLine: number; generatedColumn: number; source: null; originalLine: null; originalColumn: null; name: null }
+  | { generatedLine: number; generatedColumn: number; source: string | null; originalLine: number; originalColumn: number; name: string | null };
 
 /** The generated column; or it, the source, the original line and column, and the name. All of them from 0. */
 export type SourceMapSegment = [number] | [number, number, number, number] | [number, number, number, number, number];
 
-interface SourceMapMembers {
+export interface SourceMapV3 {
   file?: string | null | undefined;
   names: string[];
   sourceRoot?: string | undefined;
@@ -78,13 +73,30 @@ interface SourceMapMembers {
   version: 3;
 }
 
-export interface EncodedSourceMap extends SourceMapMembers {
+export interface EncodedSourceMap extends SourceMapV3 {
   mappings: string;
 }
 
-export interface DecodedSourceMap extends SourceMapMembers {
+export interface DecodedSourceMap extends SourceMapV3 {
   mappings: SourceMapSegment[][];
 }
+
+export interface Section {
+  offset: { line: number; column: number };
+  map: EncodedSourceMap | DecodedSourceMap | SectionedSourceMap;
+}
+
+/** An index map. One within a section is refused, M7. */
+export interface SectionedSourceMap {
+  file?: string | null | undefined;
+  sections: Section[];
+  version: 3;
+}
+
+type Fixed<T> = T extends readonly (infer Item)[] ? readonly Fixed<Item>[] : T extends object ? { readonly [Key in keyof T]: Fixed<T[Key]> } : T;
+/** Maps as texts and objects; bytes are taken too. */
+export type SourceMapInput = string | Fixed<EncodedSourceMap> | Fixed<DecodedSourceMap> | TraceMap;
+export type SectionedSourceMapInput = SourceMapInput | Fixed<SectionedSourceMap>;
 
 /** How many bytes of a generated file come from each source, and from none. */
 export interface BytesBySource {
@@ -109,13 +121,13 @@ interface NamesOption {
   maxNames?: number;
 }
 
-/** A checkpoint is made at every `interval`-th segment of a line. */
+/** A checkpoint is made at every `interval`-th segment of a line: 8 in a map below 1 MiB, 64 in a larger one. */
 export interface ReadOptions extends NamesOption {
   interval?: number;
 }
 
 /** A source map that was read. A TraceMap that is given is itself. */
-export class TraceMap implements SourceMapMembers {
+export class TraceMap implements SourceMapV3 {
   /** `mapUrl` is the URL or path at which the map stands; a number in place of options is the interval. The mappings of an
    * object may be decoded, and then it may leave its version out. What is given is not kept. */
   constructor(map: string | Uint8Array | object, mapUrl?: string | URL | null, options?: number | ReadOptions);
@@ -129,8 +141,8 @@ export class TraceMap implements SourceMapMembers {
   sourceRoot: string | undefined;
   sourcesContent: (string | null)[] | undefined;
   ignoreList: number[] | undefined;
-  /** The names of the sources. */
-  resolvedSources: (string | null)[];
+  /** The names of the sources. That of a source without one is null, though the type, which is trace-mapping's, does not say so. */
+  resolvedSources: string[];
   readonly sourceEntries: SourceEntry[];
   /** About how many bytes of memory the map takes. */
   readonly nbytes: number;
@@ -158,15 +170,13 @@ export const AnyMap: {
 export const FlattenMap: typeof AnyMap;
 export function presortedDecodedMap(map: object, mapUrl?: string | URL | null): TraceMap;
 
-export interface Needle {
-  /** From 1. */
-  line: number;
-  /** From 0. One past the line's end, and Infinity, has the line's last mapping. */
-  column: number;
-  bias?: 1 | -1;
-}
+export type Bias = typeof GREATEST_LOWER_BOUND | typeof LEAST_UPPER_BOUND;
 
-/** Where a place of a generated file comes from. The line counts from 1 and the column from 0; `index` is the source's number. */
+/** A generated position: the line from 1; the column from 0, and one past the line's end, and Infinity, has the line's last mapping. */
+export type Needle = { line: number; column: number; bias?: Bias };
+
+/** Where a place of a generated file comes from. The line counts from 1 and the column from 0; `index` is the source's number, and
+ * `lastColumn` the last column of the generated line for which this holds, or Infinity. */
 export interface Place {
   source: string | null;
   line: number;
@@ -174,6 +184,7 @@ export interface Place {
   name: string | null;
   ignored: boolean;
   index: number;
+  lastColumn: number;
 }
 
 /** A line of a source, and those before and after it. */
@@ -187,18 +198,29 @@ export interface Context {
  * content has no such line. Of a line those characters are given that stand in its first 65,536 bytes. */
 export function sourceContext(map: TraceMap, index: number, line: number, before?: number, after?: number): Context | null;
 
-export type OriginalMapping =
-  | { source: string | null; line: number; column: number; name: string | null }
-  | { source: null; line: null; column: null; name: null };
+export type OriginalMapping = { source: string | null; line: number; column: number; name: string | null };
+export type { OriginalMapping as Mapping };
+export type InvalidOriginalMapping = { source: null; line: null; column: null; name: null };
 
-export function originalPositionFor(map: TraceMap, needle: Needle): OriginalMapping;
+export function originalPositionFor(map: TraceMap, needle: Needle): OriginalMapping | InvalidOriginalMapping;
 /** An original position: the name of a source, a line and a column. */
-export type SourceNeedle = { source: string; line: number; column: number; bias?: 1 | -1 };
-export type GeneratedMapping = { line: number; column: number } | { line: null; column: null };
+export type SourceNeedle = { source: string; line: number; column: number; bias?: Bias };
+export type GeneratedMapping = { line: number; column: number };
+export type InvalidGeneratedMapping = { line: null; column: null };
 /** Where the original position stands in the generated file. The first call of a map makes an index of 16 bytes a mapping. */
-export function generatedPositionFor(map: TraceMap, needle: SourceNeedle): GeneratedMapping;
+export function generatedPositionFor(map: TraceMap, needle: SourceNeedle): GeneratedMapping | InvalidGeneratedMapping;
 /** All places of the generated file where the original position stands. */
-export function allGeneratedPositionsFor(map: TraceMap, needle: SourceNeedle): { line: number; column: number }[];
+export function allGeneratedPositionsFor(map: TraceMap, needle: SourceNeedle): GeneratedMapping[];
+
+/** A place of the generated file with the column of its original; it holds up to `lastColumn`, or Infinity. */
+export interface Generated extends GeneratedMapping {
+  lastColumn: number;
+  originalColumn: number;
+}
+
+/** The generated places of a line of a source, by its number from 0 or its name: those at the greatest original column at or before this
+ * one, or with `after` at the least at or after it; without a column all of the line, by their original columns. */
+export function generated(map: TraceMap, source: number | string, line: number, column?: number, after?: boolean): Generated[];
 /** The segment that answers, or null. Here lines count from 0. */
 export function traceSegment(map: TraceMap, line: number, column: number): SourceMapSegment | null;
 export function eachMapping(map: TraceMap, call: (mapping: EachMapping) => void): void;
@@ -240,6 +262,35 @@ export function composeAll(
   inners?: Named<string | number>,
   options?: ComposeAllOptions,
 ): Buffer;
+
+/** What a loader is told of a source: the name of the map's that has it, and how many maps lead to it. What is put into `source` is the
+ * name of an original, or where its map stands; `content` and `ignore` are those of an original. */
+export interface LoaderContext {
+  readonly importer: string;
+  readonly depth: number;
+  source: string;
+  content: string | null | undefined;
+  ignore?: boolean | undefined;
+}
+
+export type SourceMapLoader = (source: string, context: LoaderContext) => Given | null | undefined | void;
+
+export interface RemappingOptions {
+  /** Leaves out the contents of the sources. */
+  excludeContent?: boolean;
+  /** Gives mappings as lines of segments. */
+  decodedMappings?: boolean;
+}
+
+/** What `remapping` gives: as a text it is JSON. */
+export interface RemappedSourceMap extends SourceMapV3 {
+  mappings: string | SourceMapSegment[][];
+  toString(): string;
+}
+
+/** The one map that a map comes to with those of its sources, which the loader gives, as of @ampproject/remapping. In a list each map is
+ * of the only source of the one before it. */
+export function remapping(input: Given | readonly Given[], loader: SourceMapLoader, options?: boolean | RemappingOptions): RemappedSourceMap;
 
 /** What was in a trace: its lines, how many of them were frames, and how many of these were replaced and hidden. */
 export interface FrameCounts {

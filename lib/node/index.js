@@ -5,6 +5,7 @@ const { compose, composeAll } = require('./composing.js');
 const { TraceMap, sourceContext } = require('./map.js');
 const { Maps, frameUrls, rewriteAsync } = require('./maps.js');
 const { Refused } = require('./refused.js');
+const { remapping } = require('./remapping.js');
 const { RewriteStream } = require('./stream.js');
 const { Table, rewrite } = require('./table.js');
 const {
@@ -18,6 +19,7 @@ const {
   eachMapping,
   encodedMap,
   encodedMappings,
+  generated,
   generatedPositionFor,
   isIgnored,
   lookUpMany,
@@ -49,11 +51,13 @@ module.exports = {
   encodedMap,
   encodedMappings,
   frameUrls,
+  generated,
   generatedPositionFor,
   isIgnored,
   lookUpMany,
   originalPositionFor,
   presortedDecodedMap,
+  remapping,
   rewrite,
   rewriteAsync,
   sourceContent,

@@ -4,18 +4,20 @@ const { inspect } = require('util');
 const addon = require('./addon.js');
 const given = require('./given.js');
 const { each, encoded, lastLine } = require('./mappings.js');
-const { Outline, numbersTo, renamed } = require('./outline.js');
-const { besideMap, isPath } = require('./paths.js');
+const { Outline, numbersTo } = require('./outline.js');
 const { Refused, refusedAs, refusedMap } = require('./refused.js');
 
-// How an absolute path begins.
-const PATH = /^(\/|[A-Za-z]:[/\\])/;
-// The one look-up, and what it is asked and answers, as tracing.js has it; behind that the place of the map or table, and whether the
-// source is ignored, where that is asked too.
+// How a URL with a host begins, which is no path.
+const HOST = /^[a-z][a-z0-9+.-]*:\/\//i;
+// Whether a URL is an absolute path.
+const isPath = (url) => addon.isPath(Buffer.from(url));
+// The one look-up, and what it is asked and answers, as tracing.js has it; behind that the place of the map or table, and where a whole
+// place is asked for, whether the source is ignored, and the last column for which the answer holds.
 const { lookUp, room } = addon;
-const WITH_IGNORED = 4;
+const WHOLE_PLACE = 4;
 const ROOM_HANDLE = 10;
 const ROOM_IGNORED = 11;
+const ROOM_LAST = 12;
 // What `using` calls at the end of a block.
 const DISPOSE = Symbol.dispose || Symbol.for('nodejs.dispose');
 
@@ -28,8 +30,9 @@ const refusal = new Float64Array(6);
 
 // The map of these bytes, which is so read, as a handle; at none, where that may be, if the base is no URL. `url` is that which a refusal
 // names.
-function read(bytes, base, { interval, maxNames }, url, orAtNone = false) {
-  const map = addon.read(bytes, base === '' ? NO_BASE : Buffer.from(base), orAtNone, interval, maxNames, refusal);
+function read(bytes, base, how, url, orAtNone = false) {
+  const each = given.intervalOf(how, bytes.length);
+  const map = addon.read(bytes, base === '' ? NO_BASE : Buffer.from(base), orAtNone, each, how.maxNames, refusal);
   if (map === null) throw refusedMap(bytes, refusal, base, url);
   return map;
 }
@@ -48,7 +51,7 @@ const standingAt = (bytes, url, how = USUALLY) => read(bytes, url ?? '', how, ur
 // The map that is given under a URL, as a handle: a TraceMap's own, or that of these bytes, which stands there. With `paths` one whose URL
 // is an absolute path stands at none, and has its sources named by that; where others hold the map, one that is read again.
 function standingUnder({ url, paths, how }, map) {
-  const isByPath = paths && PATH.test(url);
+  const isByPath = paths && isPath(url);
   if (!(map instanceof TraceMap)) return named(standingAt(given.mapBytes(map), isByPath ? null : url, how), isByPath && url);
   const handle = named(open(map), isByPath && url);
   if (isByPath) forget(map);
@@ -73,17 +76,16 @@ function readAt(bytes, base, how) {
   try {
     return read(bytes, base, how, base || undefined);
   } catch (refused) {
-    if (!(refused instanceof Refused) || refused.code !== 'usage' || !isPath(base)) throw refused;
+    if (!(refused instanceof Refused) || refused.code !== 'usage' || HOST.test(base)) throw refused;
     return readAtPath(bytes, base, how);
   }
 }
 
-// No call of the library takes a path, so the names of the sources are put into the map.
 function readAtPath(bytes, path, how) {
-  const unplaced = read(bytes, '', how, path);
-  const names = namesOf(unplaced);
-  addon.closeMap(unplaced);
-  return read(renamed(bytes, names.map((name) => besideMap(path, name))), '', how, path);
+  const map = read(bytes, '', how, path);
+  if (addon.standAt(map, Buffer.from(path), how.maxNames, refusal)) return map;
+  addon.closeMap(map);
+  throw refusedMap(bytes, refusal, '', path);
 }
 
 // That a map stands at this URL, or at none where it is no URL: a path is none here; whether its sources are named by paths; and
@@ -111,9 +113,12 @@ function namesOf(handle) {
   return Array.from({ length: addon.counts(handle).sources }, (_, index) => addon.sourceName(handle, index));
 }
 
+// What is said of a TraceMap of another copy of this package in the process, whose handle is of another addon.
+const OTHER_COPY = 'a TraceMap of this copy of smap is wanted, and this is of another one: `new TraceMap(map)` reads it again';
+
 // What a map has that is open.
 function opened(map) {
-  if (!(map instanceof TraceMap)) throw new TypeError('a TraceMap is wanted');
+  if (!(map instanceof TraceMap)) throw new TypeError(given.isAnyTraceMap(map) ? OTHER_COPY : 'a TraceMap is wanted');
   const { inner } = map;
   if (!inner.handle) throw new Error('the map is closed');
   return inner;
@@ -121,7 +126,7 @@ function opened(map) {
 
 const open = (map) => opened(map).handle;
 
-// Looks a line and a column up, both from 0, in the map of this handle, in this way: 0, WITH_IGNORED, or as tracing.js has it. What
+// Looks a line and a column up, both from 0, in the map of this handle, in this way: 0, WHOLE_PLACE, or as tracing.js has it. What
 // is answered stands in the room from its fourth number on.
 function ask(handle, line, column, how) {
   room[0] = line;
@@ -130,6 +135,9 @@ function ask(handle, line, column, how) {
   room[ROOM_HANDLE] = handle.place;
   lookUp();
 }
+
+// The last column for which an answer holds: before the next mapping or, of the greatest number, to the line's end.
+const columnOf = (last) => (last === 4294967295 ? Infinity : last);
 
 // What a map has by this key, which is made once, of its handle.
 function once(map, key, make) {
@@ -255,6 +263,11 @@ class TraceMap {
     Object.defineProperties(this, own);
   }
 
+  // By this another copy of this package knows it.
+  get [given.COPIES]() {
+    return true;
+  }
+
   // What the calls of this library alone use.
   get inner() {
     return this.#inner;
@@ -270,14 +283,15 @@ class TraceMap {
     return addon.size(handle) + outline.size;
   }
 
-  // Where a generated position comes from, the line from 1 and the column from 0: {source, line, column, name, ignored, index}, or null
-  // where no mapping answers that has an original.
+  // Where a generated position comes from, the line from 1 and the column from 0: {source, line, column, name, ignored, index, lastColumn}, or
+  // null where no mapping answers that has an original.
   placeAt(line, column) {
-    ask(open(this), given.line(line), given.column(column), WITH_IGNORED);
+    ask(open(this), given.line(line), given.column(column), WHOLE_PLACE);
     if (room[3] !== 2) return null;
     // These first: where a text is made, a setter of the user's may look up something else.
     const [index, originalLine, originalColumn, ignored] = [room[5], room[6] + 1, room[7], room[ROOM_IGNORED] === 1];
     const name = room[8] ? room[9] : undefined;
+    const lastColumn = columnOf(room[ROOM_LAST]);
     return {
       source: this.sourceAt(index),
       line: originalLine,
@@ -285,6 +299,7 @@ class TraceMap {
       name: name === undefined ? null : this.nameAt(name),
       ignored,
       index,
+      lastColumn,
     };
   }
 
@@ -373,15 +388,17 @@ function sourceContext(map, index, line, before = 2, after = 2) {
 module.exports = {
   DISPOSE,
   Made,
-  PATH,
   ROOM_HANDLE,
   ROOM_IGNORED,
+  ROOM_LAST,
   TraceMap,
   USUALLY,
   Under,
   ask,
+  columnOf,
   empty,
   encodedMappings,
+  isPath,
   linesOf,
   named,
   namesOf,
@@ -389,6 +406,7 @@ module.exports = {
   open,
   outlineIn,
   read,
+  readAt,
   sourceContext,
   standingAt,
   standingUnder,

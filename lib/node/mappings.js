@@ -44,25 +44,28 @@ function checkLines(count) {
 // The mappings of a map come in pieces of so many numbers, in one room.
 const piece = new Uint32Array(NUMBERS * 4096);
 const nothing = new Uint32Array(0);
+const last = new Float64Array(1);
 
 // The lines of segments of the map of this handle, which has so many bytes; how many lines those are is told by the last one with a mapping.
 function decoded(handle, linesOf, bytes) {
+  const size = addon.listMappings(handle, piece, last);
   try {
-    const count = linesOf(addon.listMappings(handle));
+    const count = linesOf(last[0]);
     checkLines(count);
     const most = Math.max(MOST_LISTED, LISTED_A_BYTE * bytes);
     if (count > most) throw new RangeError(`the map has ${count} lines, and a list of at most ${most} is made of its ${bytes} bytes`);
-    return listed(count);
+    return listed(count, size);
   } finally {
-    addon.nextMappings(nothing);
+    // Of more it is not known whether all were asked for.
+    if (size === piece.length) addon.nextMappings(nothing);
   }
 }
 
-// So many lines of what is handed out.
-function listed(count) {
+// So many lines of what is handed out, of which so many numbers stand in the room.
+function listed(count, first) {
   const lines = [];
   let segments = [];
-  for (let size; (size = addon.nextMappings(piece)) > 0; ) {
+  for (let size = first; size > 0; size = size === piece.length ? addon.nextMappings(piece) : 0) {
     for (let at = 0; at < size; at += NUMBERS) {
       for (; lines.length < piece[at]; segments = []) lines.push(segments);
       segments.push(segmentAt(piece, at));

@@ -25,28 +25,6 @@ function members(bytes, at, parts = addon.members(bytes, at)) {
   return found;
 }
 
-// The regular maps of these members: those of the sections, or the map itself.
-function parts(bytes, map) {
-  const sections = map.get('sections');
-  if (!sections) return [map];
-  const found = addon.members(bytes, sections[0]);
-  return numbersTo(found.length / 4).map((i) => members(bytes, members(bytes, found[4 * i + 2]).get('map')[0]));
-}
-
-// The text of a map whose sources have these names, and no root.
-function renamed(bytes, names) {
-  const [left, changes] = [names.slice(), []];
-  for (const part of parts(bytes, members(bytes, begin(bytes)))) {
-    const [sources, root] = [part.get('sources'), part.get('sourceRoot')];
-    const count = addon.members(bytes, sources[0]).length / 4;
-    changes.push([...sources, JSON.stringify(left.splice(0, count))]);
-    if (root) changes.push([...root, '""']);
-  }
-  changes.sort(([one], [other]) => one - other);
-  const pieces = changes.flatMap(([from, , text], i) => [bytes.subarray(i ? changes[i - 1][1] : 0, from), Buffer.from(text)]);
-  return Buffer.concat([...pieces, bytes.subarray(changes.length ? changes[changes.length - 1][1] : 0)]);
-}
-
 // How many lines begin in a text of mappings behind its last segment.
 function linesBehind(bytes, [from, to]) {
   const quoted = bytes.subarray(from, to);
@@ -122,4 +100,4 @@ class Outline {
   }
 }
 
-module.exports = { Outline, numbersTo, renamed };
+module.exports = { Outline, numbersTo };

@@ -2,7 +2,7 @@
 // What is given under a URL is read, at once or by another thread.
 const addon = require('./addon.js');
 const given = require('./given.js');
-const { Made, PATH, TraceMap, named, outlineIn, standingUnder } = require('./map.js');
+const { Made, TraceMap, isPath, named, outlineIn, standingUnder } = require('./map.js');
 const { Outline } = require('./outline.js');
 const { reason, refusedMap } = require('./refused.js');
 
@@ -43,9 +43,9 @@ async function madeLater(under, map) {
   const isLarge = typeof map === 'string' || map instanceof Uint8Array ? map.length > MOST_AT_ONCE : false;
   if (!isLarge) return madeUnder(under, map);
   const { url, paths, how } = under;
-  const [isByPath, bytes] = [paths && PATH.test(url), await copied(map)];
+  const [isByPath, bytes] = [paths && isPath(url), await copied(map)];
   const base = isByPath ? '' : url;
-  const told = await addon.readLater(bytes, Buffer.from(base), true, how.interval, how.maxNames);
+  const told = await addon.readLater(bytes, Buffer.from(base), true, given.intervalOf(how, bytes.length), how.maxNames);
   if (typeof told[0] === 'number') {
     const numbers = Float64Array.from(told.slice(0, 6));
     throw refusedMap(bytes, numbers, base, isByPath ? undefined : url, () => reason(told.slice(6, 10), told[10]));
@@ -62,9 +62,9 @@ function madeUnder(under, map) {
 // The map of a text or of bytes is read into a table, where that is all: what it is made of without a handle, and for how much it counts; or
 // null.
 function readInto(table, { url, paths, how }, map) {
-  if ((typeof map !== 'string' && !(map instanceof Uint8Array)) || (paths && PATH.test(url))) return null;
+  if ((typeof map !== 'string' && !(map instanceof Uint8Array)) || (paths && isPath(url))) return null;
   const bytes = given.mapBytes(map);
-  const found = addon.readInto(table, url, bytes, Buffer.from(url), true, how.interval, how.maxNames, numbers);
+  const found = addon.readInto(table, url, bytes, Buffer.from(url), true, given.intervalOf(how, bytes.length), how.maxNames, numbers);
   if (found === undefined) throw refusedMap(bytes, numbers.slice(0, 6), url, url);
   const outline = found === null ? Outline.of(bytes) : new Outline(found, numbers[0]);
   return { outline, bytes: bytes.length, size: numbers[6] };

@@ -2,7 +2,7 @@
 // Stack traces and other texts, rewritten over a table of maps.
 const addon = require('./addon.js');
 const given = require('./given.js');
-const { DISPOSE, ROOM_HANDLE, ROOM_IGNORED, TraceMap, empty, standingUnder } = require('./map.js');
+const { DISPOSE, ROOM_HANDLE, ROOM_IGNORED, ROOM_LAST, TraceMap, columnOf, empty, standingUnder } = require('./map.js');
 const { refusedUrl } = require('./refused.js');
 const { Store } = require('./store.js');
 const { begun, rewritten } = require('./texts.js');
@@ -25,8 +25,8 @@ class Told {
     else if (this.refusals.length < MOST_REFUSALS) this.refusals.push({ url, error });
   }
 
-  // Where a place in the file of a URL comes from, the line from 1 and the column from 0: {source, line, column, name, ignored, index}, or
-  // null where it has no map, or that no original.
+  // Where a place in the file of a URL comes from, the line from 1 and the column from 0: {source, line, column, name, ignored, index,
+  // lastColumn}, or null where it has no map, or that no original.
   lookUp(url, line, column) {
     const [named, line0, column0] = [given.text(url, 'url'), given.line(line), given.column(column)];
     const find = (asked) => {
@@ -35,7 +35,8 @@ class Told {
     };
     const source = this.inner.found(find, named, undefined);
     if (source === undefined || room[3] !== 2) return null;
-    return { source, line: room[6] + 1, column: room[7], name: room[8] ? texts[0] : null, ignored: room[ROOM_IGNORED] === 1, index: room[5] };
+    const [ignored, lastColumn] = [room[ROOM_IGNORED] === 1, columnOf(room[ROOM_LAST])];
+    return { source, line: room[6] + 1, column: room[7], name: room[8] ? texts[0] : null, ignored, index: room[5], lastColumn };
   }
 }
 

@@ -2,7 +2,7 @@
 // The calls of @jridgewell/trace-mapping, and look-ups of many positions at once.
 const addon = require('./addon.js');
 const given = require('./given.js');
-const { TraceMap, ask, encodedMappings, linesOf, once, open, withMappings } = require('./map.js');
+const { TraceMap, ask, columnOf, encodedMappings, linesOf, once, open, withMappings } = require('./map.js');
 const { NUMBERS, decoded, mappingAt } = require('./mappings.js');
 
 const GREATEST_LOWER_BOUND = 1;
@@ -77,9 +77,11 @@ function sourceNumber(map, source) {
   return index < 0 ? map.resolvedSources.indexOf(source) : index;
 }
 
-// The directions in which an original column is looked for, of the library, and how many numbers it gives of a place.
+// The directions in which an original column is looked for, of the library, and for all of the line; and how many numbers are given of a
+// place, with its original or with the columns for which it holds.
 const AT_OR_BEFORE = 0;
 const AT_OR_AFTER = 1;
+const OF_LINE = 2;
 const PLACE = 4;
 
 // Where the original position stands in the generated file: {line, column}, both null where it does not. Of several places, which all
@@ -107,6 +109,22 @@ function allGeneratedPositionsFor(map, { source, line, column, bias }) {
   const isAfter = !bias || bias === LEAST_UPPER_BOUND;
   const places = addon.generated(handle, index, line0, column0, isAfter ? AT_OR_AFTER : AT_OR_BEFORE);
   return Array.from({ length: places.length / PLACE }, (_, i) => ({ line: places[i * PLACE] + 1, column: places[i * PLACE + 1] }));
+}
+
+// The generated places of a line of a source, by its number from 0 or its name: those at the greatest original column at or before this one,
+// or with `after` at the least at or after it; without a column all of the line, by their original columns. Each is {line, column, lastColumn,
+// originalColumn}: it holds up to the last column, or Infinity.
+function generated(map, source, line, column, after = false) {
+  const handle = open(map);
+  const index = typeof source === 'string' ? sourceNumber(map, source) : given.source(source);
+  const [line0, column0] = [given.line(line), column === undefined ? 0 : given.column(column)];
+  const towards = given.boolean(after, 'after') ? AT_OR_AFTER : AT_OR_BEFORE;
+  if (index < 0) return [];
+  const spans = addon.generatedSpans(handle, index, line0, column0, column === undefined ? OF_LINE : towards);
+  return Array.from({ length: spans.length / PLACE }, (_, i) => {
+    const [generatedLine, generatedColumn, last, originalColumn] = spans.subarray(i * PLACE, i * PLACE + PLACE);
+    return { line: generatedLine + 1, column: generatedColumn, lastColumn: columnOf(last), originalColumn };
+  });
 }
 
 // The name and the content of the source of this number, from 0, where the map has them.
@@ -138,6 +156,7 @@ module.exports = {
   eachMapping,
   encodedMap,
   encodedMappings,
+  generated,
   generatedPositionFor,
   isIgnored,
   lookUpMany,

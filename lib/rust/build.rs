@@ -1,5 +1,5 @@
 //! Finds libsmap: below the folder that `SMAP_DIR` names, or by the file that it has for
-//! pkg-config, or among the packages of the repository that this crate lies in.
+//! pkg-config, or within this crate, or among the packages of the repository that it lies in.
 
 use std::env;
 use std::fs;
@@ -16,7 +16,7 @@ fn main() {
         println!("cargo:rerun-if-env-changed={}", name);
     }
     println!("cargo:rerun-if-changed=build.rs");
-    match named().or_else(installed).or_else(packaged) {
+    match named().or_else(installed).or_else(within).or_else(packaged) {
         Some((include, lib)) => link(&include, &lib),
         None => {
             eprintln!(
@@ -75,6 +75,18 @@ fn pkg_config(words: &[&str]) -> Option<String> {
     let output = Command::new(program).args(words).output().ok()?;
     let printed = String::from_utf8(output.stdout).ok()?;
     output.status.success().then(|| printed.trim().to_string())
+}
+
+/// Those that were packed into this crate, of which there is the static library alone.
+fn within() -> Option<(PathBuf, PathBuf)> {
+    let arch = set("CARGO_CFG_TARGET_ARCH");
+    let folder = Path::new(&set("CARGO_MANIFEST_DIR"))
+        .join("native")
+        .join(arch);
+    let is_for =
+        set("CARGO_CFG_TARGET_OS") == "linux" && env::var_os("CARGO_FEATURE_DYNAMIC").is_none();
+    (is_for && folder.join("lib/libsmap.a").exists())
+        .then(|| (folder.join("include"), folder.join("lib")))
 }
 
 /// Those of the package for this processor, which is unpacked. `libsmap.so` is a link there and a copy here: the gate

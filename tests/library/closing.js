@@ -74,7 +74,7 @@ function setters() {
     map.close();
   }
   const table = new smap.Table({ 'b.js': read() });
-  const place = { ...found(), ignored: false, index: 0 };
+  const place = { ...found(), ignored: false, index: 0, lastColumn: Infinity };
   same(withSetters(Array.prototype, numbers, () => table.close(), () => table.lookUp('b.js', 1, 12)), [place, false]);
   same(withSetters(Object.prototype, Object.keys(place), () => table.close(), () => table.lookUp('b.js', 1, 12)), [place, false]);
   const map = read();
@@ -91,7 +91,7 @@ function among() {
   same(act(), { source: 'o.js', line: 10, column: 9, name: 'm' });
   const place = { ...found(undefined), name: undefined };
   same(withSetters(Array.prototype, ['0'], act, () => look(map)), [{ ...place, source: undefined }, true]);
-  same(withSetters(Array.prototype, ['0'], act, () => map.placeAt(1, 12)), [{ ...place, source: undefined, ignored: false, index: 0 }, true]);
+  same(withSetters(Array.prototype, ['0'], act, () => map.placeAt(1, 12)), [{ ...place, source: undefined, ignored: false, index: 0, lastColumn: Infinity }, true]);
 }
 
 // The memory that a look-up is asked in cannot be taken away.
@@ -108,9 +108,9 @@ function room() {
       isTaken = false;
     }
     for (let i = 0; i < 3; i++) gc();
-    same([look(map), isTaken, addon.room.length], [found(), false, 12]);
+    same([look(map), isTaken, addon.room.length], [found(), false, 13]);
     same(smap.generatedPositionFor(map, { source: 'a.js', line: 2, column: 4 }), { line: 1, column: 10 });
-    same(map.placeAt(1, 12), { ...found(), ignored: false, index: 0 });
+    same(map.placeAt(1, 12), { ...found(), ignored: false, index: 0, lastColumn: Infinity });
   }
   port1.close();
   port2.close();
@@ -145,7 +145,9 @@ function detached() {
   same([...addon.members(bytes(), 0)], []);
   same([addon.outline(bytes(), new Float64Array(1)), addon.outline(Buffer.from([0xef]), new Float64Array(1))], [null, null]);
   refuses('TypeError', () => addon.outline(Buffer.from('{"version":3}'), numbers()), /Float64Array/);
-  same([addon.listMappings(handle), addon.nextMappings(gone(new Uint32Array(8))), addon.nextMappings(new Uint32Array(8))], [0, 0, 0]);
+  const last = new Float64Array(1);
+  same([addon.listMappings(handle, gone(new Uint32Array(8)), last), ...last, addon.nextMappings(new Uint32Array(8))], [0, 0, 0]);
+  refuses('TypeError', () => addon.listMappings(handle, new Uint32Array(8), numbers()), /Float64Array/);
   const table = new smap.Table({ 'b.js': read() });
   const rewriting = addon.newRewriting(false, false, false, false, 0);
   same(addon.give(rewriting, bytes(), 0, true), true);
@@ -190,10 +192,12 @@ function inTheMiddle() {
 function inPieces() {
   const [map, other] = [read(), new smap.TraceMap({ version: 3, sources: [], names: [], mappings: '' })];
   const piece = new Uint32Array(9);
-  same([addon.listMappings(map.inner.handle), addon.nextMappings(piece), [...piece]], [0, 8, [0, 0, 2, 0, 0, 0, 0, 0, 0]]);
+  const last = new Float64Array(1);
+  same([addon.listMappings(map.inner.handle, piece, last), ...last, [...piece]], [8, 0, [0, 0, 2, 0, 0, 0, 0, 0, 0]]);
   map.close();
   same([addon.nextMappings(piece), [...piece], addon.nextMappings(piece)], [8, [0, 10, 2, 0, 1, 4, 1, 0, 0], 0]);
-  same([addon.listMappings(read().inner.handle), addon.listMappings(other.inner.handle), addon.nextMappings(piece)], [0, -1, 0]);
+  const begun = addon.listMappings(read().inner.handle, piece, last);
+  same([begun, addon.listMappings(other.inner.handle, piece, last), ...last, addon.nextMappings(piece)], [8, 0, -1, 0]);
 }
 
 // Maps that nothing names but the call.

@@ -131,7 +131,8 @@ const commands = {
       process.stdout.write(`${value} ${limit} ${column}\n${explanation}`);
     }
   },
-  counts: (path) => put([`ok ${Object.entries(open(path).counts).map((pair) => pair.join(' ')).join(' ')}`]),
+  // With as many checkpoints as the program makes.
+  counts: (path) => put([`ok ${Object.entries(open(path, null, 64).counts).map((pair) => pair.join(' ')).join(' ')}`]),
   show: (path) => process.stdout.write(open(path).write()),
   compose: (outer, source, inner) => {
     const first = open(outer);

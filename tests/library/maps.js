@@ -21,7 +21,7 @@ const textOf = (name, content = 'one\r\ntwo\nthree\rfour\u2028five') =>
   JSON.stringify({
     version: 3, sources: [name, null], sourcesContent: [content, null], names: ['n'], mappings: 'AAAA,IACCA,E;AAEA', ignoreList: [0],
   });
-const placeIn = (source) => ({ source, line: 2, column: 1, name: 'n', ignored: true, index: 0 });
+const placeIn = (source) => ({ source, line: 2, column: 1, name: 'n', ignored: true, index: 0, lastColumn: 5 });
 const urlOf = (name) => `https://e.test/${name}.js`;
 
 function contexts() {
@@ -41,7 +41,7 @@ function contexts() {
   raises('less than none', RangeError, () => sourceContext(map, 0, 1, 0, -1));
   raises('a text for a number', TypeError, () => sourceContext(map, 0, 1, '2'));
   insist('a place', map.placeAt(1, 4), placeIn('a.ts'));
-  insist('a place without a name', map.placeAt(1, 0), { ...placeIn('a.ts'), line: 1, column: 0, name: null });
+  insist('a place without a name', map.placeAt(1, 0), { ...placeIn('a.ts'), line: 1, column: 0, name: null, lastColumn: 3 });
   insist('a place without an original', map.placeAt(1, 6), null);
   insist('no place', map.placeAt(8, 0), null);
   const long = new TraceMap(textOf('a.ts', `${'x'.repeat(65535)}\u20ac`));

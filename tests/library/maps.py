@@ -161,6 +161,28 @@ def generated(files):
                     wanted.setdefault((one.source, one.line), []).append(place)
             for (source, line), places in wanted.items():
                 insist(f"{path}, {source}:{line}", source_map.generated(source, line), [place for *_, place in sorted(places)])
+            ends(path, source_map)
+
+
+# Where what answers at each mapping ends, and just before and behind it.
+def ends(path, source_map):
+    columns = {}
+    for one in source_map.mappings():
+        columns.setdefault(one.generated_line, []).append(one.generated_column)
+    for line, on_line in columns.items():
+        for at in {place + step for place in on_line for step in (-1, 0, 1) if place + step >= 0}:
+            wanted = min((column for column in on_line if column > at), default=None)
+            insist(f"{path}, behind {line}:{at}", source_map.next_column(line, at), wanted)
+    for line, column in ((max(columns, default=0) + 1, 0), (2**40, 0), (0, 2**32 - 1), (0, 2**40)):
+        insist(f"{path}, behind {line}:{column}", source_map.next_column(line, column), None)
+    raises("a column below 0", ValueError, source_map.next_column, 0, -1)
+    raises("a closed map", ValueError, SourceMap.next_column, closed(), 0, 0)
+
+
+def closed():
+    taken = SourceMap(text_of("a.ts"))
+    taken.close()
+    return taken
 
 
 def bounded():

@@ -391,6 +391,13 @@ def paths():
             with SourceMap(given, Path(path)) as made:
                 same((made.source_name(1), made.look_up(0, 0).source), (name, 1))
                 same(json.loads(made.write())["sources"][1], name)
+    # The names count for their own bytes, 12 here, and the 13 of the path before each of the three.
+    bound = '{"version":3,"sources":["../a.ts","b.ts",null,"/"],"names":[],"mappings":""}'
+    for most in (51, 52, 2**40):
+        with SourceMap(bound, Path("dist/a.js.map"), max_names=most) as made:
+            same([source.name for source in made.sources], ["a.ts", "dist/b.ts", None, "/"])
+    for most in (50, 12, 11):
+        refuses(Refused, lambda: SourceMap(bound, Path("dist/a.js.map"), max_names=most), "M18 LongNames", code="M18", url=None)
     refuses(Refused, lambda: SourceMap("no JSON", Path("a.js")), "refused: a.js: M2 NotJson\n", code="M2", url=None)
     refuses(Refused, lambda: SourceMap("dist/a.js.map"), "`SourceMap.from_file` reads the file at a path", code="M2")
     for given in (b"dist/a.js.map", "{dist/a.js.map", "a\nb", ""):

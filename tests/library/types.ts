@@ -1,7 +1,7 @@
 // What tests/try-library gives to tsc --strict: the types of the library in node, as a script uses them.
 import {
-  AnyMap, Context, EachMapping, EncodedSourceMap, Fit, FlattenMap, GREATEST_LOWER_BOUND, LEAST_UPPER_BOUND, Maps, Place, Refused, RewriteStream, SourceMapSegment, Table, TraceMap, allGeneratedPositionsFor, compose,
-  composeAll, decodedMap, decodedMappings, eachMapping, encodedMap, encodedMappings, frameUrls, generatedPositionFor, isIgnored, lookUpMany, originalPositionFor, presortedDecodedMap,
+  AnyMap, Bias, Context, EachMapping, EncodedSourceMap, Fit, FlattenMap, GREATEST_LOWER_BOUND, Generated, LEAST_UPPER_BOUND, LoaderContext, Maps, Needle, Place, Refused, RemappedSourceMap, RewriteStream, SectionedSourceMap, SectionedSourceMapInput, SourceMapInput, SourceMapLoader, SourceMapSegment, SourceNeedle, Table, TraceMap, allGeneratedPositionsFor, compose,
+  composeAll, decodedMap, decodedMappings, eachMapping, encodedMap, encodedMappings, frameUrls, generated as generatedOn, generatedPositionFor, isIgnored, lookUpMany, originalPositionFor, presortedDecodedMap, remapping,
   rewrite, rewriteAsync, sourceContent, sourceContentFor, sourceContext, sourceName, traceSegment,
 } from 'smap';
 
@@ -18,7 +18,7 @@ const answers: Uint32Array = lookUpMany(map, Uint32Array.of(line, column));
 
 const columns: number[] = [];
 eachMapping(map, (mapping: EachMapping) => columns.push(mapping.generatedColumn));
-for (const { source, originalLine } of map.mappings()) if (source !== null && originalLine !== null) columns.push(originalLine);
+for (const mapping of map.mappings()) if (mapping.source !== null) columns.push(mapping.originalLine, mapping.originalColumn);
 const lines: SourceMapSegment[][] = decodedMappings(map);
 const text: string = encodedMappings(map);
 const written: EncodedSourceMap = encodedMap(map);
@@ -34,6 +34,18 @@ const { sources, unmapped } = map.bytesBySource('x');
 const { fits, past, inside, same }: Fit = map.fit('x');
 const generated: number | null = generatedPositionFor(map, { source: 'a', line: 1, column: 0 }).column;
 const standing: number[] = allGeneratedPositionsFor(map, { source: 'a', line: 1, column: 0, bias: 1 }).map(({ column }) => column);
+const spans: Generated[] = [...generatedOn(map, 0, 1), ...generatedOn(map, 'a', 1, 0, true)];
+columns.push(...spans.map(({ lastColumn, originalColumn }) => lastColumn - originalColumn), (map.placeAt(1, 0) as Place).lastColumn);
+const section: SectionedSourceMap = { version: 3, sections: [{ offset: { line: 0, column: 0 }, map: written }] };
+const inputs: (SourceMapInput | SectionedSourceMapInput)[] = ['{}', written, decodedMap(map), map, section];
+const bias: Bias = 1;
+const needles: [Needle, SourceNeedle] = [{ line: 1, column: 0, bias }, { source: 'a', line: 1, column: 0, bias: -1 }];
+const loader: SourceMapLoader = (source: string, context: LoaderContext) => {
+  if (context.depth === 1) context.ignore = source !== context.importer;
+  return context.content ? written : null;
+};
+const remapped: RemappedSourceMap = remapping([written, new Uint8Array(2)], loader, { decodedMappings: true });
+columns.push(remapping(map, () => undefined, true).version, inputs.length, needles.length, `${remapped}`.length);
 const total: number = sources.reduce((sum, bytes) => sum + bytes, unmapped) + map.counts.segments;
 
 const made: Uint8Array[] = [compose(map, 0, others[0]), composeAll(map, { 'a.js': others[1] }, { load: (source) => source, prune: true }), map.write()];
@@ -66,3 +78,5 @@ new Maps({ load: () => null });
 composeAll(map, {}, { pruned: true });
 // @ts-expect-error
 lookUpMany(map, [1, 2]);
+// @ts-expect-error
+remapping(map);

@@ -33,8 +33,8 @@ has_one (b ∷ front) back = go (b == 61) (has_one front back)
     go true rest = refl
     go false rest = rest
 
-pub cut_at_last : (argument url path : Text) → SplitsAroundMatch (RFindsChar 61) argument url path → IsPair argument url path
-cut_at_last argument url path split =
+pub cut_at_last_byte : (argument url path : Text) → SplitsAroundMatch (RFindsChar 61) argument url path → IsPair argument url path
+cut_at_last_byte argument url path split =
     let back : drop split.0 argument ≡ 61 ∷ path = drop_at_char 61 argument split.0 split.1 split.2.1 (omega arith) ∙ ap (λ l. 61 ∷ l) (sym split.4) in (
       sym (take-append-drop split.0 argument) ∙ (λ k. sym split.3 k ++ back k),
       subst (λ l. has_equals_sign l ≡ false) (sym split.4)

@@ -5,7 +5,7 @@ ghost use Rattle.smap_arguments.specs.CommandLine.{optional_number_rule, optiona
 use crate::help::{CONTENT_HELP, CONTEXT_HELP, INTERVAL_HELP, ORDER_HELP, SOURCE_HELP};
 use clap::builder::ValueParser;
 use clap::{Arg, ArgAction, value_parser};
-use smap_command::{LIMIT, MOST_BYTES, MOST_CONTEXT, MOST_INTERVAL};
+use smap_command::{LIMIT, MOST_CONTEXT, MOST_INTERVAL, MOST_OPTION_BYTES};
 use std::alloc::Global;
 
 /// A required argument that is of any text.
@@ -140,6 +140,6 @@ pub fn bytes<'a>(alloc: Global, name: &'a str, help: &'a str, least: u64) -> Arg
     Arg::new(alloc, name)
         .long(name)
         .value_name("BYTES")
-        .value_parser(ValueParser::unsigned(least, MOST_BYTES))
+        .value_parser(ValueParser::unsigned(least, MOST_OPTION_BYTES))
         .help(help)
 }

@@ -3,9 +3,13 @@ use Rattle.std.specs.Prelude.{ℕ, List, [], ◌∷◌, None, Option, if◌then�
 use Rattle.smap_locations.specs.ListLine.{is_folder}
 use Rattle.smap_locations.specs.Locations.{LocationsSeen, path_for}
 use Rattle.smap_piecewise.specs.Location.{is_location}
+use Rattle.smap_resolve.specs.ByPath.{is_path}
 
 abbrev pub location_status : (url : List ℕ) → ℕ
 location_status url = if is_location url then 0 else 1
+
+abbrev pub path_status : (url : List ℕ) → ℕ
+path_status url = if is_path url then 0 else 1
 
 -- one folder for a prefix
 abbrev pub one_folder : (prefix folder : List ℕ) → LocationsSeen

@@ -2,8 +2,8 @@
 use Rattle.std.specs.Prelude.{ℕ, ◌==◌, Bool, List, [], Option, None, Some, if◌then◌else◌, length}
 use Rattle.smap_kept.specs.Bounded.{bytes_of}
 use Rattle.smap_kept.specs.Kept.{KeptSeen, asked_for, forgotten, kept_at_first, with_none, with_value}
-use Rattle.smap_kept.specs.declared.answer.Answer.{Answer}
-use Rattle.smap_kept.specs.declared.answer.Answer.TheVariants.{Known, NoneKnown, Wanted}
+use Rattle.smap_kept.specs.declared.answer.KeptAnswer.{KeptAnswer}
+use Rattle.smap_kept.specs.declared.answer.KeptAnswer.TheVariants.{Known, NoneKnown, Wanted}
 use Rattle.smap_kept.specs.declared.answer.NoValue.{NoValue}
 use Rattle.smap_kept.specs.declared.answer.NoValue.TheVariants.{Failed, Missing}
 use Rattle.smap_piecewise.specs.declared.kept_maps.KeptMaps.{KeptMaps}
@@ -49,18 +49,18 @@ abbrev pub url_asked : (now : ℕ) → (url : List ℕ) → KeptMaps → KeptMap
 url_asked now url maps = record maps { kept = asked_for now maps.kept url }
 
 -- what a call returns: there is a map, there is none, or this is not known
-abbrev pub status_of : {A : Type 0} → Answer A → ℕ
+abbrev pub status_of : {A : Type 0} → KeptAnswer A → ℕ
 status_of (Known value) = 0
 status_of (NoneKnown why) = 1
 status_of Wanted = 2
 
-abbrev pub value_of : {A : Type 0} → Answer A → Option A
+abbrev pub value_of : {A : Type 0} → KeptAnswer A → Option A
 value_of (Known value) = Some value
 value_of (NoneKnown why) = None
 value_of Wanted = None
 
 -- why there is none, or what stood there before
-abbrev pub why_after : {A : Type 0} → (old : ℕ) → Answer A → ℕ
+abbrev pub why_after : {A : Type 0} → (old : ℕ) → KeptAnswer A → ℕ
 why_after old (Known value) = old
 why_after old (NoneKnown why) = reason_number why
 why_after old Wanted = old

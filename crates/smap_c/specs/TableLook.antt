@@ -6,7 +6,7 @@ use Rattle.smap_record.specs.Record.{MapRecord, answer_of_map, answer_of_map_fro
 use Rattle.smap_record.specs.Sources.{StatedSource}
 use Rattle.smap_c.specs.Look.{answer_numbers}
 use Rattle.smap_c.specs.Texts.{IsReported, text_or_none}
-use Rattle.smap_c.specs.declared.look_up.Found.{Found as FoundNumbers}
+use Rattle.smap_c.specs.declared.look_up.FoundNumbers.{FoundNumbers}
 use Rattle.smap_c.specs.declared.texts.Source.{Source}
 use Rattle.smap_c.specs.declared.texts.Text.{Text}
 

@@ -29,7 +29,7 @@ counts_seen counts = record { lines = counts.lines; frames = counts.frames; mapp
 
 -- the maps under URLs, and the patterns, among which the URLs of places are sought
 abbrev pub urls_of : UrlTableSeen → UrlsKnown
-urls_of table = urls_known (record { table = table.words; locations = locations_of table.patterns })
+urls_of table = urls_known (record { table = table.exact; locations = locations_of table.patterns })
 
 -- a text whose places have the maps of their URLs, with or without a query and a fragment
 unfoldable pub placed_by : UrlTableSeen → (text : List ℕ) → List ℕ

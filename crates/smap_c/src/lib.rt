@@ -43,6 +43,8 @@ mod rewriting;
 mod shares;
 mod sharing;
 mod size;
+mod spans;
+mod standing;
 mod status;
 mod steps;
 mod store;

@@ -12,7 +12,7 @@ use std::alloc::Global;
 /// has one; what the kind has not is 0. All count from 0, columns in UTF-16 code units.
 #[repr(C)]
 #[derive(Clone, Copy)]
-pub struct Found {
+pub struct FoundNumbers {
     pub kind: u32,
     /// The column of the mapping that answers, in the generated file.
     pub generated_column: u32,
@@ -25,10 +25,10 @@ pub struct Found {
 }
 
 // An answer as numbers.
-pub(crate) fn answer_numbers(answer: Answer) -> Found
+pub(crate) fn answer_numbers(answer: Answer) -> FoundNumbers
     ensures { result ≡ answer_numbers answer }
 {
-    let nothing = Found {
+    let nothing = FoundNumbers {
         kind: 0,
         generated_column: 0,
         source: 0,
@@ -39,7 +39,7 @@ pub(crate) fn answer_numbers(answer: Answer) -> Found
     };
     match answer {
         Answer::Nothing => nothing,
-        Answer::Unmapped { column } => Found {
+        Answer::Unmapped { column } => FoundNumbers {
             kind: 1,
             generated_column: column,
             ..nothing
@@ -49,7 +49,7 @@ pub(crate) fn answer_numbers(answer: Answer) -> Found
                 Some(name) => (1, name),
                 None => (0, 0),
             };
-            Found {
+            FoundNumbers {
                 kind: 2,
                 generated_column: column,
                 source: origin.source,
@@ -70,7 +70,7 @@ pub extern "C" fn smap_look_up(
     map: &mut MapHandle,
     line: u32,
     column: u32,
-    found: &mut Found,
+    found: &mut FoundNumbers,
 ) -> u32
     requires { IsSome map.old.held }
     ensures answer { IfSome map.old.held (λ held.
@@ -91,7 +91,7 @@ pub extern "C" fn smap_look_up_from(
     map: &mut MapHandle,
     line: u32,
     column: u32,
-    found: &mut Found,
+    found: &mut FoundNumbers,
 ) -> u32
     requires { IsSome map.old.held }
     ensures answer { IfSome map.old.held (λ held.

@@ -3,7 +3,7 @@ ghost use Rattle.std.specs.Prelude.{◌≡◌, IfSome, IsSome, length};
 ghost use Rattle.smap_c.specs.Many.{all_found};
 
 use crate::handles::MapHandle;
-use crate::look_up::{Found, answer_numbers};
+use crate::look_up::{FoundNumbers, answer_numbers};
 use crate::status::DONE;
 use smap_record::{Meter, ReadyMap};
 use std::alloc::Global;
@@ -11,7 +11,7 @@ use std::alloc::Global;
 /// A generated position. Both count from 0, columns in UTF-16 code units.
 #[repr(C)]
 #[derive(Clone, Copy)]
-pub struct Position {
+pub struct GeneratedPosition {
     pub line: u32,
     pub column: u32,
 }
@@ -22,8 +22,8 @@ pub struct Position {
 pub extern "C" fn smap_look_up_many(
     alloc: Global,
     map: &mut MapHandle,
-    positions: &[Position],
-    found: &mut [Found],
+    positions: &[GeneratedPosition],
+    found: &mut [FoundNumbers],
 ) -> u32
     requires held { IsSome map.old.held }
     requires places { length found.old ≡ length positions.now }
@@ -37,7 +37,12 @@ pub extern "C" fn smap_look_up_many(
 }
 
 // Looks each of these positions up.
-fn look_up_all(alloc: Global, file: &ReadyMap, positions: &[Position], found: &mut [Found])
+fn look_up_all(
+    alloc: Global,
+    file: &ReadyMap,
+    positions: &[GeneratedPosition],
+    found: &mut [FoundNumbers],
+)
     requires places { length found.old ≡ length positions.now }
     ensures { found.new ≡ all_found file.now.stated positions.now }
 {

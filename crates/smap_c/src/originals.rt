@@ -3,12 +3,12 @@ ghost use Rattle.std.specs.Prelude.{◌≡◌, ◌≢◌, ◌⊎◌, List, None,
 ghost use Rattle.smap_index.specs.Parts.{joined};
 ghost use Rattle.smap_mappings.specs.declared.mapping.Mapping.{Mapping};
 ghost use Rattle.smap_originals.specs.Generated.{generated_next};
-ghost use Rattle.smap_originals.specs.Originals.{AreOriginalsOf, place_of};
+ghost use Rattle.smap_originals.specs.Originals.{AreOriginalsOf, of_source, on_line, place_of};
 ghost use Rattle.smap_c.specs.Originals.{direction_of};
 
 use crate::handles::{MapHandle, OriginalsHandle};
 use crate::status::{DONE, NO_MEMORY, REFUSED};
-use smap_originals::{Asked, Direction, GeneratedPlace, Originals};
+use smap_originals::{Asked, GeneratedPlace, OriginalDirection, Originals};
 use smap_record::Meter;
 use std::alloc::Global;
 
@@ -78,13 +78,33 @@ pub extern "C" fn smap_generated<'a>(
     DONE
 }
 
+/// Lends the generated places of a line of this source, both from 0: by original columns, and those of one in the order
+/// of the map.
+#[unsafe(no_mangle)]
+pub extern "C" fn smap_generated_on_line<'a>(
+    alloc: Global,
+    originals: &'a mut OriginalsHandle,
+    source: u32,
+    line: u32,
+    places: &mut GeneratedPlaces<'a>,
+) -> u32
+    requires { IsSome originals.old.held }
+    ensures places { IfSome originals.old.held (λ held.
+        places.new.places.now ≡ on_line line (of_source held source)) }
+    ensures status { result ≡ 0 }
+{
+    let mut meter = Meter::new(alloc);
+    places.places = originals.lend().on_line(source, line, &mut meter);
+    DONE
+}
+
 // The direction of this number, where it has one.
-fn direction_of(number: u32) -> Option<Direction>
+fn direction_of(number: u32) -> Option<OriginalDirection>
     ensures { result ≡ direction_of number }
 {
     match number {
-        0 => Some(Direction::AtOrBefore),
-        1 => Some(Direction::AtOrAfter),
+        0 => Some(OriginalDirection::AtOrBefore),
+        1 => Some(OriginalDirection::AtOrAfter),
         _ => None,
     }
 }

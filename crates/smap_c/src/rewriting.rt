@@ -10,7 +10,7 @@ use smap_io::{ByteSource, WithoutSequences};
 use smap_lines::MOST_TEXT_BYTES;
 use smap_store::{UrlMaps, UrlTable};
 use smap_trace::{
-    Beside, Hiding, NoPlaces, RewriteFault, RewriteOptions as FrameOptions, Summary, UrlNotes,
+    Beside, Hiding, NoPlaces, RewriteFault, Summary, TraceOptions as FrameOptions, UrlNotes,
     rewrite_over,
 };
 use std::alloc::Global;
@@ -70,7 +70,7 @@ fn rewrite_places<R: ByteSource>(
     ensures { IfSome (R.seen input.old).left (λ read.
         EndsRewriting options.now table.now read output.new.bytes.items result) }
 {
-    let Ok(urls) = MapUrls::new(alloc, table.words(), table.locations()) else {
+    let Ok(urls) = MapUrls::new(alloc, table.exact(), table.locations()) else {
         return Err(RewriteFault::Memory);
     };
     let mut maps = UrlMaps { table, cut: true };

@@ -6,11 +6,11 @@ ghost use Rattle.smap_c.specs.Store.{reason_number, status_of, url_asked, value_
 ghost use Rattle.smap_c.specs.TableLook.{IsLookedUp, answer_in};
 
 use crate::handles::{MapHandle, StoreHandle};
-use crate::look_up::{Found, answer_numbers};
+use crate::look_up::{FoundNumbers, answer_numbers};
 use crate::status::{DONE, NO_MEMORY, REFUSED, WANTED};
 use crate::table_look_up::{answer_in, name_of, source_of};
 use crate::texts::{Source, Text};
-use smap_kept::{Answer, NoValue};
+use smap_kept::{KeptAnswer, NoValue};
 use smap_record::SharedMap;
 use std::alloc::{AllocError, Global};
 
@@ -33,12 +33,12 @@ pub extern "C" fn smap_store_ask(
         store.new.held ≡ Some (url_asked now url.now maps)) }
 {
     match store.lend().kept.ask(url, now) {
-        Answer::Known(()) => DONE,
-        Answer::NoneKnown(reason) => {
+        KeptAnswer::Known(()) => DONE,
+        KeptAnswer::NoneKnown(reason) => {
             *why = reason_number(reason);
             REFUSED
         }
-        Answer::Wanted => WANTED,
+        KeptAnswer::Wanted => WANTED,
     }
 }
 
@@ -81,7 +81,7 @@ pub extern "C" fn smap_store_look_up<'a>(
     line: u32,
     column: u32,
     after: bool,
-    found: &mut Found,
+    found: &mut FoundNumbers,
     source: &mut Source<'a>,
     name: &mut Text<'a>,
     why: &mut u32,
@@ -99,7 +99,7 @@ pub extern "C" fn smap_store_look_up<'a>(
 {
     let kept = &store.lend().kept;
     match kept.peek(url, now) {
-        Answer::Known(share) => {
+        KeptAnswer::Known(share) => {
             let map = share.ready();
             let answer = answer_in(alloc, map, line, column, after);
             *found = answer_numbers(answer);
@@ -107,11 +107,11 @@ pub extern "C" fn smap_store_look_up<'a>(
             name.text = name_of(map.map(), answer);
             DONE
         }
-        Answer::NoneKnown(reason) => {
+        KeptAnswer::NoneKnown(reason) => {
             *why = reason_number(reason);
             REFUSED
         }
-        Answer::Wanted => WANTED,
+        KeptAnswer::Wanted => WANTED,
     }
 }
 
@@ -163,7 +163,7 @@ fn shared(store: &mut StoreHandle, url: &[u8], now: u64) -> Option<Result<Shared
     ensures stays { store.new.held ≡ store.old.held }
 {
     match store.lend().kept.peek(url, now) {
-        Answer::Known(map) => Some(map.share()),
-        Answer::NoneKnown(_) | Answer::Wanted => None,
+        KeptAnswer::Known(map) => Some(map.share()),
+        KeptAnswer::NoneKnown(_) | KeptAnswer::Wanted => None,
     }
 }

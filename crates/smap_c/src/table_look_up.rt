@@ -5,7 +5,7 @@ ghost use Rattle.smap_c.specs.Texts.{text_or_none};
 ghost use Rattle.smap_store.specs.UrlTable.{map_under};
 
 use crate::handles::TableHandle;
-use crate::look_up::{Found, answer_numbers};
+use crate::look_up::{FoundNumbers, answer_numbers};
 use crate::status::{DONE, REFUSED};
 use crate::texts::{Source, Text, no_source, reported};
 use smap_record::{Answer, MapFile, Meter, ReadyMap};
@@ -32,7 +32,7 @@ pub extern "C" fn smap_table_look_up<'a>(
     line: u32,
     column: u32,
     options: &TableOptions,
-    found: &mut Found,
+    found: &mut FoundNumbers,
     source: &mut Source<'a>,
     name: &mut Text<'a>,
 ) -> u32

@@ -12,7 +12,7 @@ use std::alloc::Global;
 /// Makes a table without maps.
 #[unsafe(no_mangle)]
 pub extern "C" fn smap_table_new(alloc: Global, table: &mut TableHandle) -> u32
-    ensures made { result ≡ 0 → table.new.held ≡ Some (record { words = []; patterns = [] }) }
+    ensures made { result ≡ 0 → table.new.held ≡ Some (record { exact = []; patterns = [] }) }
     ensures stays { result ≢ 0 → table.new.held ≡ table.old.held }
     ensures status { (result ≡ 0) ⊎ (result ≡ 3) }
 {

@@ -14,14 +14,15 @@ mod place_urls;
 mod places;
 mod shares;
 mod sharing;
+mod spans;
 mod store;
 
 use crate::bytes::Bytes;
 use crate::counts::{Counts, smap_counts};
 use crate::frames::{FrameUrl, smap_next_frame_url};
 use crate::handles::{BytesHandle, MapHandle, TableHandle};
-use crate::look_up::{Found, smap_look_up, smap_look_up_from};
-use crate::many::{Position, smap_look_up_many};
+use crate::look_up::{FoundNumbers, smap_look_up, smap_look_up_from};
+use crate::many::{GeneratedPosition, smap_look_up_many};
 use crate::read::{smap_map_free, smap_map_read};
 use crate::status::{DONE, REFUSED};
 use crate::tables::{smap_table_add, smap_table_free, smap_table_new};
@@ -132,7 +133,7 @@ fn read_map(rt: &impl Abort, alloc: Global, text: &str, base: &str) -> Result<Ma
 fn positions_are_looked_up(rt: HostRuntime) -> Result<(), Fail> {
     let alloc = rt.alloc();
     let mut map = read_map(&rt, alloc, MAP, "")?;
-    let mut found = Found {
+    let mut found = FoundNumbers {
         kind: 9,
         generated_column: 9,
         source: 9,
@@ -147,9 +148,9 @@ fn positions_are_looked_up(rt: HostRuntime) -> Result<(), Fail> {
     assert_done(&rt, smap_look_up_from(alloc, &mut map, 1, 0, &mut found));
     assert!(&rt; found.kind == 2 && found.line == 3 && found.column == 1);
     let positions = [
-        Position { line: 0, column: 0 },
-        Position { line: 2, column: 0 },
-        Position { line: 1, column: 7 },
+        GeneratedPosition { line: 0, column: 0 },
+        GeneratedPosition { line: 2, column: 0 },
+        GeneratedPosition { line: 1, column: 7 },
     ];
     let mut answers = [found, found, found];
     assert_done(

@@ -1,6 +1,6 @@
 //! Which names generated texts declare, and which names their maps give to functions of frames.
 use smap_declarations::{
-    Declarations, DeclarationsRefusal, MOST_GENERATED_BYTES, Place, function_name,
+    DeclarationPlace, Declarations, DeclarationsRefusal, MOST_GENERATED_BYTES, function_name,
 };
 use smap_record::{MapFile, Meter};
 use std::test::Fail;
@@ -202,7 +202,7 @@ fn maps_name_functions_at_places(rt: HostRuntime) -> Result<(), Fail> {
         let map = MapFile::read(rt.alloc(), row.map.as_bytes(), None, 64)?;
         let declarations = Declarations::of_text(rt.alloc(), row.text, &map)?;
         for (function, line, column, wanted) in row.names {
-            let place = Place {
+            let place = DeclarationPlace {
                 line: *line,
                 column: *column,
             };

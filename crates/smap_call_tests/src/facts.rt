@@ -1,7 +1,7 @@
 //! What is known of why a map is refused, and of the mappings about a position.
 use crate::same::assert_same;
 use smap_explain::{
-    Beginning, Explanation, Found, Quantity, begins_as, build_facts, explain, segment_facts,
+    Beginning, Explanation, FoundValue, Quantity, begins_as, build_facts, explain, segment_facts,
 };
 use smap_mappings::{FaultKind, faulty_segment, segment_numbers};
 use smap_record::{BuildRefusal, MapFile, MapRefusal, Meter, file_parts};
@@ -103,7 +103,7 @@ fn a_mapping_past_the_next_section_is_reported(rt: HostRuntime) -> Result<(), Fa
     assert!(&rt; mapping.line == 1 && mapping.column == 12);
     let text = explanation_text(rt.alloc(), &Explanation::Build(facts))?;
     assert!(&rt; text.as_str().contains("line 1, column 12"));
-    let text = explanation_text(rt.alloc(), &Explanation::NotObject(Found::Null))?;
+    let text = explanation_text(rt.alloc(), &Explanation::NotObject(FoundValue::Null))?;
     assert!(&rt; text.as_str().contains("null"));
     Ok(())
 }

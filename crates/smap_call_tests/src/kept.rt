@@ -1,6 +1,6 @@
 //! What is kept of URLs, over random runs, as a model has it.
 use crate::kept_rows::ROWS;
-use smap_kept::{Answer, Kept, NoValue};
+use smap_kept::{Kept, KeptAnswer, NoValue};
 use std::alloc::Global;
 use std::test::Fail;
 
@@ -19,12 +19,12 @@ fn number(text: &str) -> Result<u64, Fail> {
 }
 
 // An answer as a row has it.
-fn told(alloc: Global, answer: Answer<&u64>) -> Result<String, Fail> {
+fn told(alloc: Global, answer: KeptAnswer<&u64>) -> Result<String, Fail> {
     let text = match answer {
-        Answer::Known(value) => format!(in alloc; "v{value}")?,
-        Answer::NoneKnown(NoValue::Missing) => String::from_str(alloc, "nm")?,
-        Answer::NoneKnown(NoValue::Failed) => String::from_str(alloc, "nf")?,
-        Answer::Wanted => String::from_str(alloc, "w")?,
+        KeptAnswer::Known(value) => format!(in alloc; "v{value}")?,
+        KeptAnswer::NoneKnown(NoValue::Missing) => String::from_str(alloc, "nm")?,
+        KeptAnswer::NoneKnown(NoValue::Failed) => String::from_str(alloc, "nf")?,
+        KeptAnswer::Wanted => String::from_str(alloc, "w")?,
     };
     Ok(text)
 }
@@ -68,9 +68,9 @@ fn step(alloc: Global, kept: &mut Kept<u64>, row: &str) -> Result<Option<String>
             let now = number(first)?;
             let before = told(alloc, kept.peek(url, now))?;
             let asked = match kept.ask(url, now) {
-                Answer::Known(()) => "v",
-                Answer::NoneKnown(_) => "n",
-                Answer::Wanted => "w",
+                KeptAnswer::Known(()) => "v",
+                KeptAnswer::NoneKnown(_) => "n",
+                KeptAnswer::Wanted => "w",
             };
             let after = told(alloc, kept.peek(url, now))?;
             if before.as_str() != second || !second.starts_with(asked) {

@@ -21,6 +21,8 @@ mod kept_rows;
 #[cfg(test)]
 mod lines;
 #[cfg(test)]
+mod names;
+#[cfg(test)]
 mod pieces;
 #[cfg(test)]
 mod places;

@@ -85,12 +85,12 @@ fn is_file<M: Maps>(maps: &mut M, url: &str, file: &str) -> bool {
 }
 
 // A table of one map.
-fn words(alloc: Global) -> Result<Table, Fail> {
-    let mut words = Table::new(alloc);
+fn exact(alloc: Global) -> Result<Table, Fail> {
+    let mut exact = Table::new(alloc);
     let map = MapFile::read(alloc, WORD.as_bytes(), None, 64)?;
     let url = String::from_str(alloc, "https://a.test/word.js")?;
-    match words.add(url, map) {
-        Ok(()) => Ok(words),
+    match exact.add(url, map) {
+        Ok(()) => Ok(exact),
         Err(_) => Err(Fail::from("no table")),
     }
 }
@@ -98,9 +98,9 @@ fn words(alloc: Global) -> Result<Table, Fail> {
 #[test]
 fn each_url_has_its_map(rt: HostRuntime) -> Result<(), Fail> {
     let alloc = rt.alloc();
-    let words = words(alloc)?;
+    let exact = exact(alloc)?;
     let mut locations = Locations::new(alloc);
-    assert!(&rt; add_list(alloc, &mut locations, &words, LIST).is_ok());
+    assert!(&rt; add_list(alloc, &mut locations, &exact, LIST).is_ok());
     // What is kept counts for 1,152 bytes, 1,150, 153 and 150, in the order of the rows. The second bound has room for both
     // maps, and a sixteenth of it for one URL that has none; the third for one of each.
     for (most, read, missing, kept) in [
@@ -113,7 +113,7 @@ fn each_url_has_its_map(rt: HostRuntime) -> Result<(), Fail> {
         {
             let mut maps = StoredMaps {
                 alloc,
-                words: &words,
+                exact: &exact,
                 locations: &locations,
                 cache: &mut cache,
                 loader: &mut loader,
@@ -143,15 +143,15 @@ const OF_PATTERN: [(&str, u64); 4] = [
 #[test]
 fn a_pattern_is_read_once_for_a_cut_url(rt: HostRuntime) -> Result<(), Fail> {
     let alloc = rt.alloc();
-    let words = words(alloc)?;
+    let exact = exact(alloc)?;
     let mut locations = Locations::new(alloc);
-    assert!(&rt; add_list(alloc, &mut locations, &words, "*\tall.map\n").is_ok());
+    assert!(&rt; add_list(alloc, &mut locations, &exact, "*\tall.map\n").is_ok());
     let mut cache = MapCache::new(1_000_000);
     let mut loader = Named { asked: 0 };
     for (url, asked) in OF_PATTERN {
         let mut maps = StoredMaps {
             alloc,
-            words: &words,
+            exact: &exact,
             locations: &locations,
             cache: &mut cache,
             loader: &mut loader,

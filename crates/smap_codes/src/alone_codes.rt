@@ -5,7 +5,7 @@ use crate::row::Row;
 
 pub const TEXT_TOO_LONG: &Row = &Row {
     code: Code::TextTooLong,
-    meaning: "The bare mappings text on standard input has more than 67,108,864 bytes.",
+    meaning: "The bare mappings text on standard input has more than 64 MiB (67,108,864 bytes).",
     cause: "Standard input is another file, or the text is of a very large file.",
     remedy: "Split the generated file into smaller ones.",
 };
@@ -40,7 +40,9 @@ pub const MEMORY: &Row = &Row {
 pub const USAGE: &Row = &Row {
     code: Code::Usage,
     meaning: "The arguments are no command, or one of them is not what it is to be. Status 2.",
-    cause: "An argument is missing, is one too many, or is of another form.",
+    cause: "\
+        An argument is missing, is one too many, is of another form, or excludes another \
+        (`not together`).",
     remedy: "See `smap --help`, and `smap COMMAND --help` for its arguments.",
 };
 

@@ -6,8 +6,8 @@ use crate::row::Row;
 pub const M1: &Row = &Row {
     code: Code::M1,
     meaning: "\
-        The file has more than 67,108,864 bytes, the most that a map may have. A list of maps or a \
-        composed map that is too large is also called `TooLarge`.",
+        The file has more than 64 MiB (67,108,864 bytes), the most that a map may have. A list of \
+        maps or a composed map that is too large is also called `TooLarge`.",
     cause: "The map holds the whole text of every source (`sourcesContent`) of a large bundle.",
     remedy: "\
         Leave the texts of the sources out of the map, or split the generated file into smaller \
@@ -116,7 +116,8 @@ pub const M12: &Row = &Row {
 
 pub const M13: &Row = &Row {
     code: Code::M13,
-    meaning: "The key `mappings` is missing, or is no string, or has more than 67,108,864 bytes.",
+    meaning: "\
+        The key `mappings` is missing, or is no string, or has more than 64 MiB (67,108,864 bytes).",
     cause: "The writer wrote the mappings as a list, or left them out since there are none.",
     remedy: "Write them as one string in Base64 VLQ, which is empty where there are none.",
 };

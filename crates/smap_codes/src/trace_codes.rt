@@ -38,7 +38,7 @@ pub const P1: &Row = &Row {
 
 pub const P2: &Row = &Row {
     code: Code::P2,
-    meaning: "A line of standard input has more than 65,536 bytes, which is no position.",
+    meaning: "A line of standard input has more than 64 KiB (65,536 bytes), which is no position.",
     cause: "Standard input is another file, or has lost its line ends.",
     remedy: "Write a position a line.",
 };
@@ -59,7 +59,8 @@ pub const X2: &Row = &Row {
 
 pub const X3: &Row = &Row {
     code: Code::X3,
-    meaning: "Standard input has more than 1,073,741,824 bytes, or more than `--limit` says.",
+    meaning: "\
+        Standard input has more than 1 GiB (1,073,741,824 bytes), or more than `--limit` says.",
     cause: "It is a log that is very long or never ends.",
     remedy: "Ask for more with `--limit`, or hand the text over in parts.",
 };

@@ -5,7 +5,8 @@ use crate::row::Row;
 
 pub const O1: &Row = &Row {
     code: Code::O1,
-    meaning: "The mappings to be written, as one string, would have more than 67,108,864 bytes.",
+    meaning: "\
+        The mappings to be written, as one string, would have more than 64 MiB (67,108,864 bytes).",
     cause: "A section stands at a very great line, since each line that is passed takes a byte.",
     remedy: "Correct the offset of the section, or split the generated file into smaller ones.",
 };
@@ -28,7 +29,7 @@ pub const C2: &Row = &Row {
     code: Code::C2,
     meaning: "\
         The composed map would have more than 33,554,432 sources or names, or mappings of more than \
-        67,108,864 bytes.",
+        64 MiB (67,108,864 bytes).",
     cause: "The maps are very large together.",
     remedy: "Leave out with `--prune` what no mapping has, or compose fewer maps.",
 };
@@ -66,7 +67,8 @@ pub const E2: &Row = &Row {
 pub const E3: &Row = &Row {
     code: Code::E3,
     meaning: "\
-        The text of the mappings that are to be encoded would have more than 67,108,864 bytes.",
+        The text of the mappings that are to be encoded would have more than 64 MiB \
+        (67,108,864 bytes).",
     cause: "There are very many mappings, or the last stands at a very great line.",
     remedy: "Encode fewer mappings at once.",
 };

@@ -1,7 +1,7 @@
 -- The code's numbers are those of the definitions.
 use Rattle.std.proofs.Common.{◌≡◌, refl}
 use Rattle.smap_command.specs.Limits.{limit, most_bytes, most_context, most_hidden, most_interval, usual_cache_bytes, usual_interval, usual_limit_bytes}
-use Rattle.smap_command.specs.declared.limits.TheConstants.{LIMIT, MOST_BYTES, MOST_CONTEXT, MOST_HIDDEN, MOST_INTERVAL, USUAL_CACHE_BYTES, USUAL_INTERVAL, USUAL_LIMIT_BYTES}
+use Rattle.smap_command.specs.declared.limits.TheConstants.{LIMIT, MOST_OPTION_BYTES, MOST_CONTEXT, MOST_HIDDEN, MOST_INTERVAL, USUAL_CACHE_BYTES, USUAL_INTERVAL, USUAL_LIMIT_BYTES}
 
 limit_is : LIMIT ≡ limit
 limit_is = refl
@@ -18,7 +18,7 @@ most_hidden_is = refl
 most_context_is : MOST_CONTEXT ≡ most_context
 most_context_is = refl
 
-most_bytes_is : MOST_BYTES ≡ most_bytes
+most_bytes_is : MOST_OPTION_BYTES ≡ most_bytes
 most_bytes_is = refl
 
 usual_cache_bytes_is : USUAL_CACHE_BYTES ≡ usual_cache_bytes

@@ -74,7 +74,7 @@ pub struct Locate {
     pub list: Option<String>,
     /// Whether the sources of a map whose URL is a path are named by paths that go on from its folder.
     pub paths: bool,
-    /// How many bytes the files may have whose maps are kept for when a line names them again: 0 to `MOST_BYTES`, and
+    /// How many bytes the files may have whose maps are kept for when a line names them again: 0 to `MOST_OPTION_BYTES`, and
     /// `USUAL_CACHE_BYTES` where nothing else is asked for.
     pub cache_bytes: Option<u64>,
     pub options: AnswerOptions,

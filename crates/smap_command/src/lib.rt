@@ -20,8 +20,8 @@ pub use asked::{
 };
 pub use command::Command;
 pub use limits::{
-    LIMIT, MOST_BYTES, MOST_CONTEXT, MOST_HIDDEN, MOST_INTERVAL, USUAL_CACHE_BYTES, USUAL_INTERVAL,
-    USUAL_LIMIT_BYTES,
+    LIMIT, MOST_CONTEXT, MOST_HIDDEN, MOST_INTERVAL, MOST_OPTION_BYTES, USUAL_CACHE_BYTES,
+    USUAL_INTERVAL, USUAL_LIMIT_BYTES,
 };
 pub use options::{
     AnswerOptions, CheckOptions, Direction, FitOptions, Form, FurtherOptions, LookupOptions,

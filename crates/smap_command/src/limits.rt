@@ -16,7 +16,7 @@ pub const MOST_HIDDEN: usize = 16;
 pub const MOST_CONTEXT: u32 = 100;
 
 /// The greatest number of bytes that may be kept, and that may be taken.
-pub const MOST_BYTES: u64 = 9223372036854775807;
+pub const MOST_OPTION_BYTES: u64 = 9223372036854775807;
 
 /// How many bytes of files are kept as maps where nothing else is asked for.
 pub const USUAL_CACHE_BYTES: u64 = 1073741824;

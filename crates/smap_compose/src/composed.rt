@@ -23,7 +23,7 @@ use crate::parts::Parts;
 use crate::refusal::ComposeRefusal;
 use smap_index::laws::one_text_is_its_mappings;
 use smap_mappings::laws::lists_in_order_have_no_fault;
-use smap_mappings::{MOST_BYTES, TextWriter};
+use smap_mappings::{MOST_MAPPINGS_BYTES, TextWriter};
 use smap_record::{MapFile, Mapping, SourceEntry, copied_text, write_owned, write_record};
 use std::alloc::{AllocError, Global};
 use std::marker::Model;
@@ -87,7 +87,7 @@ fn text_of(alloc: Global, mappings: &[Mapping]) -> Result<String, AllocError>
 {
     lists_in_order_have_no_fault();
     let room = mappings.len().saturating_mul(ROOM_OF_MAPPING);
-    let mut writer = TextWriter::with_capacity(alloc, room.min(MOST_BYTES))?;
+    let mut writer = TextWriter::with_capacity(alloc, room.min(MOST_MAPPINGS_BYTES))?;
     for mapping in mappings {
         writer.push(mapping)?;
     }

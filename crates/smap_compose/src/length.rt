@@ -7,7 +7,7 @@ ghost use Rattle.smap_mappings.specs.Writing.{IsLengthOf};
 ghost use Rattle.smap_compose.specs.Private.Length.{line_of};
 
 use smap_mappings::laws::lists_in_order_have_no_fault;
-use smap_mappings::{MOST_BYTES, TextLength};
+use smap_mappings::{MOST_MAPPINGS_BYTES, TextLength};
 use smap_record::Mapping;
 
 // How many bytes a mapping adds to a canonical text at most, beside a `;` for each line that is passed: a `,` and five
@@ -31,7 +31,7 @@ pub fn is_text_too_long(mappings: &[Mapping]) -> bool
 fn have_few_bytes(count: u64, line: u64) -> bool
     ensures { IsTrue result → 36 * count + line ≤ most_text_bytes }
 {
-    let most = MOST_BYTES as u64;
+    let most = MOST_MAPPINGS_BYTES as u64;
     line <= most && count <= (most - line) / MOST_MAPPING_BYTES
 }
 

@@ -4,9 +4,9 @@ use Rattle.std.specs.List.Sorted.{IsPermutation}
 use Rattle.std.proofs.lemmas.List.Sorted.{Contains-permutation, IsPermutation-sym}
 use Rattle.smap_declarations.specs.Declarations.{Named}
 use Rattle.smap_declarations.specs.Frames.{Decides, IsLast, IsNameOf, IsNone, name_by}
-use Rattle.smap_declarations.specs.declared.walk.Place.{Place}
+use Rattle.smap_declarations.specs.declared.walk.DeclarationPlace.{DeclarationPlace}
 
-module _ (all kept : List Named) (same : IsPermutation all kept) (name : List ℕ) (place : Place) where
+module _ (all kept : List Named) (same : IsPermutation all kept) (name : List ℕ) (place : DeclarationPlace) where
   none_in_all : IsNone kept name place → IsNone all name place
   none_in_all none named among of = none named (Contains-permutation all kept named same among) of
 

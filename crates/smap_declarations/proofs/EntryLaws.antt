@@ -6,7 +6,7 @@ use Rattle.smap_declarations.specs.Declarations.{Named}
 use Rattle.smap_declarations.specs.Private.Entries.{AreWithin, Grows, IsWithin, entries_named, entry_named, name_at}
 use Rattle.smap_declarations.specs.declared.given.Given.{Given}
 use Rattle.smap_declarations.specs.declared.name_list.Entry.{Entry}
-use Rattle.smap_declarations.specs.declared.walk.Place.{Place}
+use Rattle.smap_declarations.specs.declared.walk.DeclarationPlace.{DeclarationPlace}
 
 name_kept : (old more : List ℕ) (start count : ℕ) → start + count ≤ length old → name_at (old ++ more) start count ≡ name_at old start count
 name_kept old more start count within =
@@ -24,7 +24,7 @@ entries_kept old more (entry ∷ entries) within =
     (entries_kept old more entries (All-tail (IsWithin old) entry entries within))
 
 -- one more entry, of a name that stands in the buffer
-pub one_more : (old new : List ℕ) (entries more : List Entry) (start count : ℕ) (name : List ℕ) (place : Place) (given : Given) → Grows old new → AreWithin old entries
+pub one_more : (old new : List ℕ) (entries more : List Entry) (start count : ℕ) (name : List ℕ) (place : DeclarationPlace) (given : Given) → Grows old new → AreWithin old entries
     → name_at new start count ≡ name
     → more ≡ entries ++ (record { start = start; length = count; place = place; given = given }) ∷ []
     → entries_named new more ≡ entries_named old entries ++ (record { name = name; place = place; given = given }) ∷ []

@@ -8,7 +8,7 @@ use Rattle.smap_declarations.specs.Frames.{function_name}
 use Rattle.smap_declarations.specs.Functions.{begins_function, begins_plainly, is_assigned, is_key, is_method}
 use Rattle.smap_declarations.specs.Walk.{before_after, origin, place_after, start}
 use Rattle.smap_declarations.specs.declared.brackets.Behind.TheVariants.{Arrow, Body, Other}
-use Rattle.smap_declarations.specs.declared.walk.Place.{Place}
+use Rattle.smap_declarations.specs.declared.walk.DeclarationPlace.{DeclarationPlace}
 
 -- ---- brackets
 
@@ -64,7 +64,7 @@ no_map : MapRecord
 no_map = record { parts = []; sources = []; names = []; file = None }
 
 -- the names of a text, each with its place
-abbrev told : List ℕ → List (List ℕ × Place)
+abbrev told : List ℕ → List (List ℕ × DeclarationPlace)
 told text = map (λ (n : Named). (n.name, n.place)) (named_from no_map start origin text)
 
 a_text_declares : told (codes "function a(){}" ++ 0x0D ∷ 0x0A ∷ codes "b=()=>1")

@@ -2,6 +2,7 @@ pub mod BracketLaws
 pub mod DecidingLaws
 pub mod EntryLaws
 mod Examples
+pub mod LastLaws
 pub mod NamingLaws
 pub mod OrderLaws
 pub mod PassingLaws

@@ -5,9 +5,9 @@ use Rattle.smap_record.specs.Record.{MapRecord}
 use Rattle.smap_declarations.specs.Declarations.{name_here, named_from}
 use Rattle.smap_declarations.specs.Walk.{before_after, ends_line, place_after, units_at}
 use Rattle.smap_declarations.specs.declared.walk.Before.{Before}
-use Rattle.smap_declarations.specs.declared.walk.Place.{Place}
+use Rattle.smap_declarations.specs.declared.walk.DeclarationPlace.{DeclarationPlace}
 
-pub first_named : (stated : MapRecord) (before : Before) (place : Place) (c : ℕ) (text : List ℕ)
+pub first_named : (stated : MapRecord) (before : Before) (place : DeclarationPlace) (c : ℕ) (text : List ℕ)
     → named_from stated before place (c ∷ text)
     ≡ option_to_list (name_here stated before place c (c ∷ text))
     ++ named_from stated (before_after before c (c ∷ text)) (place_after place c text) text
@@ -22,18 +22,18 @@ at_most_two c false true d = omega arith
 at_most_two c false false true = omega arith
 at_most_two c false false false = omega arith
 
-ended : Place → Place
+ended : DeclarationPlace → DeclarationPlace
 ended place = record { line = place.line + 1; column = 0 }
 
-passed : Place → (units : ℕ) → Place
+passed : DeclarationPlace → (units : ℕ) → DeclarationPlace
 passed place units = record { line = place.line; column = place.column + units }
 
-either : (place : Place) (units : ℕ) → units ≤ 2 → (b : Bool) (after : Place) → after ≡ cond b (ended place) (passed place units)
+either : (place : DeclarationPlace) (units : ℕ) → units ≤ 2 → (b : Bool) (after : DeclarationPlace) → after ≡ cond b (ended place) (passed place units)
     → (after.line ≤ place.line + 1) × (after.column ≤ place.column + 2)
 unfolding ended passed
-either place units few true after is = let line = ap (λ (p : Place). p.line) is in let column = ap (λ (p : Place). p.column) is in (omega arith, omega arith)
-either place units few false after is = let line = ap (λ (p : Place). p.line) is in let column = ap (λ (p : Place). p.column) is in (omega arith, omega arith)
+either place units few true after is = let line = ap (λ (p : DeclarationPlace). p.line) is in let column = ap (λ (p : DeclarationPlace). p.column) is in (omega arith, omega arith)
+either place units few false after is = let line = ap (λ (p : DeclarationPlace). p.line) is in let column = ap (λ (p : DeclarationPlace). p.column) is in (omega arith, omega arith)
 
-pub further : (place : Place) (c : ℕ) (text : List ℕ) → ((place_after place c text).line ≤ place.line + 1) × ((place_after place c text).column ≤ place.column + 2)
+pub further : (place : DeclarationPlace) (c : ℕ) (text : List ℕ) → ((place_after place c text).line ≤ place.line + 1) × ((place_after place c text).column ≤ place.column + 2)
 unfolding place_after ended passed
 further place c text = either place (units_at c) (at_most_two c (nat_lt c 0x80) (nat_lt c 0xC0) (nat_lt c 0xF0)) (ends_line c text) (place_after place c text) refl

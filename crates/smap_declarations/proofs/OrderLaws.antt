@@ -27,12 +27,12 @@ use Rattle.smap_declarations.specs.Private.Order.{IsInOrder, by_name, is_up_to, 
 use Rattle.smap_declarations.specs.Walk.{is_at_or_before}
 use Rattle.smap_declarations.specs.declared.given.Given.TheVariants as given
 use Rattle.smap_declarations.specs.declared.naming.Found.{Found}
-use Rattle.smap_declarations.specs.declared.walk.Place.{Place}
+use Rattle.smap_declarations.specs.declared.walk.DeclarationPlace.{DeclarationPlace}
 
 -- ---- the orders are total
 
 place_total : IsTotalOrder place_cmp
-place_total = then_total (on_total (λ (p : Place). p.line) nat_cmp_total) (on_total (λ (p : Place). p.column) nat_cmp_total)
+place_total = then_total (on_total (λ (p : DeclarationPlace). p.line) nat_cmp_total) (on_total (λ (p : DeclarationPlace). p.column) nat_cmp_total)
 
 named_total : IsTotalOrder named_cmp
 named_total = then_total (on_total (λ (n : Named). n.name) nat_list_cmp_total) (on_total (λ (n : Named). n.place) place_total)
@@ -48,12 +48,12 @@ by_lines false true o = refl
 by_lines false false o = refl
 
 -- a place is not after another
-not_after : (p q : Place) → is_le (place_cmp p q) ≡ is_at_or_before p q
+not_after : (p q : DeclarationPlace) → is_le (place_cmp p q) ≡ is_at_or_before p q
 not_after p q =
     by_lines (nat_lt p.line q.line) (nat_eq p.line q.line) (nat_cmp p.column q.column)
     ∙ ap (λ b. nat_lt p.line q.line || (nat_eq p.line q.line && b)) (le_of_numbers p.column q.column)
 
-target : (name : List ℕ) → Place → Named
+target : (name : List ℕ) → DeclarationPlace → Named
 target name place = record { name = name; place = place; given = given.Nothing }
 
 by_name_then : (o s : Ordering) → is_le (ordering_then o s) ≡ by_name o (is_le s)
@@ -61,7 +61,7 @@ by_name_then Less s = refl
 by_name_then Equal s = refl
 by_name_then Greater s = refl
 
-up_to_is : (name : List ℕ) (place : Place) (n : Named) → is_le (named_cmp n (target name place)) ≡ is_up_to name place n
+up_to_is : (name : List ℕ) (place : DeclarationPlace) (n : Named) → is_le (named_cmp n (target name place)) ≡ is_up_to name place n
 unfolding target
 up_to_is name place n =
     by_name_then (slice_cmp nat_cmp n.name name) (place_cmp n.place place)
@@ -89,7 +89,7 @@ from_high Less high = absurd (omega arith)
 from_high Equal high = absurd (omega arith)
 from_high Greater high = refl
 
-module _ (name : List ℕ) (place : Place) (all : List Named) (ordered : IsInOrder all) where
+module _ (name : List ℕ) (place : DeclarationPlace) (all : List Named) (ordered : IsInOrder all) where
   rank : Named → ℕ
   rank n = ordering_index (named_cmp n (target name place))
 
@@ -133,12 +133,12 @@ other_name : (a b : List ℕ) → slice_cmp nat_cmp a b ≡ Equal → bytes_eq a
 other_name a b same = sym (is_eq-slice_cmp a b) ∙ ap is_eq same
 
 -- what is of a name at a place stands up to it
-of_is_up_to : (name : List ℕ) (place : Place) (n : Named) → is_of name place n ≡ true → is_up_to name place n ≡ true
+of_is_up_to : (name : List ℕ) (place : DeclarationPlace) (n : Named) → is_of name place n ≡ true → is_up_to name place n ≡ true
 of_is_up_to name place n of =
     let parts = and_parts (bytes_eq n.name name) (is_at_or_before n.place place) of in
     ap (λ o. by_name o (is_at_or_before n.place place)) (same_name n.name name parts.0) ∙ parts.1
 
-up_to_is_of : (name : List ℕ) (place : Place) (n : Named) → bytes_eq n.name name ≡ true → is_up_to name place n ≡ true → is_of name place n ≡ true
+up_to_is_of : (name : List ℕ) (place : DeclarationPlace) (n : Named) → bytes_eq n.name name ≡ true → is_up_to name place n ≡ true → is_of name place n ≡ true
 up_to_is_of name place n same is =
     and_from (bytes_eq n.name name) (is_at_or_before n.place place) same
     (sym (ap (λ o. by_name o (is_at_or_before n.place place)) (same_name n.name name same)) ∙ is)
@@ -155,10 +155,10 @@ in_turn m n same ordered =
     turned Equal back is later = ap is_le is
     turned Greater back is later = ap is_le is
 
-module _ (name : List ℕ) (place : Place) (all : List Named) (ordered : IsInOrder all) (end : ℕ) (within : end ≤ length all)
+module _ (name : List ℕ) (place : DeclarationPlace) (all : List Named) (ordered : IsInOrder all) (end : ℕ) (within : end ≤ length all)
     (above : AllWithin (λ named. is_up_to name place named ≡ false) all end (length all)) where
   -- what is of the name stands before the end
-  before_end : (n : Named) (k : ℕ) → k < length all → get_or all k n ≡ n → is_of name place n ≡ true → k < end
+  pub before_end : (n : Named) (k : ℕ) → k < length all → get_or all k n ≡ n → is_of name place n ≡ true → k < end
   before_end n k inside there of = past (cases_lt k end)
     where
       past : (k < end) ⊎ (end ≤ k) → k < end

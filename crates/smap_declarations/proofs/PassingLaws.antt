@@ -13,14 +13,14 @@ use Rattle.smap_declarations.specs.Private.Passing.{IsPastWord, is_ascii}
 use Rattle.smap_declarations.specs.Walk.{before_after, begins_word, ends_line, is_separator_behind, keyword_of, keyword_past, place_after, units_at}
 use Rattle.smap_declarations.specs.declared.walk.Before.{Before}
 use Rattle.smap_declarations.specs.declared.walk.Keyword.{Keyword}
-use Rattle.smap_declarations.specs.declared.walk.Place.{Place}
+use Rattle.smap_declarations.specs.declared.walk.DeclarationPlace.{DeclarationPlace}
 use Rattle.smap_declarations.proofs.BracketLaws.{past_other, past_word}
 use Rattle.smap_declarations.proofs.NamingLaws.{first_named, further}
 
 behind_byte : ℕ → Option Keyword → Before
 behind_byte byte keyword = record { byte = byte; keyword = keyword }
 
-moved : Place → ℕ → Place
+moved : DeclarationPlace → ℕ → DeclarationPlace
 moved place units = record { line = place.line; column = place.column + units }
 
 -- ---- a letter within a word
@@ -36,7 +36,7 @@ letter_ends_no_line c text word ascii =
     (apart c 0x0A refl word (nat_eq c 0x0A) refl) (apart c 0x0D refl word (nat_eq c 0x0D) refl)
     ∙ ap (λ x. x && is_separator_behind text) (ne_eqb c 0xE2 (λ is. absurd (omega arith)))
 
-letter_is_a_unit : (place : Place) (c : ℕ) (text : List ℕ) → is_word_byte c ≡ true → is_ascii c ≡ true → place_after place c text ≡ moved place 1
+letter_is_a_unit : (place : DeclarationPlace) (c : ℕ) (text : List ℕ) → is_word_byte c ≡ true → is_ascii c ≡ true → place_after place c text ≡ moved place 1
 unfolding place_after moved
 letter_is_a_unit place c text word ascii =
     ap (λ b. cond b (record { line = place.line + 1; column = 0 }) (record { line = place.line; column = place.column + units_at c })) (letter_ends_no_line c text word ascii)
@@ -65,11 +65,11 @@ unfolding before_after behind_byte
 behind_other before c text other =
     ap₂ (λ b w. behind_byte c (cond b (keyword_of (word_in text)) (cond w before.keyword (keyword_past before.keyword c)))) (other_begins_none before c other) other
 
-no_name : (stated : MapRecord) (before : Before) (place : Place) (c : ℕ) (text : List ℕ) → begins_word before c ≡ false → name_here stated before place c text ≡ None
+no_name : (stated : MapRecord) (before : Before) (place : DeclarationPlace) (c : ℕ) (text : List ℕ) → begins_word before c ≡ false → name_here stated before place c text ≡ None
 no_name stated before place c text none = ap (λ b. cond b (name_in stated before place text) None) none
 
 -- where nothing begins, what comes is what comes behind the byte
-nothing_here : (stated : MapRecord) (before : Before) (place : Place) (c : ℕ) (text : List ℕ) → begins_word before c ≡ false
+nothing_here : (stated : MapRecord) (before : Before) (place : DeclarationPlace) (c : ℕ) (text : List ℕ) → begins_word before c ≡ false
     → named_from stated before place (c ∷ text) ≡ named_from stated (before_after before c (c ∷ text)) (place_after place c text) text
 nothing_here stated before place c text none =
     first_named stated before place c text
@@ -80,7 +80,7 @@ EndsWord : List ℕ → Type 0
 EndsWord [] = Unit {0}
 EndsWord (c ∷ text) = is_word_byte c ≡ false
 
-forget : (stated : MapRecord) (a b : ℕ) (keyword : Option Keyword) (place : Place) (rest : List ℕ) → EndsWord rest
+forget : (stated : MapRecord) (a b : ℕ) (keyword : Option Keyword) (place : DeclarationPlace) (rest : List ℕ) → EndsWord rest
     → named_from stated (behind_byte a keyword) place rest ≡ named_from stated (behind_byte b keyword) place rest
 unfolding behind_byte EndsWord named_from
 forget stated a b keyword place [] ends = refl
@@ -94,7 +94,7 @@ forget stated a b keyword place (c ∷ text) other =
 
 -- ---- the letters of a word
 
-letters : (stated : MapRecord) (a b : ℕ) (keyword : Option Keyword) (place : Place) (word rest : List ℕ) → is_word_byte b ≡ true
+letters : (stated : MapRecord) (a b : ℕ) (keyword : Option Keyword) (place : DeclarationPlace) (word rest : List ℕ) → is_word_byte b ≡ true
     → list_all is_word_byte word ≡ true → list_all is_ascii word ≡ true → EndsWord rest
     → named_from stated (behind_byte b keyword) place (word ++ rest) ≡ named_from stated (behind_byte a keyword) (moved place (length word)) rest
 unfolding behind_byte moved
@@ -107,7 +107,7 @@ letters stated a b keyword place (c ∷ word) rest inside words ascii ends =
     let before = behind_byte b keyword in
     let column : place.column + 1 + length word ≡ place.column + suc (length word) = omega arith in
     nothing_here stated before place c (word ++ rest) (inside_begins_none before c inside)
-    ∙ ap₂ (λ (x : Before) (p : Place). named_from stated x p (word ++ rest)) (inside_stays before c (c ∷ (word ++ rest)) inside both.0)
+    ∙ ap₂ (λ (x : Before) (p : DeclarationPlace). named_from stated x p (word ++ rest)) (inside_stays before c (c ∷ (word ++ rest)) inside both.0)
     (letter_is_a_unit place c (word ++ rest) both.0 low.0)
     ∙ letters stated a c keyword (moved place 1) word rest both.0 both.1 low.1 ends
     ∙ ap (λ n. named_from stated (behind_byte a keyword) (record { line = place.line; column = n }) rest) column
@@ -155,7 +155,7 @@ begun : (before : Before) (c : ℕ) → begins_word before c ≡ true → is_wor
 begun before c begins = (and_parts (is_word_byte c) (not (is_word_byte before.byte)) begins).0
 
 -- what comes where a word begins
-word_here : (stated : MapRecord) (before : Before) (place : Place) (c : ℕ) (text : List ℕ) → begins_word before c ≡ true
+word_here : (stated : MapRecord) (before : Before) (place : DeclarationPlace) (c : ℕ) (text : List ℕ) → begins_word before c ≡ true
     → named_from stated before place (c ∷ text)
     ≡ option_to_list (name_in stated before place (c ∷ text)) ++ named_from stated (before_after before c (c ∷ text)) (place_after place c text) text
 word_here stated before place c text begins =
@@ -167,7 +167,7 @@ unfolding before_after behind_byte
 begins_with before c text begins =
     ap (λ b. behind_byte c (cond b (keyword_of (word_in text)) (cond (is_word_byte c) before.keyword (keyword_past before.keyword c)))) begins
 
-names_past_word : (stated : MapRecord) (before : Before) (place : Place) (c : ℕ) (text : List ℕ) → begins_word before c ≡ true
+names_past_word : (stated : MapRecord) (before : Before) (place : DeclarationPlace) (c : ℕ) (text : List ℕ) → begins_word before c ≡ true
     → list_all is_ascii (word_in (c ∷ text)) ≡ true
     → named_from stated before place (c ∷ text)
     ≡ option_to_list (name_in stated before place (c ∷ text))
@@ -182,7 +182,7 @@ names_past_word stated before place c text begins ascii =
     let column : place.column + 1 + length (word_in text) ≡ place.column + length (word_in (c ∷ text)) = omega (arith, long) in
     word_here stated before place c text begins
     ∙ ap (λ l. option_to_list (name_in stated before place (c ∷ text)) ++ l)
-    (ap₂ (λ (x : Before) (p : Place). named_from stated x p text) (begins_with before c (c ∷ text) begins) (letter_is_a_unit place c text word low.0)
+    (ap₂ (λ (x : Before) (p : DeclarationPlace). named_from stated x p text) (begins_with before c (c ∷ text) begins) (letter_is_a_unit place c text word low.0)
     ∙ ap (named_from stated (behind_byte c keyword) (moved place 1)) (sym (word_is_whole text))
     ∙ letters stated c c keyword (moved place 1) (word_in text) (behind_word text) word (all_of_a_word text) low.1 (ends text)
     ∙ ap₂ (λ (n : ℕ) (r : List ℕ). named_from stated (behind_byte c keyword) (record { line = place.line; column = n }) r) column (sym parts.1))
@@ -191,7 +191,7 @@ pub word_fits : (text : List ℕ) → length (word_in text) ≤ length text
 word_fits text = omega (arith, ap length (word_is_whole text), length-append (word_in text) (behind_word text))
 
 -- the word is passed
-pub word_passed : (before : Before) (place : Place) (c : ℕ) (text rest : List ℕ) (keyword : Option Keyword) (units : ℕ) (after : List ℕ)
+pub word_passed : (before : Before) (place : DeclarationPlace) (c : ℕ) (text rest : List ℕ) (keyword : Option Keyword) (units : ℕ) (after : List ℕ)
     → rest ≡ c ∷ text → begins_word before c ≡ true → list_all is_ascii (word_in rest) ≡ true
     → keyword ≡ keyword_of (word_in rest) → units ≡ length (word_in rest) → after ≡ behind_word rest
     → IsPastWord before place rest (record { byte = c; keyword = keyword }) (record { line = place.line; column = place.column + units }) after
@@ -217,14 +217,14 @@ word_passed before place c text rest keyword units after rest_is begins ascii ke
     }
 
 -- its first byte is passed
-pub byte_passed : (before before' : Before) (place place' : Place) (c : ℕ) (text rest rest' : List ℕ)
+pub byte_passed : (before before' : Before) (place place' : DeclarationPlace) (c : ℕ) (text rest rest' : List ℕ)
     → rest ≡ c ∷ text → begins_word before c ≡ true
     → before' ≡ before_after before c rest → place' ≡ place_after place c text → rest' ≡ text
     → IsPastWord before place rest before' place' rest'
 byte_passed before before' place place' c text rest rest' rest_is begins before_is place_is left =
     let far = further place c text in
-    let line = ap (λ (p : Place). p.line) place_is in
-    let column = ap (λ (p : Place). p.column) place_is in
+    let line = ap (λ (p : DeclarationPlace). p.line) place_is in
+    let column = ap (λ (p : DeclarationPlace). p.column) place_is in
     let long = ap length rest_is in
     let cut = ap length left in
     record {
@@ -232,7 +232,7 @@ byte_passed before before' place place' c text rest rest' rest_is begins before_
           ap (named_from stated before place) rest_is
           ∙ word_here stated before place c text begins
           ∙ sym (ap (λ r. option_to_list (name_in stated before place r) ++ named_from stated (before_after before c r) (place_after place c text) text) rest_is)
-          ∙ ap₂ (λ (x : Before) (p : Place). option_to_list (name_in stated before place rest) ++ named_from stated x p text) (sym before_is) (sym place_is)
+          ∙ ap₂ (λ (x : Before) (p : DeclarationPlace). option_to_list (name_in stated before place rest) ++ named_from stated x p text) (sym before_is) (sym place_is)
           ∙ ap (λ r. option_to_list (name_in stated before place rest) ++ named_from stated before' place' r) (sym left);
       brackets = ap behind_brackets left ∙ sym (past_other c text (apart c 0x28 refl (begun before c begins) (nat_eq c 0x28) refl)) ∙ ap behind_brackets (sym rest_is);
       shorter = omega (arith, long, cut);
@@ -241,12 +241,12 @@ byte_passed before before' place place' c text rest rest' rest_is begins before_
     }
 
 -- a byte is passed where no word begins
-pub other_passed : (stated : MapRecord) (before before' : Before) (place place' : Place) (c : ℕ) (text rest rest' : List ℕ)
+pub other_passed : (stated : MapRecord) (before before' : Before) (place place' : DeclarationPlace) (c : ℕ) (text rest rest' : List ℕ)
     → rest ≡ c ∷ text → begins_word before c ≡ false
     → before' ≡ before_after before c rest → place' ≡ place_after place c text → rest' ≡ text
     → named_from stated before' place' rest' ≡ named_from stated before place rest
 other_passed stated before before' place place' c text rest rest' rest_is none before_is place_is left =
     ap (named_from stated before' place') left
-    ∙ ap₂ (λ (x : Before) (p : Place). named_from stated x p text) (before_is ∙ ap (before_after before c) rest_is) place_is
+    ∙ ap₂ (λ (x : Before) (p : DeclarationPlace). named_from stated x p text) (before_is ∙ ap (before_after before c) rest_is) place_is
     ∙ sym (nothing_here stated before place c text none)
     ∙ sym (ap (named_from stated before place) rest_is)

@@ -13,12 +13,12 @@ use Rattle.smap_declarations.specs.declared.given.Given.TheVariants as given
 use Rattle.smap_declarations.specs.declared.kind.Kind.{Kind}
 use Rattle.smap_declarations.specs.declared.kind.Kind.TheVariants.{Declaration, Property}
 use Rattle.smap_declarations.specs.declared.walk.Before.{Before}
-use Rattle.smap_declarations.specs.declared.walk.Place.{Place}
+use Rattle.smap_declarations.specs.declared.walk.DeclarationPlace.{DeclarationPlace}
 
 -- what is told of a name in a text: the name, the place of its first byte, and what the map gives it
 pub record Named : Type 0 where
   pub name : List ℕ
-  pub place : Place
+  pub place : DeclarationPlace
   pub given : Given
 
 -- a statement begins with this word and brackets, and ends with a block; or a function that has no name does
@@ -60,24 +60,24 @@ given_at column (Unmapped there) = given.Nothing
 given_at column (Found there origin) = if there == column then given_by origin.name else given.Nothing
 
 -- what a declaration has; a property has nothing
-unfoldable pub given_to : MapRecord → Place → Kind → Given
+unfoldable pub given_to : MapRecord → DeclarationPlace → Kind → Given
 given_to stated place Declaration = given_at place.column (answer_of_map stated place.line place.column)
 given_to stated place Property = given.Nothing
 
 -- ---- all of a text
 
 -- what is told of the word that begins this text
-abbrev pub named_as : MapRecord → Place → (word : List ℕ) → Kind → Named
+abbrev pub named_as : MapRecord → DeclarationPlace → (word : List ℕ) → Kind → Named
 named_as stated place word kind = record { name = word; place = place; given = given_to stated place kind }
 
-unfoldable pub name_in : MapRecord → Before → Place → (text : List ℕ) → Option Named
+unfoldable pub name_in : MapRecord → Before → DeclarationPlace → (text : List ℕ) → Option Named
 name_in stated before place text = option_map (named_as stated place (word_in text)) (kind_of before (word_in text) (behind_word text))
 
-abbrev pub name_here : MapRecord → Before → Place → (c : ℕ) → (text : List ℕ) → Option Named
+abbrev pub name_here : MapRecord → Before → DeclarationPlace → (c : ℕ) → (text : List ℕ) → Option Named
 name_here stated before place c text = if begins_word before c then name_in stated before place text else None
 
 -- the declarations and properties from here on, in order
-unfoldable pub named_from : MapRecord → Before → Place → List ℕ → List Named
+unfoldable pub named_from : MapRecord → Before → DeclarationPlace → List ℕ → List Named
 named_from stated before place [] = []
 named_from stated before place (c ∷ text) =
     option_to_list (name_here stated before place c (c ∷ text))

@@ -1,5 +1,5 @@
 -- The name of a frame's function.
-use Rattle.std.specs.Prelude.{◌≡◌, ℕ, List, Option, Some, None, Bool, true, not, ◌&&◌, if◌then◌else◌, codes, slice_get, option_and_then, length, drop, nat_eq, MatchOption}
+use Rattle.std.specs.Prelude.{◌≡◌, ℕ, List, [], ◌∷◌, Option, Some, None, Bool, true, not, ◌&&◌, if◌then◌else◌, codes, slice_get, option_and_then, length, drop, nat_eq, MatchOption}
 use Rattle.std.specs.List.{Contains, list_all, starts_with}
 use Rattle.std.specs.Str.{bytes_eq}
 use Rattle.smap_declarations.specs.Bytes.{is_word_byte}
@@ -8,7 +8,7 @@ use Rattle.smap_declarations.specs.Functions.{is_empty}
 use Rattle.smap_declarations.specs.Walk.{is_at_or_before}
 use Rattle.smap_declarations.specs.declared.given.Given.{Given}
 use Rattle.smap_declarations.specs.declared.given.Given.TheVariants as given
-use Rattle.smap_declarations.specs.declared.walk.Place.{Place}
+use Rattle.smap_declarations.specs.declared.walk.DeclarationPlace.{DeclarationPlace}
 
 -- a text is a name: it has letters, digits, `_`, `$` and bytes above 0x7F alone, and one at least
 abbrev pub is_name : List ℕ → Bool
@@ -29,20 +29,20 @@ function_name function =
 -- ---- which declaration decides
 
 -- a declaration or property of this name that begins at this place or before it
-abbrev pub is_of : (name : List ℕ) → Place → Named → Bool
+abbrev pub is_of : (name : List ℕ) → DeclarationPlace → Named → Bool
 is_of name place named = bytes_eq named.name name && is_at_or_before named.place place
 
 -- of these this one is the last
-pub record IsLast (all : List Named) (name : List ℕ) (place : Place) (last : Named) : Type 0 where
+pub record IsLast (all : List Named) (name : List ℕ) (place : DeclarationPlace) (last : Named) : Type 0 where
   pub among : Contains all last
   pub of : is_of name place last ≡ true
   pub latest : (named : Named) → Contains all named → is_of name place named ≡ true → is_at_or_before named.place last.place ≡ true
 
-abbrev pub IsNone : (all : List Named) (name : List ℕ) (place : Place) → Type 0
+abbrev pub IsNone : (all : List Named) (name : List ℕ) (place : DeclarationPlace) → Type 0
 IsNone all name place = (named : Named) → Contains all named → is_of name place named ≡ true → ⊥
 
 -- the one that decides
-abbrev pub Decides : (all : List Named) (name : List ℕ) (place : Place) → Option Named → Type 0
+abbrev pub Decides : (all : List Named) (name : List ℕ) (place : DeclarationPlace) → Option Named → Type 0
 Decides all name place decides = MatchOption decides (IsNone all name place) (IsLast all name place)
 
 -- ---- the name that is printed
@@ -62,7 +62,23 @@ name_by names function None = None
 name_by names function (Some named) = name_given names function named.given
 
 -- the name of a function at a place: that which decides gives it, or there is none
-pub record IsNameOf (all : List Named) (names : List (List ℕ)) (function : List ℕ) (place : Place) (name : Option (List ℕ)) : Type 0 where
+pub record IsNameOf (all : List Named) (names : List (List ℕ)) (function : List ℕ) (place : DeclarationPlace) (name : Option (List ℕ)) : Type 0 where
   pub decides : Option Named
   pub last : Decides all function place decides
   pub name_is : name ≡ name_by names function decides
+
+-- ---- the same of declarations that are kept in an order
+
+-- the second of two, where there is one
+abbrev pub or_later : (one later : Option Named) → Option Named
+or_later one None = one
+or_later one (Some later) = Some later
+
+-- the last of a list that has this name and begins at this place or before it
+unfoldable pub last_of : (name : List ℕ) → DeclarationPlace → List Named → Option Named
+last_of name place [] = None
+last_of name place (named ∷ all) = or_later (if is_of name place named then Some named else None) (last_of name place all)
+
+-- the name of a function at a place, where the declarations are kept in this order
+abbrev pub name_kept : (kept : List Named) (names : List (List ℕ)) (function : List ℕ) (place : DeclarationPlace) → Option (List ℕ)
+name_kept kept names function place = name_by names function (last_of function place kept)

@@ -7,7 +7,7 @@ use Rattle.smap_declarations.specs.Brackets.{has_first}
 use Rattle.smap_declarations.specs.declared.walk.Before.{Before}
 use Rattle.smap_declarations.specs.declared.walk.Keyword.{Keyword}
 use Rattle.smap_declarations.specs.declared.walk.Keyword.TheVariants.{Function, Class}
-use Rattle.smap_declarations.specs.declared.walk.Place.{Place}
+use Rattle.smap_declarations.specs.declared.walk.DeclarationPlace.{DeclarationPlace}
 
 -- a text's start, before which no byte stands
 abbrev pub start : Before
@@ -40,7 +40,7 @@ before_after before c text = record {
 
 -- ---- places
 
-abbrev pub origin : Place
+abbrev pub origin : DeclarationPlace
 origin = record { line = 0; column = 0 }
 
 -- a line ends with this byte, or with the character that it begins: LF, CR with no LF behind it, U+2028 or U+2029
@@ -56,11 +56,11 @@ abbrev pub units_at : (c : ℕ) → ℕ
 units_at c = if nat_lt c 0x80 then 1 else (if nat_lt c 0xC0 then 0 else (if nat_lt c 0xF0 then 1 else 2))
 
 -- the place behind a byte
-unfoldable pub place_after : Place → (c : ℕ) → (behind : List ℕ) → Place
+unfoldable pub place_after : DeclarationPlace → (c : ℕ) → (behind : List ℕ) → DeclarationPlace
 place_after place c behind =
     if ends_line c behind then record { line = place.line + 1; column = 0 }
     else record { line = place.line; column = place.column + units_at c }
 
 -- this place is not after that
-abbrev pub is_at_or_before : Place → Place → Bool
+abbrev pub is_at_or_before : DeclarationPlace → DeclarationPlace → Bool
 is_at_or_before first second = nat_lt first.line second.line || (first.line == second.line && nat_le first.column second.column)

@@ -3,7 +3,7 @@ ghost use Rattle.std.specs.Prelude.{◌≡◌, ℕ, ◌+◌, ◌^◌, ◌<◌, �
 ghost use Rattle.std.specs.List.Sorted.{IsPartitionPoint, IsPermutation};
 ghost use Rattle.smap_mappings.specs.Meter.{HasRoom};
 ghost use Rattle.smap_declarations.specs.Declarations.{Named, declarations_of};
-ghost use Rattle.smap_declarations.specs.Frames.{Decides, IsNameOf, name_given};
+ghost use Rattle.smap_declarations.specs.Frames.{Decides, IsNameOf, last_of, name_given, name_kept};
 ghost use Rattle.smap_declarations.specs.Limits.{most_text_bytes};
 ghost use Rattle.smap_declarations.specs.Private.Found.{all_named, named};
 ghost use Rattle.smap_declarations.specs.Private.Order.{IsInOrder, is_up_to};
@@ -15,7 +15,7 @@ use crate::name_list::NameList;
 use crate::naming::{Found, found_in};
 use crate::order::{is_up_to, sort};
 use crate::refusal::DeclarationsRefusal;
-use crate::walk::Place;
+use crate::walk::DeclarationPlace;
 use smap_record::{MapFile, Meter, without_mark};
 use std::alloc::{AllocError, Global};
 use std::marker::Model;
@@ -80,13 +80,15 @@ impl Declarations {
         &self,
         map: &'a MapFile,
         function: &'a [u8],
-        place: Place,
+        place: DeclarationPlace,
         meter: &mut Meter,
     ) -> Option<&'a [u8]>
         requires room { HasRoom meter.old }
         ensures name { (all : List Named) → IsPermutation all self.now →
             IsNameOf all map.now.stated.names function.now place
             (option_map (λ name. name.now) result) }
+        ensures kept { option_map (λ name. name.now) result
+            ≡ name_kept self.now map.now.stated.names function.now place }
         ensures compared { (b : ℕ) → length self.now < 2 ^ b →
             meter.new.comparisons ≤ meter.old.comparisons + b }
         ensures decoded { meter.new.segments ≡ meter.old.segments }
@@ -97,9 +99,10 @@ impl Declarations {
     }
 
     // The declaration or property that decides.
-    fn deciding(&self, name: &[u8], place: Place, meter: &mut Meter) -> Option<Found<'_>>
+    fn deciding(&self, name: &[u8], place: DeclarationPlace, meter: &mut Meter) -> Option<Found<'_>>
         requires room { HasRoom meter.old }
         ensures decides { Decides self.now name.now place (option_map named result) }
+        ensures last { option_map named result ≡ last_of name.now place self.now }
         ensures compared { (b : ℕ) → length self.now < 2 ^ b →
             meter.new.comparisons ≤ meter.old.comparisons + b }
         ensures decoded { meter.new.segments ≡ meter.old.segments }
@@ -114,7 +117,7 @@ impl Declarations {
     }
 
     // How many stand before this name at this place, or are of it and not behind the place. The search halves.
-    fn end_up_to(&self, name: &[u8], place: Place, meter: &mut Meter) -> usize
+    fn end_up_to(&self, name: &[u8], place: DeclarationPlace, meter: &mut Meter) -> usize
         requires room { HasRoom meter.old }
         ensures within { result ≤ length self.now }
         ensures parts { IsPartitionPoint (λ named. is_up_to name.now place named ≡ true)

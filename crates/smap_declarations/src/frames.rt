@@ -26,8 +26,9 @@ fn behind_front<'t>(front: &[u8], text: &'t [u8]) -> &'t [u8]
     }
 }
 
-// Whether a text is a name: letters, digits, `_`, `$` and bytes above 0x7F alone, and one at least.
-fn is_name(text: &[u8]) -> bool
+/// Whether a text is a name: letters, digits, `_`, `$` and bytes above 0x7F alone, and one at least. The call takes no
+/// memory.
+pub fn is_name(text: &[u8]) -> bool
     ensures { result ≡ is_name text.now }
 {
     match split_byte(text) {

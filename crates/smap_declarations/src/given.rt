@@ -3,7 +3,7 @@ ghost use Rattle.std.specs.Prelude.{◌≡◌};
 ghost use Rattle.smap_declarations.specs.Declarations.{given_at, given_by, given_to};
 
 use crate::kind::Kind;
-use crate::walk::Place;
+use crate::walk::DeclarationPlace;
 use smap_record::{Answer, MapFile, Meter};
 use std::alloc::Global;
 
@@ -17,7 +17,7 @@ pub enum Given {
 
 // What a map gives to a declaration at this place, and nothing to a property.
 #[tactic(auto, unfolding(crate::specs::Declarations::given_to))]
-pub fn given_to(alloc: Global, map: &MapFile, place: Place, kind: Kind) -> Given
+pub fn given_to(alloc: Global, map: &MapFile, place: DeclarationPlace, kind: Kind) -> Given
     ensures { result ≡ given_to map.now.stated place kind }
 {
     match kind {

@@ -5,7 +5,7 @@
 //! let declarations = Declarations::of_text(alloc, generated, &map)?;
 //! if let Some(function) = function_name(b"async fe") {
 //!     // b"fe"
-//!     let name = declarations.name_of(&map, function, Place { line: 0, column: 4711 }, &mut meter);
+//!     let name = declarations.name_of(&map, function, DeclarationPlace { line: 0, column: 4711 }, &mut meter);
 //! }
 //! ```
 #![tactic(auto)]
@@ -25,6 +25,6 @@ mod refusal;
 mod walk;
 
 pub use declarations::{Declarations, MOST_GENERATED_BYTES};
-pub use frames::function_name;
+pub use frames::{function_name, is_name};
 pub use refusal::DeclarationsRefusal;
-pub use walk::Place;
+pub use walk::DeclarationPlace;

@@ -6,7 +6,7 @@ ghost use Rattle.smap_declarations.specs.Private.Found.{named};
 
 use crate::given::Given;
 use crate::naming::Found;
-use crate::walk::Place;
+use crate::walk::DeclarationPlace;
 use std::alloc::{AllocError, Global};
 use std::marker::Model;
 
@@ -15,7 +15,7 @@ use std::marker::Model;
 pub struct Entry {
     pub start: u32,
     pub length: u32,
-    pub place: Place,
+    pub place: DeclarationPlace,
     pub given: Given,
 }
 

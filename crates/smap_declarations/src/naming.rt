@@ -12,7 +12,7 @@ use crate::bytes::{split_byte, split_word};
 use crate::given::{Given, given_to};
 use crate::kind::kind_of;
 use crate::passing::Walk;
-use crate::walk::Place;
+use crate::walk::DeclarationPlace;
 use smap_record::MapFile;
 use std::alloc::{AllocError, Global};
 
@@ -20,7 +20,7 @@ use std::alloc::{AllocError, Global};
 #[derive(Clone, Copy)]
 pub struct Found<'t> {
     pub name: &'t [u8],
-    pub place: Place,
+    pub place: DeclarationPlace,
     pub given: Given,
 }
 

@@ -8,7 +8,7 @@ ghost use Rattle.smap_declarations.specs.Private.Order.{IsInOrder, is_up_to, nam
 
 use crate::bytes::split_byte;
 use crate::naming::Found;
-use crate::walk::Place;
+use crate::walk::DeclarationPlace;
 use std::cmp::Ordering;
 
 // Sorts by the bytes of the names, and those of one name by their places.
@@ -45,7 +45,7 @@ fn name_order(first: &[u8], second: &[u8]) -> Ordering
     }
 }
 
-fn place_order(first: Place, second: Place) -> Ordering
+fn place_order(first: DeclarationPlace, second: DeclarationPlace) -> Ordering
     ensures { result ≡ place_cmp first second }
 {
     first
@@ -56,7 +56,7 @@ fn place_order(first: Place, second: Place) -> Ordering
 
 // Whether one stands before this name at this place, or is of it and not behind the place.
 #[inline(always)]
-pub fn is_up_to(found: &Found<'_>, name: &[u8], place: Place) -> bool
+pub fn is_up_to(found: &Found<'_>, name: &[u8], place: DeclarationPlace) -> bool
     ensures { result ≡ is_up_to name.now place (named found.now) }
 {
     match name_order(found.name, name) {

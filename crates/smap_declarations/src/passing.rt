@@ -5,13 +5,13 @@ ghost use Rattle.smap_declarations.specs.Bytes.{behind_word, word_in};
 ghost use Rattle.smap_declarations.specs.Private.Passing.{IsPastWord, is_ascii};
 ghost use Rattle.smap_declarations.specs.Walk.{before_after, begins_word, origin, place_after, start};
 
-use crate::walk::{Before, Place, keyword_of};
+use crate::walk::{Before, DeclarationPlace, keyword_of};
 
 // A place on a walk through a text: what stands before it, where it is, and what is left of the text.
 #[derive(Clone, Copy)]
 pub struct Walk<'t> {
     pub before: Before,
-    pub place: Place,
+    pub place: DeclarationPlace,
     pub rest: &'t [u8],
 }
 
@@ -25,7 +25,7 @@ impl<'t> Walk<'t> {
     {
         Walk {
             before: Before::start(),
-            place: Place::origin(),
+            place: DeclarationPlace::origin(),
             rest: text,
         }
     }
@@ -64,7 +64,7 @@ impl<'t> Walk<'t> {
                     byte,
                     keyword: keyword_of(word),
                 },
-                place: Place {
+                place: DeclarationPlace {
                     line: self.place.line,
                     column: self.place.column + word.len() as u32,
                 },

@@ -6,7 +6,7 @@ use crate::bytes::{has_first, is_blank, is_word_byte, split_byte, split_word};
 
 /// A place in a generated text: its line and its column in UTF-16 code units, both from 0.
 #[derive(Clone, Copy, Debug, PartialEq, Eq)]
-pub struct Place {
+pub struct DeclarationPlace {
     pub line: u32,
     pub column: u32,
 }
@@ -95,29 +95,29 @@ fn is_between(keyword: Keyword, byte: u8) -> bool
     }
 }
 
-impl Place {
+impl DeclarationPlace {
     // The place at a text's start.
-    pub(crate) fn origin() -> Place
+    pub(crate) fn origin() -> DeclarationPlace
         ensures { result ≡ origin }
     {
-        Place { line: 0, column: 0 }
+        DeclarationPlace { line: 0, column: 0 }
     }
 
     // The place behind a byte, which this text follows.
     #[inline(always)]
     #[tactic(auto, unfolding(crate::specs::Walk::place_after))]
-    pub(crate) fn after(self, byte: u8, behind: &[u8]) -> Place
+    pub(crate) fn after(self, byte: u8, behind: &[u8]) -> DeclarationPlace
         requires line { self.line + 1 < 2 ^ 32 }
         requires column { self.column + 2 < 2 ^ 32 }
         ensures { result ≡ place_after self byte behind.now }
     {
         if ends_line(byte, behind) {
-            Place {
+            DeclarationPlace {
                 line: self.line + 1,
                 column: 0,
             }
         } else {
-            Place {
+            DeclarationPlace {
                 line: self.line,
                 column: self.column + units_at(byte),
             }
@@ -126,7 +126,7 @@ impl Place {
 
     // Whether this place is not after that.
     #[inline(always)]
-    pub(crate) fn is_at_or_before(self, other: Place) -> bool
+    pub(crate) fn is_at_or_before(self, other: DeclarationPlace) -> bool
         ensures { result ≡ is_at_or_before self other }
     {
         self.line < other.line || (self.line == other.line && self.column <= other.column)

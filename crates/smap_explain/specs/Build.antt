@@ -10,14 +10,14 @@ use Rattle.smap_index.specs.declared.part.Part.{Part}
 use Rattle.smap_index.specs.declared.refusal.BuildRefusal.{BuildRefusal}
 use Rattle.smap_index.specs.declared.refusal.BuildRefusal.TheVariants.{Interval, SectionOrder, SectionOverlap, PositionRange, Memory}
 use Rattle.smap_explain.specs.declared.explanation.BuildFacts.{BuildFacts}
-use Rattle.smap_explain.specs.declared.explanation.Place.{Place}
+use Rattle.smap_explain.specs.declared.explanation.PrintedPlace.{PrintedPlace}
 
 -- where a mapping stands, from 1
-abbrev pub place_of : Mapping → Place
+abbrev pub place_of : Mapping → PrintedPlace
 place_of mapping = record { line = mapping.line + 1; column = mapping.column + 1 }
 
 -- where a part begins, from 1
-abbrev pub offset_place : Part → Place
+abbrev pub offset_place : Part → PrintedPlace
 offset_place part = place_of (offset_of part)
 
 -- the part before the one with this number, if there is one

@@ -21,7 +21,7 @@ use Rattle.smap_explain.specs.Stop.{IsStopReported}
 use Rattle.smap_explain.specs.declared.explanation.BuildFacts.{BuildFacts}
 use Rattle.smap_explain.specs.declared.explanation.Explanation.{Explanation}
 use Rattle.smap_explain.specs.declared.explanation.Explanation.TheVariants as kinds
-use Rattle.smap_explain.specs.declared.explanation.Found.{Found}
+use Rattle.smap_explain.specs.declared.explanation.FoundValue.{FoundValue}
 use Rattle.smap_explain.specs.declared.explanation.KeyFacts.{KeyFacts}
 use Rattle.smap_explain.specs.declared.explanation.NotJsonFacts.{NotJsonFacts}
 use Rattle.smap_explain.specs.declared.explanation.SegmentFacts.{SegmentFacts}
@@ -92,7 +92,7 @@ pub record IsNotJsonReported (bytes : List ℕ) (explanation : Explanation) : Ty
   pub stops : IsStopReported bytes facts.stop
 
 pub record IsNotObjectReported (bytes : List ℕ) (explanation : Explanation) : Type 0 where
-  pub value : Found
+  pub value : FoundValue
   pub reported : explanation ≡ kinds.NotObject value
   pub stands : found_seen value ≡ found (value_of_file bytes)
 

@@ -3,12 +3,12 @@ use Rattle.std.specs.Prelude.{ℕ, List, Option, Bool, length, string_bytes}
 use Rattle.std.specs.Option.{option_map_or}
 use Rattle.serde_json.specs.Data.{Data, null, boolean, number, string, array, object, Num}
 use Rattle.serde_json.specs.Find.{as_u64}
-use Rattle.smap_explain.specs.Excerpt.{excerpt}
+use Rattle.smap_explain.specs.FrontOfText.{front_of_text}
 use Rattle.smap_explain.specs.Sections.{listed}
-use Rattle.smap_explain.specs.declared.explanation.Found.{Found}
-use Rattle.smap_explain.specs.declared.explanation.Found.TheVariants as kinds
+use Rattle.smap_explain.specs.declared.explanation.FoundValue.{FoundValue}
+use Rattle.smap_explain.specs.declared.explanation.FoundValue.TheVariants as kinds
 
--- a `Found`, its text as its bytes
+-- a `FoundValue`, its text as its bytes
 pub data FoundSeen : Type 0 where
   nothing : FoundSeen
   null_found : FoundSeen
@@ -19,7 +19,7 @@ pub data FoundSeen : Type 0 where
   list : ℕ → FoundSeen
   object_found : FoundSeen
 
-abbrev pub found_seen : Found → FoundSeen
+abbrev pub found_seen : FoundValue → FoundSeen
 found_seen kinds.Nothing = nothing
 found_seen kinds.Null = null_found
 found_seen (kinds.Boolean value) = boolean_found value
@@ -38,7 +38,7 @@ abbrev pub value_found : Data → FoundSeen
 value_found null = null_found
 value_found (boolean value) = boolean_found value
 value_found (number value) = number_found value
-value_found (string value) = text (excerpt value)
+value_found (string value) = text (front_of_text value)
 value_found (array items) = list (length (listed items))
 value_found (object entries) = object_found
 

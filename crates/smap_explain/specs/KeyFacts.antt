@@ -87,11 +87,11 @@ abbrev pub sections_where : Data → Option ℕ → Option KeySeen
 sections_where sections None = Some (key_reported (at_key shown.Sections) (Some sections))
 sections_where sections (Some number) = option_map (entry_facts number) (entry_at number sections)
 
-abbrev pub list_facts : Data → Option KeySeen
-list_facts sections = sections_where sections (first_without_map sections)
+abbrev pub facts_in_list : Data → Option KeySeen
+facts_in_list sections = sections_where sections (first_without_map sections)
 
 abbrev pub sections_facts : Members → Option KeySeen
-sections_facts entries = option_and_then list_facts (field_of (codes "sections") entries)
+sections_facts entries = option_and_then facts_in_list (field_of (codes "sections") entries)
 
 -- ---- a section's offset and its map
 

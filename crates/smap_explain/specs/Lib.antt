@@ -1,6 +1,6 @@
 pub mod Beginning
 pub mod Build
-pub mod Excerpt
+pub mod FrontOfText
 pub mod Stop
 pub mod Sections
 pub mod Found

@@ -13,7 +13,7 @@ use Rattle.smap_mappings.specs.declared.fault.FaultKind.TheVariants.{BadDigit, U
 use Rattle.smap_mappings.specs.declared.fault.FaultKind.TheVariants.{PastLimit, ColumnFalls, SourceIndex, NameIndex}
 use Rattle.smap_mappings.specs.declared.faulty.FaultySegment.{FaultySegment}
 use Rattle.smap_mappings.specs.declared.sums.RunningSums.{RunningSums}
-use Rattle.smap_explain.specs.Excerpt.{excerpt}
+use Rattle.smap_explain.specs.FrontOfText.{front_of_text}
 use Rattle.smap_explain.specs.declared.explanation.Measure.{Measure}
 use Rattle.smap_explain.specs.declared.explanation.Quantity.{Quantity}
 use Rattle.smap_explain.specs.declared.explanation.Quantity.TheVariants.{Digit, Digits, Magnitude, Numbers, Column, Source, OriginalLine, OriginalColumn, Name}
@@ -128,7 +128,7 @@ abbrev pub facts_reported : ℕ → List ℕ → FaultySegment → ℕ → ℕ �
 facts_reported section bytes reported sources names = record {
   section = section;
   fault = reported.fault;
-  text = excerpt bytes;
+  text = front_of_text bytes;
   column = column_after reported.before.column (fields_of bytes);
   numbers = option_map first_numbers (fields_of bytes);
   more = more_numbers (fields_of bytes);

@@ -4,7 +4,7 @@ use Rattle.std.specs.Option.{option_map_or}
 use Rattle.std.specs.Str.Lossy.{utf8_lossy}
 use Rattle.memchr.specs.Find.{IsLastByte, is_byte, places}
 use Rattle.smap_record.specs.FileText.{json_text, value_of_file}
-use Rattle.smap_explain.specs.declared.explanation.Stop.{Stop}
+use Rattle.smap_explain.specs.declared.explanation.JsonStop.{JsonStop}
 
 -- ---- the line and the column
 
@@ -31,7 +31,7 @@ text_after text at = utf8_lossy (slice_range text at (min (at + 20) (length text
 -- ---- the stop
 
 -- this byte of the JSON text of the file, as a byte of the file, with its line, its column and the text about it
-pub record IsStopAt (bytes : List ℕ) (at : ℕ) (stop : Stop) : Type 0 where
+pub record IsStopAt (bytes : List ℕ) (at : ℕ) (stop : JsonStop) : Type 0 where
   pub in_text : at ≤ length (json_text bytes)
   pub in_file : stop.byte ≤ length bytes
   pub follows : drop stop.byte bytes ≡ drop at (json_text bytes)
@@ -41,10 +41,10 @@ pub record IsStopAt (bytes : List ℕ) (at : ℕ) (stop : Stop) : Type 0 where
   pub after : string_bytes stop.after ≡ text_after (json_text bytes) at
 
 -- it is at some byte of the JSON text: at which one, and whether the text was cut there, is the reader's word alone
-pub record IsStopIn (bytes : List ℕ) (stop : Stop) : Type 0 where
+pub record IsStopIn (bytes : List ℕ) (stop : JsonStop) : Type 0 where
   pub at : ℕ
   pub is_there : IsStopAt bytes at stop
 
 -- a file that is no JSON text has one, and no other has
-abbrev pub IsStopReported : List ℕ → Option Stop → Type 0
+abbrev pub IsStopReported : List ℕ → Option JsonStop → Type 0
 IsStopReported bytes stop = MatchOption (value_of_file bytes) (IsSomeAnd stop (IsStopIn bytes)) (λ value. stop ≡ None)

@@ -4,7 +4,7 @@ ghost use Rattle.smap_mappings.specs.Range.{at_position};
 ghost use Rattle.smap_index.specs.Position.{IsFarBelow};
 ghost use Rattle.smap_explain.specs.Build.{build_facts, order_facts, overlap_facts, range_facts, adjacent_at, offset_place, place_of};
 
-use crate::explanation::{BuildFacts, Place};
+use crate::explanation::{BuildFacts, PrintedPlace};
 use crate::first_mapping::{first_after_offset, first_past_limit};
 use smap_index::{BuildRefusal, Part};
 use smap_mappings::Position;
@@ -70,22 +70,22 @@ fn range_facts(alloc: Global, parts: &[Part], section: u64) -> Option<BuildFacts
 }
 
 // Where a part begins.
-fn offset_place(part: &Part) -> Place
+fn offset_place(part: &Part) -> PrintedPlace
     ensures { result ≡ offset_place part.now }
 {
-    Place {
+    PrintedPlace {
         line: part.line as u64 + 1,
         column: part.column as u64 + 1,
     }
 }
 
 // The place of a position, where there is one.
-fn place_where(position: Option<Position>) -> Option<Place>
+fn place_where(position: Option<Position>) -> Option<PrintedPlace>
     requires { IfSome position IsFarBelow }
     ensures { result ≡ option_map place_of (option_map at_position position) }
 {
     let position = position?;
-    Some(Place {
+    Some(PrintedPlace {
         line: position.line + 1,
         column: position.column + 1,
     })

@@ -15,7 +15,7 @@ ghost use Rattle.smap_explain.specs.Stop.{IsStopReported};
 use crate::beginning::begins_as;
 use crate::build::build_facts;
 use crate::explanation::{
-    BuildFacts, Explanation, Found, KeyFacts, NotJsonFacts, SegmentFacts, Stop,
+    BuildFacts, Explanation, FoundValue, JsonStop, KeyFacts, NotJsonFacts, SegmentFacts,
 };
 use crate::found::found_in;
 use crate::key_facts::key_facts;
@@ -24,7 +24,7 @@ use crate::segment::segment_facts;
 use crate::stop::{stop_of, told_by};
 use serde_json::{Error, Map, Value};
 use smap_index::BuildRefusal;
-use smap_mappings::{LIMIT, MOST_BYTES};
+use smap_mappings::{LIMIT, MOST_MAPPINGS_BYTES};
 use smap_record::{MapRefusal, file_members, file_parts, json_text};
 use std::alloc::{AllocError, Global};
 
@@ -68,7 +68,7 @@ fn not_json_facts(alloc: Global, bytes: &[u8]) -> Result<NotJsonFacts, AllocErro
 }
 
 // Where reading the file stops, if it does.
-fn stop_in(alloc: Global, bytes: &[u8]) -> Result<Option<Stop>, AllocError>
+fn stop_in(alloc: Global, bytes: &[u8]) -> Result<Option<JsonStop>, AllocError>
     ensures { IfOk result (IsStopReported bytes.now) }
 {
     match file_value(alloc, bytes)? {
@@ -78,7 +78,7 @@ fn stop_in(alloc: Global, bytes: &[u8]) -> Result<Option<Stop>, AllocError>
 }
 
 // The JSON value of the file.
-fn value_found(alloc: Global, bytes: &[u8]) -> Result<Found, AllocError>
+fn value_found(alloc: Global, bytes: &[u8]) -> Result<FoundValue, AllocError>
     ensures { IfOk result (λ value. found_seen value ≡ found (value_of_file bytes.now)) }
 {
     match file_value(alloc, bytes)? {
@@ -214,7 +214,7 @@ fn in_limits(text: &str, sources: u64, names: u64) -> Option<Mappings<'_>>
     ensures short { IfSome result (λ stated. length stated.text.now ≤ most_text_bytes) }
 {
     let limit = u64::from(LIMIT);
-    if text.len() <= MOST_BYTES && sources <= limit && names <= limit {
+    if text.len() <= MOST_MAPPINGS_BYTES && sources <= limit && names <= limit {
         let (sources, names) = (sources as u32, names as u32);
         Some(Mappings {
             text,

@@ -12,7 +12,7 @@ pub enum Explanation {
     /// The file is no JSON text.
     NotJson(NotJsonFacts),
     /// The JSON value of the file is no object, but this.
-    NotObject(Found),
+    NotObject(FoundValue),
     /// What stands at a key is none of what may stand there.
     Key(KeyFacts),
     /// A segment of the mappings is faulty.
@@ -26,7 +26,7 @@ pub enum Explanation {
 pub struct NotJsonFacts {
     pub begins_as: Beginning,
     /// Where reading stopped; nothing of a file that can be read, which is not refused so.
-    pub stop: Option<Stop>,
+    pub stop: Option<JsonStop>,
 }
 
 /// What the bytes of a file begin as.
@@ -54,7 +54,7 @@ pub enum Beginning {
 
 /// Where the reader of a JSON text stopped.
 #[derive(Drop)]
-pub struct Stop {
+pub struct JsonStop {
     /// The line of the file, from 1, and the byte of it, from 1.
     pub line: u64,
     pub column: u64,
@@ -69,7 +69,7 @@ pub struct Stop {
 
 /// What stands at a place of a JSON text.
 #[derive(Drop)]
-pub enum Found {
+pub enum FoundValue {
     /// Nothing.
     Nothing,
     Null,
@@ -121,7 +121,7 @@ pub struct KeyFacts {
     /// The number of the item of the list at the key, from 0, where the list is wrong by one of its items.
     pub index: Option<u64>,
     /// What stands at the key or, where there is an index, as this item.
-    pub found: Found,
+    pub found: FoundValue,
     /// The greatest number, index or count that may stand there, where there is one; an index into no sources has none.
     pub most: Option<u64>,
 }
@@ -179,7 +179,7 @@ pub enum Quantity {
 
 /// A generated line and column, both from 1.
 #[derive(Clone, Copy, PartialEq, Eq)]
-pub struct Place {
+pub struct PrintedPlace {
     pub line: u64,
     pub column: u64,
 }
@@ -190,10 +190,10 @@ pub struct BuildFacts {
     /// The number of the section, from 0.
     pub section: u64,
     /// Where the section begins.
-    pub offset: Place,
+    pub offset: PrintedPlace,
     /// Where the section before it begins, where that is not before this one.
-    pub offset_before: Option<Place>,
+    pub offset_before: Option<PrintedPlace>,
     /// The first mapping of the section before that stands after this one's offset, or the first of this one of which a
     /// number at its place is past 2147483647.
-    pub mapping: Option<Place>,
+    pub mapping: Option<PrintedPlace>,
 }

@@ -3,11 +3,11 @@
 
 mod beginning;
 mod build;
-mod excerpt;
 mod explaining;
 mod explanation;
 mod first_mapping;
 mod found;
+mod front_of_text;
 mod key_facts;
 mod key_place;
 pub mod laws;
@@ -22,7 +22,7 @@ pub use beginning::begins_as;
 pub use build::build_facts;
 pub use explaining::explain;
 pub use explanation::{
-    Beginning, BuildFacts, Explanation, Found, Key, KeyFacts, Measure, NotJsonFacts, Place,
-    Quantity, SegmentFacts, Stop,
+    Beginning, BuildFacts, Explanation, FoundValue, JsonStop, Key, KeyFacts, Measure, NotJsonFacts,
+    PrintedPlace, Quantity, SegmentFacts,
 };
 pub use segment::segment_facts;

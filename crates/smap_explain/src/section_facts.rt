@@ -1,7 +1,7 @@
 //! What stands at `sections`, in one of its entries, or at an offset.
 ghost use Rattle.std.specs.Prelude.{◌≡◌, map, option_map, position, IfOk};
 ghost use Rattle.serde_json.specs.View.{members_view, view};
-ghost use Rattle.smap_explain.specs.KeyFacts.{coordinate_facts, entry_facts, first_without_map, has_line, has_no_map, key_seen, list_facts, nested_facts, offset_facts, section_entry, section_offset_facts, sections_facts};
+ghost use Rattle.smap_explain.specs.KeyFacts.{coordinate_facts, entry_facts, first_without_map, has_line, has_no_map, key_seen, facts_in_list, nested_facts, offset_facts, section_entry, section_offset_facts, sections_facts};
 
 use crate::explanation::{Key, KeyFacts};
 use crate::key_place::{at_item, at_key, in_offset, in_section, key_reported};
@@ -19,13 +19,13 @@ pub fn sections_facts(
         ≡ sections_facts (members_view members.now.entries)) }
 {
     match field(members, "sections") {
-        Some(sections) => list_facts(alloc, sections),
+        Some(sections) => facts_in_list(alloc, sections),
         None => Ok(None),
     }
 }
 
-fn list_facts(alloc: Global, sections: &Value) -> Result<Option<KeyFacts>, AllocError>
-    ensures { IfOk result (λ facts. option_map key_seen facts ≡ list_facts (view sections.now)) }
+fn facts_in_list(alloc: Global, sections: &Value) -> Result<Option<KeyFacts>, AllocError>
+    ensures { IfOk result (λ facts. option_map key_seen facts ≡ facts_in_list (view sections.now)) }
 {
     match first_without_map(sections) {
         Some(number) => match entry(sections, number) {

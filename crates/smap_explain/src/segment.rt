@@ -5,8 +5,8 @@ ghost use Rattle.smap_mappings.specs.Faults.{first_faulty};
 ghost use Rattle.smap_mappings.specs.Limits.{most_text_bytes};
 ghost use Rattle.smap_explain.specs.Segment.{IsSegmentExplained, capped, column_after, facts_reported, first_below_zero, first_numbers, first_past_limit, measure_after, measure_reported, measured, more_numbers, ranged, segment_seen};
 
-use crate::excerpt::excerpt;
 use crate::explanation::{Measure, Quantity, SegmentFacts};
+use crate::front_of_text::front_of_text;
 use smap_mappings::{
     FaultKind, FaultySegment, LIMIT, RunningSums, faulty_segment, first_bad_digit, large_magnitude,
     long_number_digits, segment_numbers,
@@ -48,7 +48,7 @@ fn facts_reported(
     ensures { IfOk result (λ facts. segment_seen facts
         ≡ facts_reported section segment.now reported.now sources names) }
 {
-    let text = excerpt(alloc, segment)?;
+    let text = front_of_text(alloc, segment)?;
     let numbers = segment_numbers(alloc, segment)?;
     let column = column_after(reported.before.column, &numbers);
     let measure = measure_reported(segment, reported, &numbers, sources, names);

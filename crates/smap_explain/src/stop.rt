@@ -6,7 +6,7 @@ ghost use Rattle.smap_record.specs.FileText.{json_text};
 ghost use Rattle.smap_explain.specs.Private.Stop.{after_line_end, place_told, start_of_line};
 ghost use Rattle.smap_explain.specs.Stop.{IsColumnAfter, IsStopAt, line_after};
 
-use crate::explanation::Stop;
+use crate::explanation::JsonStop;
 use memchr::{memchr_iter, memrchr};
 use serde_json::Error;
 use smap_record::json_text;
@@ -38,7 +38,7 @@ pub fn told_by(error: &Error) -> Told
 }
 
 /// The place of the file of these bytes at which reading stopped, as the reader tells it, with the text about it.
-pub fn stop_of(alloc: Global, bytes: &[u8], told: Told) -> Result<Stop, AllocError>
+pub fn stop_of(alloc: Global, bytes: &[u8], told: Told) -> Result<JsonStop, AllocError>
     ensures place { IfOk result (IsStopAt bytes.now (place_told (json_text bytes.now) told)) }
     ensures cut { IfOk result (λ stop. stop.is_cut ≡ told.is_cut) }
 {
@@ -46,7 +46,7 @@ pub fn stop_of(alloc: Global, bytes: &[u8], told: Told) -> Result<Stop, AllocErr
     let at = place_told(text, told);
     let byte = bytes.len().saturating_sub(text.len() - at);
     let front = &bytes[..byte];
-    Ok(Stop {
+    Ok(JsonStop {
         line: line_after(front),
         column: column_after(front),
         byte: byte as u64,

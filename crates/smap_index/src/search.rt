@@ -14,7 +14,7 @@ use smap_mappings::Meter;
 
 // The checkpoints next to a bound: the last whose mapping stands up to it, and the first after that one.
 #[derive(Clone, Copy)]
-pub struct Nearest<'a> {
+pub struct NearestCheckpoints<'a> {
     pub last: Option<&'a Checkpoint>,
     pub next: Option<&'a Checkpoint>,
 }
@@ -27,7 +27,7 @@ pub fn nearest_checkpoints<'a>(
     stretch: Stretch,
     bound: &Bound,
     meter: &mut Meter,
-) -> Nearest<'a>
+) -> NearestCheckpoints<'a>
     requires ordered { IsInOrder (mappings_at checkpoints.now) }
     requires low { stretch.low ≤ front_up_to bound.now (mappings_at checkpoints.now) }
     requires high { front_up_to bound.now (mappings_at checkpoints.now) ≤ stretch.high }
@@ -57,5 +57,5 @@ pub fn nearest_checkpoints<'a>(
             high = middle;
         }
     }
-    Nearest { last, next }
+    NearestCheckpoints { last, next }
 }

@@ -3,7 +3,7 @@ use Rattle.std.proofs.Common.{◌≡◌, ℕ, false, [], ◌∷◌, Some, None, 
 use Rattle.smap_kept.specs.Bounded.{bytes_of}
 use Rattle.smap_kept.specs.Kept.{KeptSeen, answer, asked_for, forgotten, with_value, with_none}
 use Rattle.smap_kept.specs.OwnUrls.{mark}
-use Rattle.smap_kept.specs.declared.answer.Answer.TheVariants.{Known, NoneKnown, Wanted}
+use Rattle.smap_kept.specs.declared.answer.KeptAnswer.TheVariants.{Known, NoneKnown, Wanted}
 use Rattle.smap_kept.specs.declared.answer.NoValue.TheVariants.{Failed, Missing}
 use Rattle.smap_kept.specs.declared.bounded.Counted.{Counted}
 

@@ -10,7 +10,7 @@ use Rattle.smap_locations.specs.Laws.ByText.{same_text}
 use Rattle.smap_locations.specs.Paths.{is_before_query, without_query}
 use Rattle.smap_kept.specs.Bounded.{bytes_of, entry_bytes, fitting, kept_within}
 use Rattle.smap_kept.specs.InOrder.{without}
-use Rattle.smap_kept.specs.OwnUrls.{OwnSeen, added_by, has_query, has_room, is_own, key_of, mark, own_after, own_before, own_with}
+use Rattle.smap_kept.specs.OwnUrls.{OwnSeen, added_by, has_query, has_room_beside, is_own, key_of, mark, own_after, own_before, own_with}
 use Rattle.smap_kept.specs.declared.bounded.Counted.{Counted}
 use Rattle.smap_kept.specs.declared.own_urls.Added.{Added}
 use Rattle.smap_kept.specs.declared.own_urls.Added.TheVariants.{All, Before, Here}
@@ -66,7 +66,7 @@ module _ (url : List ℕ) (own : OwnSeen) where
   by_tests query here room = cond (not query || here) Before (cond room Here All)
 
   pub own_of_put : has_query url ≡ true → is_own (own_with url own) url ≡ true
-  own_of_put query = go (has_query url) (is_own own url) refl (has_room own url) query
+  own_of_put query = go (has_query url) (is_own own url) refl (has_room_beside own url) query
     where
       go : (query here : Bool) → is_own own url ≡ here → (room : Bool) → query ≡ true → is_own (own_after (by_tests query here room) url own) url ≡ true
       go false here is room none = cc
@@ -87,7 +87,7 @@ module _ (url : List ℕ) (own : OwnSeen) where
     where
       cut_own : own_with (without_query url) own ≡ own
       cut_own =
-          ap (λ b. own_after (cond (not b || is_own own (without_query url)) Before (cond (has_room own (without_query url)) Here All)) (without_query url) own)
+          ap (λ b. own_after (cond (not b || is_own own (without_query url)) Before (cond (has_room_beside own (without_query url)) Here All)) (without_query url) own)
           (cut_is_whole url)
 
       go : (b : Bool) → (has_query url && is_own own url) ≡ b → key_of (own_with (cond b url (without_query url)) own) url ≡ cond b url (without_query url)
@@ -103,7 +103,7 @@ module _ (url : List ℕ) (own : OwnSeen) where
       go All = refl
 
   pub taken_back : own_before (added_by own url) url (own_with url own) ≡ own
-  taken_back = go (has_query url) (is_own own url) refl (has_room own url)
+  taken_back = go (has_query url) (is_own own url) refl (has_room_beside own url)
     where
       go : (query here : Bool) → is_own own url ≡ here → (room : Bool)
           → own_before (by_tests query here room) url (own_after (by_tests query here room) url own) ≡ own
@@ -113,7 +113,7 @@ module _ (url : List ℕ) (own : OwnSeen) where
       go true false is false = ap (λ b. record own { are_all = b }) (sym (neither own.are_all _ is).0)
 
   -- where there is room for one more, nothing is dropped for it
-  pub put_beside : is_own own url ≡ false → has_room own url ≡ true → kept_within own.most ((url, mark) ∷ without url own.urls) ≡ (url, mark) ∷ own.urls
+  pub put_beside : is_own own url ≡ false → has_room_beside own url ≡ true → kept_within own.most ((url, mark) ∷ without url own.urls) ≡ (url, mark) ∷ own.urls
   put_beside is room =
       let left = own.most - entry_bytes (url, mark) in
       let none = none_is (value_under url own.urls) (neither own.are_all (is_some (value_under url own.urls)) is).1 in
@@ -128,8 +128,8 @@ module _ (url : List ℕ) (own : OwnSeen) where
   here_by_tests true false true query apart fits = refl
 
   -- so it is one more
-  pub put_is : has_query url ≡ true → is_own own url ≡ false → has_room own url ≡ true
+  pub put_is : has_query url ≡ true → is_own own url ≡ false → has_room_beside own url ≡ true
       → own_with url own ≡ record own { urls = kept_within own.most ((url, mark) ∷ without url own.urls) }
   put_is query apart room =
-      ap (λ added. own_after added url own) (here_by_tests (has_query url) (is_own own url) (has_room own url) query apart room)
+      ap (λ added. own_after added url own) (here_by_tests (has_query url) (is_own own url) (has_room_beside own url) query apart room)
       ∙ sym (ap (λ l. record own { urls = l }) (put_beside apart room))

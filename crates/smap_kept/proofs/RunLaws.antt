@@ -9,8 +9,8 @@ use Rattle.smap_kept.specs.InOrder.{without}
 use Rattle.smap_kept.specs.Kept.{KeptSeen, answer, answer_of, asked_for, forgotten, own_answer, still_holds, used_by, why_none, with_none, with_value}
 use Rattle.smap_kept.specs.OwnUrls.{OwnSeen, has_query, is_own, key_of, own_with}
 use Rattle.smap_kept.specs.Runs.{Call, Put, PutNone, Forget, ForgetNone, Ask, NothingSaid, NoneSaid, Said, ValueSaid, answer_by, answer_said, kept_after, said_of, was_put, without_none}
-use Rattle.smap_kept.specs.declared.answer.Answer.{Answer}
-use Rattle.smap_kept.specs.declared.answer.Answer.TheVariants.{Known, NoneKnown, Wanted}
+use Rattle.smap_kept.specs.declared.answer.KeptAnswer.{KeptAnswer}
+use Rattle.smap_kept.specs.declared.answer.KeptAnswer.TheVariants.{Known, NoneKnown, Wanted}
 use Rattle.smap_kept.specs.declared.bounded.Counted.{Counted}
 use Rattle.smap_kept.specs.declared.kept.Absence.{Absence}
 use Rattle.smap_kept.proofs.OwnLaws.{key_of_put, key_stays, own_of_put, own_stays, whole_is}
@@ -101,7 +101,7 @@ module _ {T : Type 0} where
         key : List ℕ
         key = key_of kept.own there
 
-        go : (found : Answer T) → IsAsSaid (Ask now there ∷ calls) (record (used_by found key kept) {
+        go : (found : KeptAnswer T) → IsAsSaid (Ask now there ∷ calls) (record (used_by found key kept) {
           asked = (asked_for now kept there).asked;
           hits = (asked_for now kept there).hits;
         })
@@ -143,7 +143,7 @@ module _ {T : Type 0} where
 
   -- ---- so the answers are those that were said, or wanted
 
-  abbrev pub IsSaidOrWanted : Answer T → Answer T → Type 0
+  abbrev pub IsSaidOrWanted : KeptAnswer T → KeptAnswer T → Type 0
   IsSaidOrWanted found said = (found ≡ said) ⊎ (found ≡ Wanted)
 
   unput_or : (b put : Bool) (one said : Said T) → cond b true put ≡ false → (put ≡ false → said ≡ NothingSaid) → cond b one said ≡ NothingSaid
@@ -181,7 +181,7 @@ module _ {T : Type 0} where
     abbrev said_key : (url : List ℕ) → List ℕ
     said_key url = cond (was_put calls url) url (without_query url)
 
-    wanted_of_unput : (url : List ℕ) → was_put calls url ≡ false → (said : Answer T) → IsSaidOrWanted (own_answer now kept url) said
+    wanted_of_unput : (url : List ℕ) → was_put calls url ≡ false → (said : KeptAnswer T) → IsSaidOrWanted (own_answer now kept url) said
     wanted_of_unput url unput said = elim (own_said url) [
       | inl is ↦ inr (is ∙ ap (answer_by now) (none_of_unput calls url unput))
       | inr is ↦ inr is
@@ -251,14 +251,14 @@ module _ {T : Type 0} where
       mine : List ℕ
       mine = key_of kept.own url
 
-      go : (found : Answer T) → own_answer now (used_by found key kept) (key_of (used_by found key kept).own url) ≡ own_answer now kept mine
+      go : (found : KeptAnswer T) → own_answer now (used_by found key kept) (key_of (used_by found key kept).own url) ≡ own_answer now kept mine
       go (Known value) =
           ap (λ found. answer_of (option_map (λ it. it.value) found) (why_none now (known_under mine kept.nones))) (same_used mine key kept.values)
       go (NoneKnown why) =
           ap (λ found. answer_of (known_under mine kept.values) (why_none now (option_map (λ it. it.value) found))) (same_used mine key kept.nones)
       go Wanted = refl
 
-  abbrev answer_from : (now : ℕ) → Option (Counted T) → Option (Counted Absence) → Answer T
+  abbrev answer_from : (now : ℕ) → Option (Counted T) → Option (Counted Absence) → KeptAnswer T
   answer_from now value none = answer_of (option_map (λ it. it.value) value) (why_none now (option_map (λ it. it.value) none))
 
   pub forgotten_is_wanted : (most now : ℕ) (calls : List (Call T)) (url there : List ℕ) → bytes_eq (key_of (kept_after most calls).own url) there ≡ true

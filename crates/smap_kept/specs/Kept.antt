@@ -3,8 +3,8 @@ use Rattle.std.specs.Prelude.{◌≡◌, ℕ, ◌+◌, ◌-◌, ◌/◌, ◌^◌
 use Rattle.smap_kept.specs.Bounded.{kept_within, known_under}
 use Rattle.smap_kept.specs.InOrder.{used, without}
 use Rattle.smap_kept.specs.OwnUrls.{OwnSeen, key_of, own_with}
-use Rattle.smap_kept.specs.declared.answer.Answer.{Answer}
-use Rattle.smap_kept.specs.declared.answer.Answer.TheVariants.{Known, NoneKnown, Wanted}
+use Rattle.smap_kept.specs.declared.answer.KeptAnswer.{KeptAnswer}
+use Rattle.smap_kept.specs.declared.answer.KeptAnswer.TheVariants.{Known, NoneKnown, Wanted}
 use Rattle.smap_kept.specs.declared.answer.NoValue.{NoValue}
 use Rattle.smap_kept.specs.declared.bounded.Counted.{Counted}
 use Rattle.smap_kept.specs.declared.kept.Absence.{Absence}
@@ -35,26 +35,26 @@ why_none now None = None
 why_none now (Some none) = if still_holds now none.until then Some none.why else None
 
 module _ {T : Type 0} where
-  abbrev pub answer_of : Option T → (why : Option NoValue) → Answer T
+  abbrev pub answer_of : Option T → (why : Option NoValue) → KeptAnswer T
   answer_of (Some value) why = Known value
   answer_of None (Some why) = NoneKnown why
   answer_of None None = Wanted
 
   -- what is known under this very URL
-  abbrev pub own_answer : (now : ℕ) → KeptSeen T → (url : List ℕ) → Answer T
+  abbrev pub own_answer : (now : ℕ) → KeptSeen T → (url : List ℕ) → KeptAnswer T
   own_answer now kept url = answer_of (known_under url kept.values) (why_none now (known_under url kept.nones))
 
   -- what is known of a URL is what is known under its key
-  abbrev pub answer : (now : ℕ) → KeptSeen T → (url : List ℕ) → Answer T
+  abbrev pub answer : (now : ℕ) → KeptSeen T → (url : List ℕ) → KeptAnswer T
   answer now kept url = own_answer now kept (key_of kept.own url)
 
-  abbrev pub is_wanted : Answer T → Bool
+  abbrev pub is_wanted : KeptAnswer T → Bool
   is_wanted Wanted = true
   is_wanted (Known value) = false
   is_wanted (NoneKnown why) = false
 
 module _ {T U : Type 0} (see : T → U) where
-  abbrev pub answer_seen : Answer T → Answer U
+  abbrev pub answer_seen : KeptAnswer T → KeptAnswer U
   answer_seen Wanted = Wanted
   answer_seen (Known value) = Known (see value)
   answer_seen (NoneKnown why) = NoneKnown why
@@ -78,7 +78,7 @@ module _ {T : Type 0} where
   }
 
   -- what gave an answer under this URL is now the last used
-  abbrev pub used_by : Answer T → (url : List ℕ) → KeptSeen T → KeptSeen T
+  abbrev pub used_by : KeptAnswer T → (url : List ℕ) → KeptSeen T → KeptSeen T
   used_by (Known value) url kept = record kept { values = used url kept.values }
   used_by (NoneKnown why) url kept = record kept { nones = used url kept.nones }
   used_by Wanted url kept = kept

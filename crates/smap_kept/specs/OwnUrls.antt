@@ -31,12 +31,12 @@ key_of own url = if has_query url && is_own own url then url else without_query 
 
 -- ---- one more
 
-abbrev pub has_room : OwnSeen → (url : List ℕ) → Bool
-has_room own url = nat_le (entry_bytes (url, mark) + bytes_of own.urls) own.most
+abbrev pub has_room_beside : OwnSeen → (url : List ℕ) → Bool
+has_room_beside own url = nat_le (entry_bytes (url, mark) + bytes_of own.urls) own.most
 
 -- where there is no room for it, all are
 abbrev pub added_by : OwnSeen → (url : List ℕ) → Added
-added_by own url = if not (has_query url) || is_own own url then Before else if has_room own url then Here else All
+added_by own url = if not (has_query url) || is_own own url then Before else if has_room_beside own url then Here else All
 
 abbrev pub own_after : Added → (url : List ℕ) → OwnSeen → OwnSeen
 own_after Before url own = own

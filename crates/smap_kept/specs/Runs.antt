@@ -4,8 +4,8 @@ use Rattle.std.specs.Prelude.{ℕ, Bool, true, false, List, [], ◌∷◌, None,
 use Rattle.std.specs.Str.{bytes_eq}
 use Rattle.smap_locations.specs.Paths.{without_query}
 use Rattle.smap_kept.specs.Kept.{KeptSeen, answer_of, asked_for, forgotten, kept_at_first, why_none, with_none, with_value}
-use Rattle.smap_kept.specs.declared.answer.Answer.{Answer}
-use Rattle.smap_kept.specs.declared.answer.Answer.TheVariants.{Known, Wanted}
+use Rattle.smap_kept.specs.declared.answer.KeptAnswer.{KeptAnswer}
+use Rattle.smap_kept.specs.declared.answer.KeptAnswer.TheVariants.{Known, Wanted}
 use Rattle.smap_kept.specs.declared.bounded.Counted.{Counted}
 use Rattle.smap_kept.specs.declared.kept.Absence.{Absence}
 
@@ -63,12 +63,12 @@ module _ {T : Type 0} where
   was_put (ForgetNone ∷ before) url = was_put before url
   was_put (Ask now there ∷ before) url = was_put before url
 
-  abbrev pub answer_by : (now : ℕ) → Said T → Answer T
+  abbrev pub answer_by : (now : ℕ) → Said T → KeptAnswer T
   answer_by now NothingSaid = Wanted
   answer_by now (ValueSaid value) = Known value
   answer_by now (NoneSaid none) = answer_of None (why_none now (Some none))
 
   -- the answer for a URL as if all that was put were at hand: what was put last under the URL, where something was, or else
   -- under it without its query and its fragment
-  abbrev pub answer_said : (now : ℕ) → List (Call T) → (url : List ℕ) → Answer T
+  abbrev pub answer_said : (now : ℕ) → List (Call T) → (url : List ℕ) → KeptAnswer T
   answer_said now calls url = answer_by now (said_of calls (if was_put calls url then url else without_query url))

@@ -11,7 +11,7 @@ pub enum NoValue {
 
 /// What is known of a URL.
 #[derive(Clone, Copy, Debug, PartialEq, Eq, Drop)]
-pub enum Answer<V> {
+pub enum KeptAnswer<V> {
     /// Its value.
     Known(V),
     /// That it has none, for this.

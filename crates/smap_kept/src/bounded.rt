@@ -74,7 +74,7 @@ impl<V: Drop> Bounded<V> {
     }
 
     /// Whether there is room for a value of so many bytes beside all others, under a text that has none.
-    pub(crate) fn has_room(&self, text: &[u8], bytes: u64) -> bool
+    pub(crate) fn has_room_beside(&self, text: &[u8], bytes: u64) -> bool
         ensures { result ≡ nat_le
             (count_with (length text.now) bytes + bytes_of self.now.entries) self.now.most }
     {

@@ -4,7 +4,7 @@ ghost use Rattle.smap_kept.specs.Bounded.{bytes_of, is_within};
 ghost use Rattle.smap_kept.specs.Kept.{answer, answer_seen, asked_for, forgotten, kept_at_first, own_answer, own_used, why_none, with_none, with_value};
 ghost use Rattle.smap_kept.specs.OwnUrls.{key_of};
 
-use crate::answer::{Answer, NoValue};
+use crate::answer::{KeptAnswer, NoValue};
 use crate::bounded::Bounded;
 use crate::own_urls::OwnUrls;
 use std::alloc::{AllocError, AllocFailed, Global};
@@ -198,14 +198,14 @@ impl<T: Drop> Kept<T> {
 
     /// Looks for what is known of a URL, and counts that: what gives the answer is dropped after all others. `peek` lends
     /// the value then.
-    pub fn ask(&mut self, url: &[u8], now: u64) -> Answer<()>
+    pub fn ask(&mut self, url: &[u8], now: u64) -> KeptAnswer<()>
         ensures answer { result ≡ answer_seen (λ _. tt) (answer now self.old url.now) }
         ensures used { self.new ≡ asked_for now self.old url.now }
     {
         let key = self.own.key_for(url);
         let answer = self.use_own(key, now);
         self.asked = self.asked.saturating_add(1);
-        if let Answer::Wanted = answer {
+        if let KeptAnswer::Wanted = answer {
             return answer;
         }
         self.hits = self.hits.saturating_add(1);
@@ -213,19 +213,19 @@ impl<T: Drop> Kept<T> {
     }
 
     // Puts first what is known under this very URL.
-    fn use_own(&mut self, url: &[u8], now: u64) -> Answer<()>
+    fn use_own(&mut self, url: &[u8], now: u64) -> KeptAnswer<()>
         ensures answer { result ≡ answer_seen (λ _. tt) (own_answer now self.old url.now) }
         ensures used { self.new ≡ own_used now self.old url.now }
     {
         if self.values.touch(url) {
-            return Answer::Known(());
+            return KeptAnswer::Known(());
         }
         match why_none(self.nones.get(url), now) {
             Some(why) => {
                 self.nones.touch(url);
-                Answer::NoneKnown(why)
+                KeptAnswer::NoneKnown(why)
             }
-            None => Answer::Wanted,
+            None => KeptAnswer::Wanted,
         }
     }
 
@@ -238,22 +238,22 @@ impl<T: Drop> Kept<T> {
     }
 
     /// What is known of a URL, which is what is known under its key. The call changes nothing, and counts nothing.
-    pub fn peek(&self, url: &[u8], now: u64) -> Answer<&T>
+    pub fn peek(&self, url: &[u8], now: u64) -> KeptAnswer<&T>
         ensures { answer_seen (λ value. value.now) result ≡ answer now self.now url.now }
     {
         self.own_answer(self.key_for(url), now)
     }
 
     // What is known under this very URL.
-    fn own_answer(&self, url: &[u8], now: u64) -> Answer<&T>
+    fn own_answer(&self, url: &[u8], now: u64) -> KeptAnswer<&T>
         ensures { answer_seen (λ value. value.now) result ≡ own_answer now self.now url.now }
     {
         if let Some(value) = self.values.get(url) {
-            return Answer::Known(value);
+            return KeptAnswer::Known(value);
         }
         match why_none(self.nones.get(url), now) {
-            Some(why) => Answer::NoneKnown(why),
-            None => Answer::Wanted,
+            Some(why) => KeptAnswer::NoneKnown(why),
+            None => KeptAnswer::Wanted,
         }
     }
 }

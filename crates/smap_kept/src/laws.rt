@@ -5,7 +5,7 @@ ghost use Rattle.smap_locations.specs.Paths.{without_query};
 ghost use Rattle.smap_kept.specs.Kept.{KeptSeen, answer, asked_for, forgotten, still_holds};
 ghost use Rattle.smap_kept.specs.OwnUrls.{key_of};
 ghost use Rattle.smap_kept.specs.Runs.{Call, Forget, Put, PutNone, answer_said, kept_after};
-ghost use Rattle.smap_kept.specs.declared.answer.Answer.TheVariants.{Known, NoneKnown, Wanted};
+ghost use Rattle.smap_kept.specs.declared.answer.KeptAnswer.TheVariants.{Known, NoneKnown, Wanted};
 ghost use Rattle.smap_kept.specs.declared.bounded.Counted.{Counted};
 ghost use Rattle.smap_kept.specs.declared.kept.Absence.{Absence};
 

@@ -18,6 +18,6 @@ mod kept;
 pub mod laws;
 mod own_urls;
 
-pub use answer::{Answer, NoValue};
+pub use answer::{KeptAnswer, NoValue};
 pub use bounded::Bounded;
 pub use kept::Kept;

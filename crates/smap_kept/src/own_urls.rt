@@ -78,7 +78,7 @@ impl OwnUrls {
         if !has_query(url) || self.has(url) {
             return Ok(Added::Before);
         }
-        if !self.urls.has_room(url, 0) {
+        if !self.urls.has_room_beside(url, 0) {
             self.are_all = true;
             return Ok(Added::All);
         }

@@ -7,10 +7,10 @@ use Rattle.smap_lines.specs.Laws.Put.{takes_none}
 use Rattle.smap_lines.specs.Limits.{most_text_bytes}
 use Rattle.smap_lines.specs.declared.fault.LineFault.TheVariants.{Write, Memory}
 use Rattle.smap_lines.specs.Laws.RunEnds.{gives_none}
-use Rattle.smap_positions.specs.Answering.{AnswersPositions}
-use Rattle.smap_positions.specs.Positions.{answered_line}
+use Rattle.smap_printing.specs.Answering.{AnswersPositions}
+use Rattle.smap_printing.specs.Positions.{answered_line}
 use Rattle.smap_command.specs.declared.options.AnswerOptions.{AnswerOptions}
-use Rattle.smap_positions.specs.declared.answering.PositionsSummary.{PositionsSummary}
+use Rattle.smap_printing.specs.declared.answering.PositionsSummary.{PositionsSummary}
 use Rattle.smap_record.specs.Record.{MapRecord}
 use Rattle.smap_replies.specs.Outcome.{out_of_memory}
 use Rattle.smap_map_answers.specs.Positions.{AnsweredReports}

@@ -2,7 +2,7 @@
 use Rattle.std.specs.Prelude.{◌≡◌, ℕ, ◌==◌, Bool, List, ◌∷◌, Option, if◌then◌else◌, length, map, string_bytes}
 use Rattle.smap_explain.specs.Explain.{IsExplained}
 use Rattle.smap_explain.specs.declared.explanation.Explanation.{Explanation}
-use Rattle.smap_positions.specs.Json.{json_line}
+use Rattle.smap_printing.specs.Json.{json_line}
 use Rattle.smap_record.specs.Record.{record_of}
 use Rattle.smap_record.specs.declared.refusal.MapRefusal.{MapRefusal}
 use Rattle.smap_verdicts.specs.Counts.{counts_value, map_counts}

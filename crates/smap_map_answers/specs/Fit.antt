@@ -14,7 +14,7 @@ use Rattle.smap_fit.specs.declared.shift.BestShift.{BestShift}
 use Rattle.smap_fit.specs.declared.fit.Fit.{Fit}
 use Rattle.smap_index.specs.Parts.{joined}
 use Rattle.smap_mappings.specs.declared.mapping.Mapping.{Mapping}
-use Rattle.smap_positions.specs.Json.{json_line}
+use Rattle.smap_printing.specs.Json.{json_line}
 use Rattle.smap_record.specs.Record.{MapRecord}
 use Rattle.smap_record.specs.Written.{value_of_text}
 use Rattle.smap_map_answers.specs.Misfits.{misfits_text}

@@ -11,9 +11,9 @@ use Rattle.smap_command.specs.declared.asked.Generated.{Generated}
 use Rattle.smap_index.specs.Parts.{joined}
 use Rattle.smap_mappings.specs.declared.mapping.Mapping.{Mapping}
 use Rattle.smap_originals.specs.Generated.{generated_for, generated_next}
-use Rattle.smap_originals.specs.declared.asked.Direction.{Direction}
-use Rattle.smap_originals.specs.declared.asked.Direction.TheVariants.{AtOrBefore, AtOrAfter}
-use Rattle.smap_positions.specs.Generated.{generated_text}
+use Rattle.smap_originals.specs.declared.asked.OriginalDirection.{OriginalDirection}
+use Rattle.smap_originals.specs.declared.asked.OriginalDirection.TheVariants.{AtOrBefore, AtOrAfter}
+use Rattle.smap_printing.specs.Generated.{generated_text}
 use Rattle.smap_record.specs.Record.{MapRecord}
 use Rattle.smap_record.specs.Sources.{StatedSource}
 use Rattle.smap_record.specs.Written.{text_of_source}
@@ -49,7 +49,7 @@ asked_sources sources text = filter (is_asked sources text) (range_with_len 0 (l
 -- ---- what is found
 
 -- an original place: a line and, if one is asked, a column, in this direction
-abbrev pub direction_of : (after : Bool) → Direction
+abbrev pub direction_of : (after : Bool) → OriginalDirection
 direction_of false = AtOrBefore
 direction_of true = AtOrAfter
 

@@ -5,10 +5,10 @@ use Rattle.smap_command.specs.declared.options.LookupOptions.{LookupOptions}
 use Rattle.smap_index.specs.Answer.{neighbours}
 use Rattle.smap_index.specs.Parts.{joined}
 use Rattle.smap_record.specs.Record.{MapRecord}
-use Rattle.smap_positions.specs.Json.{lookup_json}
-use Rattle.smap_positions.specs.Lookup.{lookup_text}
+use Rattle.smap_printing.specs.Json.{lookup_json}
+use Rattle.smap_printing.specs.Lookup.{lookup_text}
 use Rattle.smap_command.specs.declared.options.Direction.{Direction}
-use Rattle.smap_verdicts.specs.Nearest.{nearest_text}
+use Rattle.smap_verdicts.specs.NearestLines.{nearest_text}
 
 -- which mappings stand nearest to the position
 abbrev pub about_text : (line column : ℕ) → MapRecord → List ℕ

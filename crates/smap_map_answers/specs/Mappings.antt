@@ -5,7 +5,7 @@ use Rattle.smap_lines.specs.RunEnds.{is_write_fault}
 use Rattle.smap_lines.specs.declared.fault.LineFault.{LineFault}
 use Rattle.smap_lines.specs.declared.fault.LineFault.TheVariants.{Write, Memory}
 use Rattle.smap_record.specs.Record.{MapRecord}
-use Rattle.smap_positions.specs.Mappings.{mappings_text}
+use Rattle.smap_printing.specs.Mappings.{mappings_text}
 use Rattle.smap_command.specs.declared.asked.Mappings.{Mappings}
 use Rattle.smap_replies.specs.Files.{MayRead}
 use Rattle.smap_replies.specs.Map.{Never, StatesChosen}

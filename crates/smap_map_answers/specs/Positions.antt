@@ -7,11 +7,11 @@ use Rattle.smap_lines.specs.Limits.{most_text_bytes}
 use Rattle.smap_lines.specs.declared.fault.LineFault.{LineFault}
 use Rattle.smap_lines.specs.declared.fault.LineFault.TheVariants.{TooMuch, Memory}
 use Rattle.smap_record.specs.Record.{MapRecord}
-use Rattle.smap_positions.specs.Answering.{AnswersPositions}
-use Rattle.smap_positions.specs.Positions.{answered_line}
+use Rattle.smap_printing.specs.Answering.{AnswersPositions}
+use Rattle.smap_printing.specs.Positions.{answered_line}
 use Rattle.smap_command.specs.declared.asked.Positions as asked
 use Rattle.smap_command.specs.declared.options.AnswerOptions.{AnswerOptions}
-use Rattle.smap_positions.specs.declared.answering.PositionsSummary.{PositionsSummary}
+use Rattle.smap_printing.specs.declared.answering.PositionsSummary.{PositionsSummary}
 use Rattle.smap_replies.specs.Files.{MayRead}
 use Rattle.smap_map_answers.specs.Lines.{bad_position_refused_line}
 use Rattle.smap_replies.specs.Map.{Never, StatesChosen}

@@ -11,7 +11,7 @@ use Rattle.smap_index.specs.Answer.{answer_at_or_before}
 use Rattle.smap_index.specs.declared.answer.Answer.{Answer}
 use Rattle.smap_index.specs.declared.answer.Answer.TheVariants.{Nothing, Unmapped, Found}
 use Rattle.smap_lines.specs.Editing.{DevicesSeen}
-use Rattle.smap_positions.specs.Lines.{none_line, unmapped_line}
+use Rattle.smap_printing.specs.Lines.{none_line, unmapped_line}
 use Rattle.smap_map_answers.specs.Lines.{found_line, refused_line}
 use Rattle.smap_replies.specs.Lines.{input_failed_line}
 use Rattle.smap_replies.specs.Outcome.{OrMemory, Report, answer, failure, refusal, refused_by}

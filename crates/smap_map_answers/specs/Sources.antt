@@ -4,7 +4,7 @@ use Rattle.smap_codes.specs.declared.code.Code.TheVariants.{C1}
 use Rattle.smap_record.specs.Record.{MapRecord}
 use Rattle.smap_record.specs.Sources.{StatedSource}
 use Rattle.smap_command.specs.Lines.{line_from}
-use Rattle.smap_positions.specs.Sources.{IsSourcesText}
+use Rattle.smap_printing.specs.Sources.{IsSourcesText}
 use Rattle.smap_command.specs.declared.options.SourceOptions.{SourceOptions}
 use Rattle.smap_replies.specs.Files.{MayRead}
 use Rattle.smap_replies.specs.Map.{OfText}

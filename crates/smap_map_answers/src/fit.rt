@@ -5,7 +5,7 @@ ghost use Rattle.smap_map_answers.specs.Fit.{FitsAll, FitsPair, FitsText, IsFitR
 ghost use Rattle.smap_map_answers.specs.Fit.{fits_line, misfits_line, place_value};
 ghost use Rattle.smap_command.specs.Options.{is_json};
 ghost use Rattle.smap_fit.specs.Fit.{fits};
-ghost use Rattle.smap_positions.specs.Json.{json_line};
+ghost use Rattle.smap_printing.specs.Json.{json_line};
 ghost use Rattle.smap_record.specs.Written.{value_of_text};
 ghost use Rattle.smap_replies.specs.Outcome.{OrMemory, reply_report, report_of};
 ghost use Rattle.smap_replies.specs.Streams.{sinks_seen};

@@ -13,8 +13,8 @@ ghost use Rattle.smap_map_answers.specs.Generated.{no_source_line, no_source_tex
 
 use smap_codes::Code;
 use smap_command::Generated;
-use smap_originals::{Asked, Direction, generated_for, generated_next};
-use smap_positions::generated_text;
+use smap_originals::{Asked, OriginalDirection, generated_for, generated_next};
+use smap_printing::generated_text;
 use smap_record::{MapFile, Mapping, source_name};
 use smap_replies::{Failure, FileReader, Reply, read_chosen};
 use smap_text::shown;
@@ -256,12 +256,12 @@ fn mappings_of(
     }
 }
 
-fn direction_of(after: bool) -> Direction
+fn direction_of(after: bool) -> OriginalDirection
     ensures { result ≡ direction_of after }
 {
     if after {
-        Direction::AtOrAfter
+        OriginalDirection::AtOrAfter
     } else {
-        Direction::AtOrBefore
+        OriginalDirection::AtOrBefore
     }
 }

@@ -3,7 +3,7 @@ ghost use Rattle.std.specs.Prelude.{◌≡◌, ◌+◌, string_bytes, IfOk};
 ghost use Rattle.smap_map_answers.specs.Lines.{found_line, refused_line};
 
 use smap_mappings::Fault;
-use smap_positions::from_one;
+use smap_printing::from_one;
 use smap_verdicts::fault_text;
 use std::alloc::{AllocError, Global};
 

@@ -6,7 +6,7 @@ ghost use Rattle.smap_replies.specs.Outcome.{OrMemory, report_of};
 ghost use Rattle.smap_replies.specs.Why.{ReportsMapWhy};
 
 use smap_command::{Direction, LookupOptions};
-use smap_positions::{lookup_as_json, lookup_text};
+use smap_printing::{lookup_as_json, lookup_text};
 use smap_record::{MapFile, Meter, ReadyMap};
 use smap_replies::{Failure, FileReader, MapReader, Reply, read_map_explained};
 use smap_verdicts::nearest_text;

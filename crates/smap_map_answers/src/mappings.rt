@@ -2,11 +2,11 @@
 ghost use Rattle.std.specs.Prelude.{◌≡◌, false};
 ghost use Rattle.smap_map_answers.specs.Mappings.{MappingsReports, PrintingReports};
 ghost use Rattle.smap_replies.specs.Outcome.{report_of};
-ghost use Rattle.smap_positions.specs.Mappings.{mappings_text};
+ghost use Rattle.smap_printing.specs.Mappings.{mappings_text};
 
 use smap_command::{Mappings, MappingsOptions};
 use smap_io::ByteSink;
-use smap_positions::print_mappings;
+use smap_printing::print_mappings;
 use smap_record::MapFile;
 use smap_replies::{Failure, FileReader, Reply, read_chosen};
 use std::alloc::Global;
@@ -40,7 +40,7 @@ fn printed_mappings<W: ByteSink>(
         (report_of result) }
 {
     match print_mappings(alloc, map, options, output) {
-        Ok(()) => Ok(Reply::Rewritten),
+        Ok(()) => Ok(Reply::Printed),
         Err(fault) => Err(Failure::Fault(fault)),
     }
 }

@@ -15,7 +15,7 @@ use smap_codes::Code;
 use smap_command::{AnswerOptions, Positions};
 use smap_io::{ByteSink, ByteSource};
 use smap_lines::LineFault;
-use smap_positions::PositionsSummary;
+use smap_printing::PositionsSummary;
 use smap_record::ReadyMap;
 use smap_replies::{Failure, FileReader, Reply, read_chosen};
 use std::alloc::Global;
@@ -62,12 +62,12 @@ fn answer_over<R: ByteSource, W: ByteSink>(
     let Ok(room) = String::with_capacity(alloc, MOST_REFUSAL_BYTES) else {
         return Err(Failure::Memory);
     };
-    let summary = match smap_positions::answer_positions(alloc, input, output, map, options) {
+    let summary = match smap_printing::answer_position_lines(alloc, input, output, map, options) {
         Ok(summary) => summary,
         Err(fault) => return Err(Failure::Fault(fault)),
     };
     let Some(refused) = refused_positions(room, summary) else {
-        return Ok(Reply::Rewritten);
+        return Ok(Reply::Printed);
     };
     match output.flush() {
         Ok(()) => Err(refused),

@@ -17,8 +17,8 @@ use smap_codes::Code;
 use smap_index::laws::one_text_is_its_mappings;
 use smap_index::{Answer, BuildRefusal, Index, Part};
 use smap_io::{ByteSource, ReadFailure, read_all};
-use smap_mappings::{MOST_BYTES, MOST_INDICES, Meter, PackedText, TextRefusal};
-use smap_positions::{NONE, UNMAPPED};
+use smap_mappings::{MOST_INDICES, MOST_MAPPINGS_BYTES, Meter, PackedText, TextRefusal};
+use smap_printing::{NONE, UNMAPPED};
 use smap_replies::{Failure, Reply, refused_by};
 use std::alloc::{AllocError, Global};
 
@@ -38,15 +38,15 @@ pub fn answer_raw<R: ByteSource>(
         (devices_seen (R.seen input.new) output) (report_of result) }
 {
     // Two bytes more than a text may have: one of them may be the LF that is dropped.
-    match read_all(alloc, input, MOST_BYTES + 2) {
-        Ok(bytes) => answer_bytes(alloc, bytes, line, column, interval),
+    match read_all(alloc, input, MOST_MAPPINGS_BYTES + 2) {
+        Ok(bytes) => answer_mappings_text(alloc, bytes, line, column, interval),
         Err(ReadFailure::Device) => Err(Failure::InputFailure),
         Err(ReadFailure::Memory) => Err(Failure::Memory),
     }
 }
 
 // Looks the position up in the mappings text that the bytes are.
-fn answer_bytes(
+fn answer_mappings_text(
     alloc: Global,
     bytes: Vec<u8>,
     line: u32,
@@ -83,7 +83,7 @@ fn answer_text(
     ensures { OrMemory (λ report. report ≡ text_result bytes.items line column)
         (report_of result) }
 {
-    if bytes.len() > MOST_BYTES {
+    if bytes.len() > MOST_MAPPINGS_BYTES {
         return Err(refused_by(alloc, Code::TextTooLong)?);
     }
     match String::from_utf8(bytes) {

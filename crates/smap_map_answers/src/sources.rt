@@ -9,7 +9,7 @@ ghost use Rattle.smap_map_answers.specs.Sources.{IsSourcesReported, ReportsSourc
 use crate::lines;
 use smap_codes::Code;
 use smap_command::{SourceContent, SourceOptions, Sources};
-use smap_positions::sources_text;
+use smap_printing::sources_text;
 use smap_record::MapFile;
 use smap_replies::{
     Failure, FileReader, MapReader, Reply, read_chosen, read_map, read_text, refused_by,

@@ -48,7 +48,7 @@ pub use cursor::Cursor;
 pub use fault::{Fault, FaultKind};
 pub use faulty::{FaultySegment, faulty_segment};
 pub use kind::Kind;
-pub use limits::{LIMIT, MOST_BYTES, MOST_DIGITS, MOST_INDICES};
+pub use limits::{LIMIT, MOST_DIGITS, MOST_INDICES, MOST_MAPPINGS_BYTES};
 pub use line_walk::LineWalk;
 pub use mapping::{Mapping, Origin};
 pub use measures::{first_bad_digit, large_magnitude, long_number_digits, segment_numbers};

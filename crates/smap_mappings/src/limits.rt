@@ -13,4 +13,4 @@ pub const MOST_DIGITS: usize = 7;
 pub const MOST_SEGMENT_DIGITS: usize = 5 * MOST_DIGITS;
 
 /// How many bytes a text has at most, which is 64 MiB.
-pub const MOST_BYTES: usize = 67108864;
+pub const MOST_MAPPINGS_BYTES: usize = 67108864;

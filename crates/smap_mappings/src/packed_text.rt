@@ -18,7 +18,7 @@ use crate::check::check_after;
 use crate::copied::canonical_copy;
 use crate::cursor::Cursor;
 use crate::fault::Fault;
-use crate::limits::MOST_BYTES;
+use crate::limits::MOST_MAPPINGS_BYTES;
 use crate::line_walk::{LineWalk, walk_line};
 use crate::mapping::Mapping;
 use crate::meter::Meter;
@@ -79,7 +79,7 @@ impl PackedText {
             → first_fault (string_bytes text) sources names ≡ Some fault) }
         ensures returned { IfErr result (λ e. e.1 ≡ text) }
     {
-        if text.len() > MOST_BYTES {
+        if text.len() > MOST_MAPPINGS_BYTES {
             return Err((TextRefusal::TextTooLong, text));
         }
         let walk = walk_whole(text.as_bytes(), sources, names);

@@ -16,7 +16,7 @@ use crate::fault::FaultKind;
 use crate::kind::Kind;
 use crate::segment::{Segment, is_inside, read_segment};
 use crate::spelling::spelling_fault;
-use crate::straight::{has_room, read_straight};
+use crate::straight::{has_room_for_segment, read_straight};
 
 // The state at the next segment, or at the end of the text where there is none.
 #[inline(always)]
@@ -91,7 +91,7 @@ pub fn checked_step(bytes: &[u8], cursor: &Cursor) -> (Kind, Cursor)
     requires inside { is_inside (slice_index bytes.now cursor.now.place) ≡ true }
     ensures { IsSteppedTo bytes.now cursor.now result.0 result.1 }
 {
-    if has_room(bytes, cursor.place)
+    if has_room_for_segment(bytes, cursor.place)
         && let Some(stepped) = straight_step(bytes, cursor)
     {
         return stepped;

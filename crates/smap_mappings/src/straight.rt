@@ -23,7 +23,7 @@ pub struct StraightSegment {
 
 // Whether the longest segment would end before the text does, if one began at this place.
 #[inline(always)]
-pub fn has_room(bytes: &[u8], place: usize) -> bool
+pub fn has_room_for_segment(bytes: &[u8], place: usize) -> bool
     requires short { length bytes.now ≤ most_text_bytes }
     requires inside { place ≤ length bytes.now }
     ensures { IsTrue result → place + most_segment_digits < length bytes.now }
@@ -52,7 +52,7 @@ pub fn read_straight(bytes: &[u8], cursor: &Cursor) -> Option<StraightSegment>
 {
     let (first, place) = read_inner_field(bytes, cursor.place)?;
     let column = moved(cursor.column, first);
-    let Some((source, source_end)) = read_moved(bytes, place, cursor.source) else {
+    let Some((source, source_end)) = read_running_value(bytes, place, cursor.source) else {
         if !is_at_inner_end(bytes, place) {
             return None;
         }
@@ -67,8 +67,8 @@ pub fn read_straight(bytes: &[u8], cursor: &Cursor) -> Option<StraightSegment>
             after,
         });
     };
-    let (original_line, place) = read_moved(bytes, source_end, cursor.original_line)?;
-    let (original_column, place) = read_moved(bytes, place, cursor.original_column)?;
+    let (original_line, place) = read_running_value(bytes, source_end, cursor.original_line)?;
+    let (original_column, place) = read_running_value(bytes, place, cursor.original_column)?;
     let after = Cursor {
         place,
         column,
@@ -84,7 +84,7 @@ pub fn read_straight(bytes: &[u8], cursor: &Cursor) -> Option<StraightSegment>
             after,
         });
     }
-    let (name, place) = read_moved(bytes, place, cursor.name)?;
+    let (name, place) = read_running_value(bytes, place, cursor.name)?;
     if !is_at_inner_end(bytes, place) {
         return None;
     }
@@ -101,7 +101,7 @@ pub fn read_straight(bytes: &[u8], cursor: &Cursor) -> Option<StraightSegment>
 
 // The value after the field that begins at a place, and the place after it.
 #[inline(always)]
-fn read_moved(bytes: &[u8], place: usize, value: u32) -> Option<(u32, usize)>
+fn read_running_value(bytes: &[u8], place: usize, value: u32) -> Option<(u32, usize)>
     requires { place + 1 < length bytes.now }
     ensures some { IfSome result (λ read. IsMovedBy bytes.now place value read.0 read.1) }
     ensures few { IfSome result (λ read. read.1 ≤ place + most_digits) }

@@ -12,7 +12,7 @@ ghost use Rattle.smap_mappings.specs.Within.{IsWithin};
 
 use crate::fault::Fault;
 use crate::kind::Kind;
-use crate::limits::MOST_BYTES;
+use crate::limits::MOST_MAPPINGS_BYTES;
 use crate::packed_text::PackedText;
 use crate::state::State;
 use crate::walk::{Walk, walk_line, walk_next};
@@ -59,7 +59,7 @@ impl TextCheck {
         ensures none_so_far { IfOk result (λ checking. checking.segments ≡ 0) }
         ensures returned { IfErr result (λ e. e ≡ text) }
     {
-        if text.len() > MOST_BYTES {
+        if text.len() > MOST_MAPPINGS_BYTES {
             return Err(text);
         }
         Ok(TextCheck {

@@ -8,7 +8,7 @@ ghost use Rattle.smap_mappings.specs.Private.OneMore.{CanBeSpelled, spelled};
 ghost use Rattle.smap_mappings.specs.declared.mapping.Mapping.{Mapping};
 
 use crate::last_values::LastValues;
-use crate::limits::MOST_BYTES;
+use crate::limits::MOST_MAPPINGS_BYTES;
 use crate::mapping::Mapping;
 use crate::segment::Segment;
 use crate::vlq::spelling_length;
@@ -55,7 +55,7 @@ impl TextLength {
     {
         let segment = self.last.segment(mapping);
         let more = separators_length(&self.last.mapping, mapping) + segment_length(&segment);
-        self.bytes = (self.bytes + more).min(MOST_BYTES as u64 + 1);
+        self.bytes = (self.bytes + more).min(MOST_MAPPINGS_BYTES as u64 + 1);
         self.last = self.last.after(mapping);
     }
 
@@ -73,7 +73,7 @@ impl TextLength {
             → result ≡ (if nat_lt most_text_bytes (length (canonical_text list)) then None
             else Some (length (canonical_text list))) }
     {
-        if self.bytes > MOST_BYTES as u64 {
+        if self.bytes > MOST_MAPPINGS_BYTES as u64 {
             None
         } else {
             Some(self.bytes as usize)

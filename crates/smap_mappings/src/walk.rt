@@ -15,7 +15,7 @@ use crate::check::is_new_line;
 use crate::cursor::Cursor;
 use crate::kind::Kind;
 use crate::step::{skip_separators, step};
-use crate::straight::{has_room, is_joined, read_straight};
+use crate::straight::{has_room_for_segment, is_joined, read_straight};
 
 // How far a check has come: the state, how many segments stand before it, and how many lines hold one of these.
 #[derive(Clone, Copy)]
@@ -131,7 +131,7 @@ fn step_clean(bytes: &[u8], cursor: &Cursor, sources: u32, names: u32) -> Option
     ensures none { IfNone result ((j : ℕ) → IsAfter bytes.now j cursor.now →
         is_some (faulty_from bytes.now sources names j) ≡ true) }
 {
-    if has_room(bytes, cursor.place)
+    if has_room_for_segment(bytes, cursor.place)
         && let Some(stepped) = step_straight(bytes, cursor, sources, names)
     {
         return Some(stepped);

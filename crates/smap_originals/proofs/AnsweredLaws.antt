@@ -14,7 +14,7 @@ use Rattle.smap_originals.specs.Generated.{column_of, generated_for, generated_n
 use Rattle.smap_originals.specs.Originals.{AreOriginalsOf, IsByOriginal, from_source, is_of, line_of, of_source, order_of, original_order, place_of}
 use Rattle.smap_originals.specs.Private.Nearest.{has_column}
 use Rattle.smap_originals.specs.Private.Run.{AreFound, AreNearest, is_candidate, is_original}
-use Rattle.smap_originals.specs.declared.asked.Direction.{Direction}
+use Rattle.smap_originals.specs.declared.asked.OriginalDirection.{OriginalDirection}
 use Rattle.smap_originals.specs.declared.place.GeneratedPlace.{GeneratedPlace}
 use Rattle.smap_originals.proofs.ListLaws.{any_alike, any_filter, any_map, any_none, filter_filter, filter_of_map, none_kept}
 use Rattle.smap_originals.proofs.NearestLaws.{nearest_are}
@@ -31,7 +31,7 @@ tied_numbers : (m n : ℕ) → m ≡ n → (not (is_lt (nat_cmp m n)) && not (is
 tied_numbers m n same = grind (arith, nat_tests)
 
 -- on the line, on the side and at the column is at the column alone, where that is on the side
-at_best : (direction : Direction) (line column best : ℕ) → is_on_side direction column best ≡ true → (p : GeneratedPlace)
+at_best : (direction : OriginalDirection) (line column best : ℕ) → is_on_side direction column best ≡ true → (p : GeneratedPlace)
     → (is_candidate direction line column p && (p.original_column == best)) ≡ is_original line best p
 at_best direction line column best inside p = ⊎_elim
     (λ is. let there : is_on_side direction column p.original_column ≡ true = ap (is_on_side direction column) (eqb-true p.original_column best is) ∙ inside in
@@ -41,7 +41,7 @@ at_best direction line column best inside p = ⊎_elim
     ∙ sym (and_right (p.original_line == line) (p.original_column == best) other))
     (cases_Bool (p.original_column == best))
 
-module _ (direction : Direction) (list : List Mapping) (source line column : ℕ) where
+module _ (direction : OriginalDirection) (list : List Mapping) (source line column : ℕ) where
   with_origin : (o : Option Origin) → (is_origin_on source line o && is_on_side direction column (column_of o))
       ≡ (is_of source o && ((line_of o == line) && is_on_side direction column (column_of o)))
   with_origin None = refl
@@ -124,7 +124,7 @@ module _ (direction : Direction) (list : List Mapping) (source line column : ℕ
         are
 
 -- the same of an index
-pub found_in : (direction : Direction) (list : List Mapping) (source line column : ℕ) (originals : List (List GeneratedPlace)) (places found : List GeneratedPlace)
+pub found_in : (direction : OriginalDirection) (list : List Mapping) (source line column : ℕ) (originals : List (List GeneratedPlace)) (places found : List GeneratedPlace)
     → AreOriginalsOf list originals → of_source originals source ≡ places → AreFound direction line column places found
     → found ≡ map place_of (generated_next direction list source line column)
 found_in direction list source line column originals places found are same in_places =

@@ -11,8 +11,8 @@ use Rattle.smap_mappings.specs.declared.mapping.Mapping.{Mapping}
 use Rattle.smap_mappings.specs.declared.mapping.Origin.{Origin}
 use Rattle.smap_originals.specs.Generated.{column_of, generated_for, generated_next, has_nearer, is_nearer, is_on_side, is_origin_on, on_side}
 use Rattle.smap_originals.specs.Laws.{AnswersOn, IsLastAtItsPlace, is_at_place_of}
-use Rattle.smap_originals.specs.declared.asked.Direction.{Direction}
-use Rattle.smap_originals.specs.declared.asked.Direction.TheVariants.{AtOrBefore, AtOrAfter}
+use Rattle.smap_originals.specs.declared.asked.OriginalDirection.{OriginalDirection}
+use Rattle.smap_originals.specs.declared.asked.OriginalDirection.TheVariants.{AtOrBefore, AtOrAfter}
 use Rattle.smap_originals.proofs.ListLaws.{any_none, none_kept}
 
 -- ---- each is found
@@ -32,15 +32,15 @@ kept_at p (y ∷ ys) x (suc k) is inside same =
 contains_kept : {X : Type 0} (p : X → Bool) (xs : List X) (x : X) → p x ≡ true → Contains xs x → Contains (filter p xs) x
 contains_kept p xs x is there = kept_at p xs x there.0 is there.1 there.2
 
-side_of_itself : (direction : Direction) (column : ℕ) → is_on_side direction column column ≡ true
+side_of_itself : (direction : OriginalDirection) (column : ℕ) → is_on_side direction column column ≡ true
 side_of_itself AtOrBefore column = le-leb column column (omega arith)
 side_of_itself AtOrAfter column = le-leb column column (omega arith)
 
-none_nearer_than_asked : (direction : Direction) (asked column : ℕ) → is_on_side direction asked column ≡ true → is_nearer direction column asked ≡ false
+none_nearer_than_asked : (direction : OriginalDirection) (asked column : ℕ) → is_on_side direction asked column ≡ true → is_nearer direction column asked ≡ false
 none_nearer_than_asked AtOrBefore asked column inside = le-ltb asked column (leb-true column asked inside)
 none_nearer_than_asked AtOrAfter asked column inside = le-ltb column asked (leb-true asked column inside)
 
-pub found_itself : (direction : Direction) (list : List Mapping) (m : Mapping) (o : Origin) → Contains list m → m.origin ≡ Some o
+pub found_itself : (direction : OriginalDirection) (list : List Mapping) (m : Mapping) (o : Origin) → Contains list m → m.origin ≡ Some o
     → Contains (generated_next direction list o.source o.line o.column) m
 unfolding generated_next
 found_itself direction list m o there origin =
@@ -118,7 +118,7 @@ module _ (source line : ℕ) where
       ∙ ap (λ l. last_or None (filter test last.front ++ l)) kept ∙ last_behind (filter test last.front) None m in
       subst (λ o. AnswersOn source line (answer_of_last o)) (sym found) (answers_with m.column m.origin is)
 
-  pub all_answer : (direction : Direction) (list : List Mapping) (column : ℕ) → IsInOrder list
+  pub all_answer : (direction : OriginalDirection) (list : List Mapping) (column : ℕ) → IsInOrder list
       → All (λ m. IsLastAtItsPlace list m → AnswersOn source line (answer_at_or_before list m.line m.column)) (generated_next direction list source line column)
   unfolding generated_next
   all_answer direction list column order =

@@ -5,9 +5,9 @@ use Rattle.std.specs.List.{AllWithin, list_any, slice_get}
 use Rattle.std.proofs.lemmas.Bool.{and_from, and_parts, cases_lt, eq-eqb, eqb-true, false_from_ne_true, le-leb, leb-true, ltb-true}
 use Rattle.std.proofs.lemmas.List.Folds.{list_any_at, list_any_none}
 use Rattle.std.proofs.lemmas.Option.{slice_get_within}
-use Rattle.smap_originals.specs.Originals.{order_of, original_order}
+use Rattle.smap_originals.specs.Originals.{on_line, order_of, original_order}
 use Rattle.smap_originals.specs.Private.Run.{AreFound, IsInOrder, IsSplitAt, is_candidate, is_nearer_candidate, is_original}
-use Rattle.smap_originals.specs.declared.asked.Direction.TheVariants.{AtOrBefore, AtOrAfter}
+use Rattle.smap_originals.specs.declared.asked.OriginalDirection.TheVariants.{AtOrBefore, AtOrAfter}
 use Rattle.smap_originals.specs.declared.place.GeneratedPlace.{GeneratedPlace}
 use Rattle.smap_originals.proofs.ListLaws.{middle_kept}
 use Rattle.smap_originals.proofs.OrderLaws.{read}
@@ -172,3 +172,40 @@ module _ (places : List GeneratedPlace) (line column first end : ℕ) (best : �
               (cases_lt k first)));
         },
       )
+
+-- ---- a line
+
+line_is : (line : ℕ) (p : GeneratedPlace) → p.original_column < 4294967296 → order_of line 0 ≤ original_order p
+    → original_order p < order_of line 4294967295 + 1 → (p.original_line == line) ≡ true
+line_is line p small low high = eq-eqb p.original_line line (omega (arith, small, low, high))
+
+no_line : (line : ℕ) (p : GeneratedPlace) → (p.original_line ≡ line → ⊥) → (p.original_line == line) ≡ false
+no_line line p apart = false_from_ne_true (p.original_line == line) (λ is. apart (eqb-true p.original_line line is))
+
+-- what is in front of the line's last place and not before its first
+module _ (places : List GeneratedPlace) (line first end : ℕ) (start : IsSplitAt (order_of line 0) places first)
+    (behind : IsSplitAt (order_of line 4294967295 + 1) places end) (first_within : first ≤ length places) (end_within : end ≤ length places) where
+  crossed : (end < first) → (d : GeneratedPlace) → ⊥
+  crossed before d =
+      let low = start.0 end d (omega arith) before in
+      let high = behind.1 end d (omega arith) (omega arith) in
+      omega (arith, low, high)
+
+  pub line_begins : first ≤ end
+  line_begins = ⊎_elim
+      (λ before. absurd (crossed before (get_or places end (record { line = 0; column = 0; original_line = 0; original_column = 0 }))))
+      (λ fits. fits)
+      (cases_lt end first)
+
+  pub line_kept : IsInOrder places → first ≤ end → take (end - first) (drop first places) ≡ on_line line places
+  line_kept sound ordered =
+      let far : first + (end - first) ≡ end = omega arith in
+      sym (middle_kept (λ place. place.original_line == line) places first (end - first) (omega arith)
+      (λ k d low high. let less = start.0 k d low high in
+      no_line line (get_or places k d) (λ same. omega (arith, less, same)))
+      (λ k d low high. let up = start.1 k d low (omega arith) in
+      let down = behind.0 k d (omega arith) (omega arith) in
+      line_is line (get_or places k d) (sound.in_range k d (omega arith)) up down)
+      (λ k d low high. let more = behind.1 k d (omega arith) high in
+      let small = sound.in_range k d high in
+      no_line line (get_or places k d) (λ same. omega (arith, more, small, same))))

@@ -10,41 +10,41 @@ use Rattle.std.proofs.lemmas.List.Folds.{list_any-append, list_any_none}
 use Rattle.smap_mappings.specs.declared.mapping.Mapping.{Mapping}
 use Rattle.smap_originals.specs.Generated.{column_of, has_nearer, is_nearer, nearest}
 use Rattle.smap_originals.specs.Private.Nearest.{AreAt, IsNearestOf, has_column}
-use Rattle.smap_originals.specs.declared.asked.Direction.{Direction}
-use Rattle.smap_originals.specs.declared.asked.Direction.TheVariants.{AtOrBefore, AtOrAfter}
-use Rattle.smap_originals.specs.declared.nearest.Nearest.{Nearest}
+use Rattle.smap_originals.specs.declared.asked.OriginalDirection.{OriginalDirection}
+use Rattle.smap_originals.specs.declared.asked.OriginalDirection.TheVariants.{AtOrBefore, AtOrAfter}
+use Rattle.smap_originals.specs.declared.nearest.NearestMappings.{NearestMappings}
 use Rattle.smap_originals.proofs.ListLaws.{any_implied, any_none, filter_alike, none_kept}
 
 -- ---- the order
 
-pub none_is_nearer : (direction : Direction) (a : ℕ) → is_nearer direction a a ≡ false
+pub none_is_nearer : (direction : OriginalDirection) (a : ℕ) → is_nearer direction a a ≡ false
 none_is_nearer AtOrBefore a = le-ltb a a (omega arith)
 none_is_nearer AtOrAfter a = le-ltb a a (omega arith)
 
-pub nearer_apart : (direction : Direction) (a b : ℕ) → is_nearer direction a b ≡ true → b ≡ a → ⊥
+pub nearer_apart : (direction : OriginalDirection) (a b : ℕ) → is_nearer direction a b ≡ true → b ≡ a → ⊥
 nearer_apart AtOrBefore a b is same = omega (arith, ltb-true b a is)
 nearer_apart AtOrAfter a b is same = omega (arith, ltb-true a b is)
 
-pub one_is_nearer : (direction : Direction) (a b : ℕ) → is_nearer direction a b ≡ false → (a ≡ b → ⊥) → is_nearer direction b a ≡ true
+pub one_is_nearer : (direction : OriginalDirection) (a b : ℕ) → is_nearer direction a b ≡ false → (a ≡ b → ⊥) → is_nearer direction b a ≡ true
 one_is_nearer AtOrBefore a b far apart = lt-ltb a b (omega (arith, ltb-false b a far))
 one_is_nearer AtOrAfter a b far apart = lt-ltb b a (omega (arith, ltb-false a b far))
 
-pub neither_is_nearer : (direction : Direction) (a b : ℕ) → is_nearer direction a b ≡ false → is_nearer direction b a ≡ false → b ≡ a
+pub neither_is_nearer : (direction : OriginalDirection) (a b : ℕ) → is_nearer direction a b ≡ false → is_nearer direction b a ≡ false → b ≡ a
 neither_is_nearer AtOrBefore a b far other = omega (arith, ltb-false b a far, ltb-false a b other)
 neither_is_nearer AtOrAfter a b far other = omega (arith, ltb-false a b far, ltb-false b a other)
 
-pub not_back : (direction : Direction) (a b : ℕ) → is_nearer direction a b ≡ true → is_nearer direction b a ≡ false
+pub not_back : (direction : OriginalDirection) (a b : ℕ) → is_nearer direction a b ≡ true → is_nearer direction b a ≡ false
 not_back AtOrBefore a b is = le-ltb a b (omega (arith, ltb-true b a is))
 not_back AtOrAfter a b is = le-ltb b a (omega (arith, ltb-true a b is))
 
 -- what is not nearer than one is not nearer than a nearer one
-pub further : (direction : Direction) (a b c : ℕ) → is_nearer direction c b ≡ true → is_nearer direction a b ≡ false → is_nearer direction a c ≡ false
+pub further : (direction : OriginalDirection) (a b c : ℕ) → is_nearer direction c b ≡ true → is_nearer direction a b ≡ false → is_nearer direction a c ≡ false
 further AtOrBefore a b c is far = le-ltb c a (omega (arith, ltb-true b c is, ltb-false b a far))
 further AtOrAfter a b c is far = le-ltb a c (omega (arith, ltb-true c b is, ltb-false a b far))
 
 -- ---- the nearest are those of one column
 
-module _ (direction : Direction) (xs : List Mapping) (best : ℕ) (some : list_any (has_column best) xs ≡ true) (none : has_nearer direction xs best ≡ false) where
+module _ (direction : OriginalDirection) (xs : List Mapping) (best : ℕ) (some : list_any (has_column best) xs ≡ true) (none : has_nearer direction xs best ≡ false) where
   kept_alike : (m : Mapping) → is_nearer direction (column_of m.origin) best ≡ false
       → not (has_nearer direction xs (column_of m.origin)) ≡ has_column best m
   kept_alike m far = ⊎_elim
@@ -68,7 +68,7 @@ module _ (direction : Direction) (xs : List Mapping) (best : ℕ) (some : list_a
 one_kept : (m : Mapping) → filter (has_column (column_of m.origin)) (m ∷ []) ≡ m ∷ []
 one_kept m = cond-true (has_column (column_of m.origin) m) (m ∷ []) [] (eq-eqb (column_of m.origin) (column_of m.origin) refl)
 
-module _ (direction : Direction) (m : Mapping) where
+module _ (direction : OriginalDirection) (m : Mapping) where
   here_nearer : (best : ℕ) → is_nearer direction (column_of m.origin) best ≡ false → has_nearer direction (m ∷ []) best ≡ false
   here_nearer best far = or_from (is_nearer direction (column_of m.origin) best) false far refl
 
@@ -141,21 +141,21 @@ module _ (direction : Direction) (m : Mapping) where
 
 -- ---- with the column that is kept
 
-pub at_column : (direction : Direction) (xs : List Mapping) (nearest : Nearest) (best : ℕ) → IsNearestOf direction xs nearest
+pub at_column : (direction : OriginalDirection) (xs : List Mapping) (nearest : NearestMappings) (best : ℕ) → IsNearestOf direction xs nearest
     → nearest.column ≡ Some best → AreAt direction xs best nearest.mappings.items
 at_column direction xs nearest best are is =
     subst (λ o. MatchOption o ((xs ≡ []) × (nearest.mappings.items ≡ [])) (λ c. AreAt direction xs c nearest.mappings.items)) is are
 
-pub none_yet : (direction : Direction) (xs : List Mapping) (nearest : Nearest) → IsNearestOf direction xs nearest → nearest.column ≡ None → xs ≡ []
+pub none_yet : (direction : OriginalDirection) (xs : List Mapping) (nearest : NearestMappings) → IsNearestOf direction xs nearest → nearest.column ≡ None → xs ≡ []
 none_yet direction xs nearest are is =
     (subst (λ o. MatchOption o ((xs ≡ []) × (nearest.mappings.items ≡ [])) (λ c. AreAt direction xs c nearest.mappings.items)) is are).0
 
-pub kept_column : (direction : Direction) (xs : List Mapping) (nearest : Nearest) (best : ℕ) → nearest.column ≡ Some best
+pub kept_column : (direction : OriginalDirection) (xs : List Mapping) (nearest : NearestMappings) (best : ℕ) → nearest.column ≡ Some best
     → AreAt direction xs best nearest.mappings.items → IsNearestOf direction xs nearest
 kept_column direction xs nearest best is are =
     subst (λ o. MatchOption o ((xs ≡ []) × (nearest.mappings.items ≡ [])) (λ c. AreAt direction xs c nearest.mappings.items)) (sym is) are
 
-pub begun : (direction : Direction) (m : Mapping) (xs : List Mapping) (column : ℕ) (next : Nearest) → column ≡ column_of m.origin
+pub begun : (direction : OriginalDirection) (m : Mapping) (xs : List Mapping) (column : ℕ) (next : NearestMappings) → column ≡ column_of m.origin
     → (next.column ≡ Some column) × (next.mappings.items ≡ m ∷ []) → AreAt direction xs (column_of m.origin) (m ∷ []) → IsNearestOf direction xs next
 begun direction m xs column next column_is next_is are =
     kept_column direction xs next column next_is.0

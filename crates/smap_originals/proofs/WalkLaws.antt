@@ -7,8 +7,8 @@ use Rattle.std.proofs.lemmas.List.Elements.{filter-append}
 use Rattle.smap_mappings.specs.declared.mapping.Mapping.{Mapping}
 use Rattle.smap_originals.specs.Generated.{column_of, generated_for, generated_next, is_on_side, is_origin_on, nearest, on_side}
 use Rattle.smap_originals.specs.Private.Nearest.{AreAt, IsNearestOf}
-use Rattle.smap_originals.specs.declared.asked.Direction.{Direction}
-use Rattle.smap_originals.specs.declared.nearest.Nearest.{Nearest}
+use Rattle.smap_originals.specs.declared.asked.OriginalDirection.{OriginalDirection}
+use Rattle.smap_originals.specs.declared.nearest.NearestMappings.{NearestMappings}
 use Rattle.smap_originals.proofs.NearestLaws.{nearest_are}
 
 module _ {X : Type 0} (p : X → Bool) (m : X) where
@@ -27,7 +27,7 @@ module _ {X : Type 0} (p : X → Bool) (m : X) where
   kept_same : (xs : List X) → p m ≡ false → filter p (xs ++ m ∷ []) ≡ filter p xs
   kept_same xs is = filter-append p xs (m ∷ []) ∙ ap (λ l. filter p xs ++ l) (cond-false (p m) (m ∷ []) [] is) ∙ append-nil (filter p xs)
 
-module _ (direction : Direction) (source line column : ℕ) (m : Mapping) (done : List Mapping) where
+module _ (direction : OriginalDirection) (source line column : ℕ) (m : Mapping) (done : List Mapping) where
   pub side_more : is_origin_on source line m.origin ≡ true → is_on_side direction column (column_of m.origin) ≡ true
       → on_side direction column (generated_for (done ++ m ∷ []) source line) ≡ on_side direction column (generated_for done source line) ++ m ∷ []
   side_more on_line inside =
@@ -45,13 +45,13 @@ module _ (direction : Direction) (source line column : ℕ) (m : Mapping) (done 
       (cases_Bool (is_origin_on source line m.origin)))
       (and_cases (is_origin_on source line m.origin) (is_on_side direction column (column_of m.origin)) outside)
 
-nearest_of : (direction : Direction) (xs items : List Mapping) (best : Option ℕ)
+nearest_of : (direction : OriginalDirection) (xs items : List Mapping) (best : Option ℕ)
     → MatchOption best ((xs ≡ []) × (items ≡ [])) (λ c. AreAt direction xs c items) → items ≡ nearest direction xs
 nearest_of direction xs items None none = none.1 ∙ sym (ap (nearest direction) none.0)
 nearest_of direction xs items (Some best) some = some.found_are ∙ sym (nearest_are direction xs best some.some some.none_nearer)
 
 -- the nearest of all that are asked for
-pub nearest_found : (direction : Direction) (list : List Mapping) (source line column : ℕ) (found : Nearest)
+pub nearest_found : (direction : OriginalDirection) (list : List Mapping) (source line column : ℕ) (found : NearestMappings)
     → IsNearestOf direction (on_side direction column (generated_for list source line)) found
     → found.mappings.items ≡ generated_next direction list source line column
 unfolding generated_next
@@ -60,9 +60,9 @@ nearest_found direction list source line column found are =
 
 -- ---- a step
 
-module _ (direction : Direction) (source line column : ℕ) (m : Mapping) (left all : List Mapping) (found next : Nearest) (old : List Mapping)
+module _ (direction : OriginalDirection) (source line column : ℕ) (m : Mapping) (left all : List Mapping) (found next : NearestMappings) (old : List Mapping)
     (steps : old ≡ m ∷ left) where
-  abbrev pub Walked : List Mapping → Nearest → Type 0
+  abbrev pub Walked : List Mapping → NearestMappings → Type 0
   Walked rest nearest = (done : List Mapping) × (done ++ rest ≡ all) × IsNearestOf direction (on_side direction column (generated_for done source line)) nearest
 
   one_done : (done : List Mapping) → done ++ old ≡ all → (done ++ m ∷ []) ++ left ≡ all
@@ -85,7 +85,7 @@ module _ (direction : Direction) (source line column : ℕ) (m : Mapping) (left 
             (adds (on_side direction column (generated_for so_far.0 source line)) so_far.2),
       )
 
-pub walked_all : (direction : Direction) (source line column : ℕ) (rest all : List Mapping) (found : Nearest) → rest ≡ []
+pub walked_all : (direction : OriginalDirection) (source line column : ℕ) (rest all : List Mapping) (found : NearestMappings) → rest ≡ []
     → (done : List Mapping) × (done ++ rest ≡ all) × IsNearestOf direction (on_side direction column (generated_for done source line)) found
     → found.mappings.items ≡ generated_next direction all source line column
 walked_all direction source line column rest all found empty walked =

@@ -47,6 +47,10 @@ pub record IsByOriginal (places sorted : List GeneratedPlace) : Type 0 where
 abbrev pub of_source : List (List GeneratedPlace) → (source : ℕ) → List GeneratedPlace
 of_source originals source = slice_index_or originals source []
 
+-- of these places those whose original is on this line, in their order
+abbrev pub on_line : (line : ℕ) → List GeneratedPlace → List GeneratedPlace
+on_line line places = filter (λ place. place.original_line == line) places
+
 -- they are those of the mappings of the list whose original is of the source
 abbrev pub AreOriginalsOf : List Mapping → List (List GeneratedPlace) → Type 0
 AreOriginalsOf list originals = (source : ℕ) → IsByOriginal (map place_of (from_source source list)) (of_source originals source)

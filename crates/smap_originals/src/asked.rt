@@ -4,19 +4,19 @@ ghost use Rattle.smap_originals.specs.Generated.{is_nearer, is_on_side};
 
 /// Whether the greatest original column that is not after the asked one is looked for, or the least that is not before it.
 #[derive(Clone, Copy)]
-pub enum Direction {
+pub enum OriginalDirection {
     AtOrBefore,
     AtOrAfter,
 }
 
-impl Direction {
+impl OriginalDirection {
     // Whether an original column is on the asked side of a column.
     pub(crate) fn has(self, asked: u32, column: u32) -> bool
         ensures { result ≡ is_on_side self asked column }
     {
         match self {
-            Direction::AtOrBefore => column <= asked,
-            Direction::AtOrAfter => asked <= column,
+            OriginalDirection::AtOrBefore => column <= asked,
+            OriginalDirection::AtOrAfter => asked <= column,
         }
     }
 
@@ -25,8 +25,8 @@ impl Direction {
         ensures { result ≡ is_nearer self a b }
     {
         match self {
-            Direction::AtOrBefore => b < a,
-            Direction::AtOrAfter => a < b,
+            OriginalDirection::AtOrBefore => b < a,
+            OriginalDirection::AtOrAfter => a < b,
         }
     }
 }
@@ -37,5 +37,5 @@ pub struct Asked {
     pub source: u32,
     pub line: u32,
     pub column: u32,
-    pub direction: Direction,
+    pub direction: OriginalDirection,
 }

@@ -3,7 +3,7 @@
 //! columns and sources count from 0, columns in UTF-16 code units.
 //!
 //! ```text
-//! let asked = Asked { source, line, column, direction: Direction::AtOrBefore };
+//! let asked = Asked { source, line, column, direction: OriginalDirection::AtOrBefore };
 //! let found = generated_next(alloc, &map, &asked)?;
 //! let originals = Originals::new(alloc, &map)?;
 //! let places = originals.generated(&asked, &mut meter);
@@ -21,7 +21,7 @@ mod run;
 mod search;
 mod walk;
 
-pub use asked::{Asked, Direction};
+pub use asked::{Asked, OriginalDirection};
 pub use originals::Originals;
 pub use place::GeneratedPlace;
 pub use walk::{generated_for, generated_next};

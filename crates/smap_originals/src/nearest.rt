@@ -3,24 +3,24 @@ ghost use Rattle.std.specs.Prelude.{◌≡◌, ◌++◌, ◌∷◌, [], List, So
 ghost use Rattle.smap_mappings.specs.declared.mapping.Mapping.{Mapping};
 ghost use Rattle.smap_originals.specs.Generated.{column_of};
 ghost use Rattle.smap_originals.specs.Private.Nearest.{IsNearestOf};
-ghost use Rattle.smap_originals.specs.declared.asked.Direction.{Direction};
+ghost use Rattle.smap_originals.specs.declared.asked.OriginalDirection.{OriginalDirection};
 
-use crate::asked::Direction;
+use crate::asked::OriginalDirection;
 use smap_mappings::Mapping;
 use std::alloc::{AllocError, Global};
 
 // Those with the nearest original column so far, and that column, where there are any.
 #[derive(Drop)]
-pub struct Nearest {
+pub struct NearestMappings {
     pub column: Option<u32>,
     pub mappings: Vec<Mapping>,
 }
 
-impl Nearest {
-    pub fn new(alloc: Global) -> Nearest
-        ensures { (direction : Direction) → IsNearestOf direction [] result }
+impl NearestMappings {
+    pub fn new(alloc: Global) -> NearestMappings
+        ensures { (direction : OriginalDirection) → IsNearestOf direction [] result }
     {
-        Nearest {
+        NearestMappings {
             column: None,
             mappings: Vec::new(alloc),
         }
@@ -29,7 +29,7 @@ impl Nearest {
     // Takes in one more mapping, which has this original column.
     pub fn add(
         &mut self,
-        direction: Direction,
+        direction: OriginalDirection,
         mapping: Mapping,
         column: u32,
     ) -> Result<(), AllocError>

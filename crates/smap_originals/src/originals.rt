@@ -3,13 +3,13 @@ ghost use Rattle.std.specs.Prelude.{◌≡◌, ℕ, ◌+◌, ◌^◌, ◌<◌, �
 ghost use Rattle.smap_index.specs.Parts.{joined};
 ghost use Rattle.smap_mappings.specs.declared.mapping.Mapping.{Mapping};
 ghost use Rattle.smap_originals.specs.Generated.{generated_next};
-ghost use Rattle.smap_originals.specs.Originals.{AreOriginalsOf, of_source, place_of};
+ghost use Rattle.smap_originals.specs.Originals.{AreOriginalsOf, of_source, on_line, place_of};
 
-use crate::asked::{Asked, Direction};
+use crate::asked::{Asked, OriginalDirection};
 use crate::gather::{gather, sort};
 use crate::place::GeneratedPlace;
 use crate::places::Places;
-use crate::run::{run_from, run_up_to};
+use crate::run::{run_from, run_of_line, run_up_to};
 use smap_mappings::Meter;
 use smap_record::MapFile;
 use std::alloc::{AllocError, Global};
@@ -62,8 +62,24 @@ impl Originals {
             return &[];
         };
         match asked.direction {
-            Direction::AtOrBefore => run_up_to(places, asked.line, asked.column, meter),
-            Direction::AtOrAfter => run_from(places, asked.line, asked.column, meter),
+            OriginalDirection::AtOrBefore => run_up_to(places, asked.line, asked.column, meter),
+            OriginalDirection::AtOrAfter => run_from(places, asked.line, asked.column, meter),
+        }
+    }
+
+    /// All places whose original is on this line of this source, both from 0: by their original columns, and those of one in
+    /// the order of the map. Of fewer than 2 ^ b places of the source the call compares at most 2 b; the meter has counted
+    /// fewer than 2 ^ 61. It takes no memory.
+    pub fn on_line(&self, source: u32, line: u32, meter: &mut Meter) -> &[GeneratedPlace]
+        requires room { meter.old.comparisons < 2 ^ 61 }
+        ensures places { result.now ≡ on_line line (of_source self.now source) }
+        ensures compared { (b : ℕ) → length (of_source self.now source) < 2 ^ b →
+            meter.new.comparisons ≤ meter.old.comparisons + b + b }
+        ensures none_decoded { meter.new.segments ≡ meter.old.segments }
+    {
+        match self.by_source.get(source as usize) {
+            Some(places) => run_of_line(places, line, meter),
+            None => &[],
         }
     }
 }

@@ -1,11 +1,11 @@
-//! The run of places of one original column.
+//! The run of places of one original column, or of one original line.
 ghost use Rattle.std.specs.Prelude.{◌≡◌, ℕ, ◌+◌, ◌-◌, ◌^◌, ◌<◌, ◌≤◌, Some, length, slice_get};
 ghost use Rattle.std.specs.List.{AllWithin};
-ghost use Rattle.smap_originals.specs.Originals.{original_order};
+ghost use Rattle.smap_originals.specs.Originals.{on_line, original_order};
 ghost use Rattle.smap_originals.specs.Private.Run.{AreFound, IsInOrder};
-ghost use Rattle.smap_originals.specs.declared.asked.Direction.TheVariants as directions;
+ghost use Rattle.smap_originals.specs.declared.asked.OriginalDirection.TheVariants as directions;
 
-use crate::asked::Direction;
+use crate::asked::OriginalDirection;
 use crate::place::{GeneratedPlace, order_of};
 use crate::places::Places;
 use crate::search::split_at;
@@ -26,7 +26,12 @@ pub fn run_up_to<'a>(
         meter.new.comparisons ≤ meter.old.comparisons + b + length result.now }
     ensures none_decoded { meter.new.segments ≡ meter.old.segments }
 {
-    let split = split_at(places, order_of(line, column), Direction::AtOrBefore, meter);
+    let split = split_at(
+        places,
+        order_of(line, column),
+        OriginalDirection::AtOrBefore,
+        meter,
+    );
     match split.last {
         Some(last) if last.original_line == line => {
             let first = first_of_run(places, split.index - 1, last.original_order(), meter);
@@ -51,7 +56,12 @@ pub fn run_from<'a>(
         meter.new.comparisons ≤ meter.old.comparisons + b + length result.now }
     ensures none_decoded { meter.new.segments ≡ meter.old.segments }
 {
-    let split = split_at(places, order_of(line, column), Direction::AtOrAfter, meter);
+    let split = split_at(
+        places,
+        order_of(line, column),
+        OriginalDirection::AtOrAfter,
+        meter,
+    );
     match split.next {
         Some(next) if next.original_line == line => {
             let end = end_of_run(places, split.index, next.original_order(), meter);
@@ -60,6 +70,23 @@ pub fn run_from<'a>(
         Some(_) => &[],
         None => &[],
     }
+}
+
+// The places of all originals on a line, at the price of two searches: of fewer than 2 ^ b places the call compares at most
+// 2 b.
+pub fn run_of_line<'a>(places: &'a Places, line: u32, meter: &mut Meter) -> &'a [GeneratedPlace]
+    requires ordered { IsInOrder places.now }
+    requires room { meter.old.comparisons < 2 ^ 61 }
+    ensures found { result.now ≡ on_line line places.now }
+    ensures few { (b : ℕ) → length places.now < 2 ^ b →
+        meter.new.comparisons ≤ meter.old.comparisons + b + b }
+    ensures none_decoded { meter.new.segments ≡ meter.old.segments }
+{
+    let start = order_of(line, 0);
+    let last = order_of(line, u32::MAX);
+    let first = split_at(places, start, OriginalDirection::AtOrAfter, meter);
+    let end = split_at(places, last, OriginalDirection::AtOrBefore, meter);
+    places.lend(first.index, end.index)
 }
 
 // The first place of the run in which place `at` stands, of which this is the number.

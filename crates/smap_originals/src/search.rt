@@ -2,7 +2,7 @@
 ghost use Rattle.std.specs.Prelude.{◌≡◌, ℕ, ◌+◌, ◌-◌, ◌^◌, ◌<◌, ◌≤◌, Some, length, nat_lt, slice_get, MatchOption};
 ghost use Rattle.smap_originals.specs.Private.Run.{IsInOrder, IsSplitAt, bound_of};
 
-use crate::asked::Direction;
+use crate::asked::OriginalDirection;
 use crate::place::GeneratedPlace;
 use crate::places::Places;
 use smap_mappings::Meter;
@@ -18,7 +18,12 @@ pub struct Split {
 // Splits the places by the numbers of their originals, in front of those with this number or behind them, as the direction
 // has it. The search halves, so that it reads at most b of fewer than 2 ^ b places, and both that it gives are among those
 // that it read.
-pub fn split_at(places: &Places, order: u64, direction: Direction, meter: &mut Meter) -> Split
+pub fn split_at(
+    places: &Places,
+    order: u64,
+    direction: OriginalDirection,
+    meter: &mut Meter,
+) -> Split
     requires ordered { IsInOrder places.now }
     requires room { meter.old.comparisons < 2 ^ 62 }
     ensures split { IsSplitAt (bound_of direction order) places.now result.index }
@@ -55,11 +60,11 @@ pub fn split_at(places: &Places, order: u64, direction: Direction, meter: &mut M
 }
 
 // Whether a number stands in front.
-fn stands_before(here: u64, order: u64, direction: Direction) -> bool
+fn stands_before(here: u64, order: u64, direction: OriginalDirection) -> bool
     ensures { result ≡ nat_lt here (bound_of direction order) }
 {
     match direction {
-        Direction::AtOrBefore => here <= order,
-        Direction::AtOrAfter => here < order,
+        OriginalDirection::AtOrBefore => here <= order,
+        OriginalDirection::AtOrAfter => here < order,
     }
 }

@@ -4,7 +4,7 @@ ghost use Rattle.smap_index.specs.Parts.{joined};
 ghost use Rattle.smap_originals.specs.Generated.{column_of, generated_for, generated_next, is_on_side, is_origin_on};
 
 use crate::asked::Asked;
-use crate::nearest::Nearest;
+use crate::nearest::NearestMappings;
 use smap_mappings::Mapping;
 use smap_record::MapFile;
 use std::alloc::{AllocError, Global};
@@ -40,7 +40,7 @@ pub fn generated_next(
     ensures { IfOk result (λ found. found.items ≡ generated_next asked.now.direction
         (joined map.now.stated.parts) asked.now.source asked.now.line asked.now.column) }
 {
-    let mut nearest = Nearest::new(alloc);
+    let mut nearest = NearestMappings::new(alloc);
     for mapping in map.mappings(alloc) {
         if is_asked(&mapping, asked) {
             let column = original_column(&mapping);

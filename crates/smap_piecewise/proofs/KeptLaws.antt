@@ -3,13 +3,13 @@ use Rattle.std.proofs.Common.{◌≡◌, ◌∙◌, ℕ, List, refl, ap, option_
 use Rattle.smap_kept.specs.Kept.{KeptSeen, answer_of, asked_for, own_answer, used_by, why_none}
 use Rattle.smap_kept.specs.Laws.Under.{same_used}
 use Rattle.smap_kept.specs.OwnUrls.{key_of}
-use Rattle.smap_kept.specs.declared.answer.Answer.{Answer}
-use Rattle.smap_kept.specs.declared.answer.Answer.TheVariants.{Known, NoneKnown, Wanted}
+use Rattle.smap_kept.specs.declared.answer.KeptAnswer.{KeptAnswer}
+use Rattle.smap_kept.specs.declared.answer.KeptAnswer.TheVariants.{Known, NoneKnown, Wanted}
 use Rattle.smap_record.specs.MapFile.{Map}
 use Rattle.smap_piecewise.specs.KeptMaps.{Holding, holding_of, known_in, stated_by}
 
 module _ {T : Type 0} (url : List ℕ) (kept : KeptSeen T) where
-  pub use_holds : (found : Answer T) → holding_of (used_by found url kept) ≡ holding_of kept
+  pub use_holds : (found : KeptAnswer T) → holding_of (used_by found url kept) ≡ holding_of kept
   use_holds (Known value) = λ i. record {
     values = λ other. same_used other url kept.values i;
     nones = (holding_of kept).nones;
@@ -25,7 +25,7 @@ module _ {T : Type 0} (url : List ℕ) (kept : KeptSeen T) where
 -- ---- a look-up
 
 -- the answer, by what is kept
-abbrev answer_by : {T : Type 0} → (now : ℕ) → Holding T → (url : List ℕ) → Answer T
+abbrev answer_by : {T : Type 0} → (now : ℕ) → Holding T → (url : List ℕ) → KeptAnswer T
 answer_by now held url =
     let key = key_of held.others.own url in
     answer_of (option_map (λ one. one.value) (held.values key)) (why_none now (option_map (λ one. one.value) (held.nones key)))

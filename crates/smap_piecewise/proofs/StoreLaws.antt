@@ -2,8 +2,8 @@
 use Rattle.std.proofs.Common.{◌≡◌, ◌&&◌, ◌∙◌, ◌⊎◌, inl, inr, sym, ℕ, Bool, true, false, cond, List, Option, Some, None, ap, refl}
 use Rattle.std.specs.Prelude.{is_some, not, option_map}
 use Rattle.smap_locations.specs.Paths.{without_query}
-use Rattle.smap_kept.specs.declared.answer.Answer.{Answer}
-use Rattle.smap_kept.specs.declared.answer.Answer.TheVariants.{Known, NoneKnown, Wanted}
+use Rattle.smap_kept.specs.declared.answer.KeptAnswer.{KeptAnswer}
+use Rattle.smap_kept.specs.declared.answer.KeptAnswer.TheVariants.{Known, NoneKnown, Wanted}
 use Rattle.smap_kept.specs.declared.answer.NoValue.{NoValue}
 use Rattle.smap_piecewise.specs.KeptMaps.{known_in, stated_by}
 use Rattle.smap_piecewise.specs.Known.{KnownByUrl}
@@ -36,12 +36,12 @@ unknown_is asks url None None none unknown = unkept_is (asks && is_location (wit
 unknown_is asks url None (Some known) none unknown = absurd (cc)
 unknown_is asks url (Some map) kept none unknown = absurd (cc)
 
-pub none_kept : (asks : Bool) (url : List ℕ) (of_table : Option MapRecord) (answer : Answer Map) (why : NoValue) → ◌≡◌ {A = Option MapRecord} None of_table
-    → ◌≡◌ {A = Answer Map} (NoneKnown why) answer → ◌≡◌ {A = Option (Option MapRecord)} (Some None) (known_by asks url of_table (stated_by answer))
+pub none_kept : (asks : Bool) (url : List ℕ) (of_table : Option MapRecord) (answer : KeptAnswer Map) (why : NoValue) → ◌≡◌ {A = Option MapRecord} None of_table
+    → ◌≡◌ {A = KeptAnswer Map} (NoneKnown why) answer → ◌≡◌ {A = Option (Option MapRecord)} (Some None) (known_by asks url of_table (stated_by answer))
 none_kept asks url of_table answer why none is = λ i. known_by asks url (none i) (stated_by (is i))
 
 -- what was not found says either
-pub none_kept_by : (asks : Bool) (url : List ℕ) (of_table : Option MapRecord) (answer : Answer Map) → ◌≡◌ {A = Option MapRecord} None of_table
+pub none_kept_by : (asks : Bool) (url : List ℕ) (of_table : Option MapRecord) (answer : KeptAnswer Map) → ◌≡◌ {A = Option MapRecord} None of_table
     → ((why : NoValue) × (answer ≡ NoneKnown why)) ⊎ (answer ≡ Wanted) → is_some (known_by asks url of_table (stated_by answer)) ≡ true
     → ◌≡◌ {A = Option (Option MapRecord)} (Some None) (known_by asks url of_table (stated_by answer))
 none_kept_by asks url of_table answer none (inl found) known = none_kept asks url of_table answer found.0 none (sym found.1)

@@ -2,8 +2,8 @@
 use Rattle.std.specs.Prelude.{ℕ, List, [], Option, None, Some}
 use Rattle.smap_locations.specs.ByText.{value_under}
 use Rattle.smap_kept.specs.Kept.{KeptSeen, answer}
-use Rattle.smap_kept.specs.declared.answer.Answer.{Answer}
-use Rattle.smap_kept.specs.declared.answer.Answer.TheVariants.{Known, NoneKnown, Wanted}
+use Rattle.smap_kept.specs.declared.answer.KeptAnswer.{KeptAnswer}
+use Rattle.smap_kept.specs.declared.answer.KeptAnswer.TheVariants.{Known, NoneKnown, Wanted}
 use Rattle.smap_kept.specs.declared.bounded.Counted.{Counted}
 use Rattle.smap_kept.specs.declared.kept.Absence.{Absence}
 use Rattle.smap_record.specs.MapFile.{Map}
@@ -11,7 +11,7 @@ use Rattle.smap_record.specs.Record.{MapRecord}
 
 -- ---- what is known
 
-abbrev pub stated_by : Answer Map → Option (Option MapRecord)
+abbrev pub stated_by : KeptAnswer Map → Option (Option MapRecord)
 stated_by (Known map) = Some (Some map.stated)
 stated_by (NoneKnown why) = Some None
 stated_by Wanted = None

@@ -9,7 +9,7 @@ use Rattle.smap_store.specs.UrlTable.{UrlTableSeen, locations_of}
 
 -- the maps of a table, by which its URLs are known
 abbrev pub maps_of : UrlTableSeen → MapsSeen
-maps_of table = record { table = table.words; locations = locations_of table.patterns }
+maps_of table = record { table = table.exact; locations = locations_of table.patterns }
 
 -- where maps are asked for, what looks like a URL without its query and its fragment is known as that of a pattern is, and nothing is
 -- common to all

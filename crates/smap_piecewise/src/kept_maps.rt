@@ -1,6 +1,6 @@
 //! The maps that are kept of URLs, as they are known at a time.
 use crate::known::KnownMaps;
-use smap_kept::{Answer, Kept};
+use smap_kept::{Kept, KeptAnswer};
 use smap_record::{ReadyMap, SharedMap};
 
 /// The maps that are kept of URLs, and the time at which they are asked for.
@@ -24,15 +24,15 @@ impl KnownMaps for KeptMaps {
 
     fn ask(&mut self, url: &[u8]) -> bool {
         match self.kept.ask(url, self.now) {
-            Answer::Known(()) | Answer::NoneKnown(_) => true,
-            Answer::Wanted => false,
+            KeptAnswer::Known(()) | KeptAnswer::NoneKnown(_) => true,
+            KeptAnswer::Wanted => false,
         }
     }
 
     fn map_for(&self, url: &[u8]) -> Option<&ReadyMap> {
         match self.kept.peek(url, self.now) {
-            Answer::Known(map) => Some(map.ready()),
-            Answer::NoneKnown(_) | Answer::Wanted => None,
+            KeptAnswer::Known(map) => Some(map.ready()),
+            KeptAnswer::NoneKnown(_) | KeptAnswer::Wanted => None,
         }
     }
 }

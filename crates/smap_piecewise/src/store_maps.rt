@@ -2,7 +2,7 @@
 use crate::kept_maps::KeptMaps;
 use crate::known::KnownMaps;
 use crate::location::is_location;
-use smap_kept::Answer;
+use smap_kept::KeptAnswer;
 use smap_locations::without_query;
 use smap_record::ReadyMap;
 use smap_store::UrlTable;
@@ -37,8 +37,8 @@ impl KnownMaps for StoreMaps<'_, '_> {
             return Some(map);
         }
         match self.kept.kept.peek(url, self.kept.now) {
-            Answer::Known(map) => Some(map.ready()),
-            Answer::NoneKnown(_) | Answer::Wanted => None,
+            KeptAnswer::Known(map) => Some(map.ready()),
+            KeptAnswer::NoneKnown(_) | KeptAnswer::Wanted => None,
         }
     }
 }

@@ -22,7 +22,7 @@ impl<'t> TableUrls<'t> {
         ensures urls { IfOk result (λ known. known.urls ≡ maps_of table.now) }
         ensures asks { IfOk result (λ known. known.asks ≡ asks) }
     {
-        let urls = MapUrls::new(alloc, table.words(), table.locations())?;
+        let urls = MapUrls::new(alloc, table.exact(), table.locations())?;
         Ok(TableUrls { urls, asks })
     }
 }

@@ -9,7 +9,7 @@ use Rattle.smap_record.specs.NameBytes.{base_bytes, name_bytes, section_name_byt
 use Rattle.smap_record.specs.Private.Seen.{sources_seen}
 use Rattle.smap_record.specs.declared.section.SectionSources.{SectionSources}
 
-sum_seen : {A B : Type 0} (see : A → B) (f : B → ℕ) (xs : List A) → sum_by f (map see xs) ≡ sum_by (λ x. f (see x)) xs
+pub sum_seen : {A B : Type 0} (see : A → B) (f : B → ℕ) (xs : List A) → sum_by f (map see xs) ≡ sum_by (λ x. f (see x)) xs
 sum_seen see f [] = refl
 sum_seen see f (x ∷ xs) =
     sum_by-cons f (see x) (map see xs) ∙ ap (λ n. f (see x) + n) (sum_seen see f xs) ∙ sym (sum_by-cons (λ x. f (see x)) x xs)

@@ -4,8 +4,7 @@ use Rattle.std.specs.Prelude.{option_map, slice_get, unwrap_or}
 use Rattle.std.proofs.Math.Seq.{take-suc}
 use Rattle.std.proofs.lemmas.List.{map-append}
 use Rattle.std.proofs.lemmas.Option.{get_or_from_slice_get, slice_get-get_or, slice_get_within}
-use Rattle.smap_resolve.specs.ByPath.{name_by_path, name_from_path}
-use Rattle.smap_record.specs.NamedSources.{map_by_path, source_from_path}
+use Rattle.smap_record.specs.NamedSources.{map_renamed, source_renamed}
 use Rattle.smap_record.specs.Private.Renamed.{text_of_name, text_of_source, with_text, with_text_at, with_texts}
 use Rattle.smap_record.specs.MapFile.{Map}
 use Rattle.smap_record.specs.Sources.{StatedSource, with_name_at}
@@ -56,25 +55,29 @@ source_more texts (Some next) sources = one_more texts next sources
 
 -- ---- all of them
 
-one_named : (url text : List ℕ) (source : StatedSource) → source.name ≡ Some (kept text) → (made : Option (List ℕ))
+one_named : (text : List ℕ) (source : StatedSource) → source.name ≡ Some (kept text) → (made : Option (List ℕ))
     → with_text made source ≡ record source { name = Some (kept (unwrap_or made text)) }
-one_named url text source is None = ap (λ name. record source { name = name }) is
-one_named url text source is (Some path) = refl
+one_named text source is None = ap (λ name. record source { name = name }) is
+one_named text source is (Some path) = refl
 
-source_named : (url : List ℕ) (source : StatedSource) (name : Option Name) → source.name ≡ name
-    → with_text (text_of_name url name) source ≡ record source { name = option_map (name_from_path url) name }
-source_named url source None is = ap (λ name. record source { name = name }) is
-source_named url source (Some (resolved other)) is = ap (λ name. record source { name = name }) is
-source_named url source (Some (kept text)) is = one_named url text source is (name_by_path url text)
+-- a way of naming, by which a URL stays and a text may get another in its place
+module _ (instead : List ℕ → Option (List ℕ)) (naming : Name → Name) (stays : (url : List ℕ) → naming (resolved url) ≡ resolved url)
+    (goes : (text : List ℕ) → naming (kept text) ≡ kept (unwrap_or (instead text) text)) where
+  source_named : (source : StatedSource) (name : Option Name) → source.name ≡ name
+      → with_text (text_of_name instead name) source ≡ record source { name = option_map naming name }
+  source_named source None is = ap (λ name. record source { name = name }) is
+  source_named source (Some (resolved other)) is = ap (λ name. record source { name = name }) (is ∙ ap Some (sym (stays other)))
+  source_named source (Some (kept text)) is =
+      one_named text source is (instead text) ∙ ap (λ name. record source { name = Some name }) (sym (goes text))
 
-pub all_named : (url : List ℕ) (sources : List StatedSource) → with_texts (map (text_of_source url) sources) sources ≡ map (source_from_path url) sources
-all_named url [] = refl
-all_named url (source ∷ sources) = λ i. source_named url source source.name refl i ∷ all_named url sources i
+  all_named : (sources : List StatedSource) → with_texts (map (text_of_source instead) sources) sources ≡ map (source_renamed naming) sources
+  all_named [] = refl
+  all_named (source ∷ sources) = λ i. source_named source source.name refl i ∷ all_named sources i
 
--- a map whose sources are named so, and nothing else
-pub map_named : (url : List ℕ) (old new : Map) (texts : List (Option (List ℕ))) → texts ≡ map (text_of_source url) old.stated.sources
-    → new.stated.sources ≡ with_texts texts old.stated.sources → new.stated.parts ≡ old.stated.parts → new.stated.names ≡ old.stated.names
-    → new.stated.file ≡ old.stated.file → new.k ≡ old.k → new ≡ map_by_path url old
-map_named url old new texts texts_are sources parts names file interval =
-    let named = sources ∙ ap (λ texts. with_texts texts old.stated.sources) texts_are ∙ all_named url old.stated.sources in
-    λ i. record { stated = record { parts = parts i; sources = named i; names = names i; file = file i }; k = interval i }
+  -- a map whose sources are named so, and nothing else
+  pub map_named : (old new : Map) (texts : List (Option (List ℕ))) → texts ≡ map (text_of_source instead) old.stated.sources
+      → new.stated.sources ≡ with_texts texts old.stated.sources → new.stated.parts ≡ old.stated.parts → new.stated.names ≡ old.stated.names
+      → new.stated.file ≡ old.stated.file → new.k ≡ old.k → new ≡ map_renamed naming old
+  map_named old new texts texts_are sources parts names file interval =
+      let named = sources ∙ ap (λ texts. with_texts texts old.stated.sources) texts_are ∙ all_named old.stated.sources in
+      λ i. record { stated = record { parts = parts i; sources = named i; names = names i; file = file i }; k = interval i }

@@ -13,6 +13,7 @@
 //! ```
 #![tactic(auto)]
 
+mod beside;
 mod entry;
 mod fields;
 mod file_text;
@@ -49,7 +50,7 @@ pub use url::Url;
 pub use write::{WriteRefusal, write_owned, write_record};
 
 /// How many bytes a map file has at most, which is as many as a mappings text.
-pub const MOST_FILE_BYTES: usize = smap_mappings::MOST_BYTES;
+pub const MOST_FILE_BYTES: usize = smap_mappings::MOST_MAPPINGS_BYTES;
 
 /// How many sources a map lists at most, and how many names.
 pub const MOST_LISTED: usize = 33554432;

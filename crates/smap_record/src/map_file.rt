@@ -1,5 +1,5 @@
 //! A map file that was read, and the look-ups in it.
-ghost use Rattle.std.specs.Prelude.{◌≡◌, ◌<◌, ◌+◌, ◌-◌, ◌≤◌, ◌*◌, ◌/◌, ◌^◌, ℕ, None, Err, length, slice_get, option_copied, option_map, IsOkUnless, IfOk, IfErr};
+ghost use Rattle.std.specs.Prelude.{◌≡◌, ◌<◌, ◌+◌, ◌-◌, ◌≤◌, ◌*◌, ◌/◌, ◌^◌, ℕ, None, Err, length, map, slice_get, option_copied, option_map, IsOkUnless, IfOk, IfErr};
 ghost use Rattle.std.specs.List.{All};
 ghost use Rattle.serde_json.specs.View.{members_view};
 ghost use Rattle.smap_mappings.specs.Canonical.{canonical_text};
@@ -157,6 +157,13 @@ impl MapFile {
             ≡ slice_get self.now.stated.sources i }
     {
         self.sources.get(i as usize)
+    }
+
+    // All sources.
+    pub(crate) fn entries(&self) -> &[SourceEntry]
+        ensures { map source_of result.now ≡ self.now.stated.sources }
+    {
+        &self.sources
     }
 
     /// Name `i`, from 0, where there is one. The call takes no memory.

@@ -1,15 +1,18 @@
 //! A map that is ready for many look-ups.
-ghost use Rattle.std.specs.Prelude.{◌≡◌, ◌<◌, ◌+◌, ◌-◌, ◌≤◌, ◌^◌, ℕ, length, OnErr, OnOk};
+ghost use Rattle.std.specs.Prelude.{◌≡◌, ◌<◌, ◌+◌, ◌-◌, ◌≤◌, ◌^◌, ◌⊎◌, ℕ, length, IfErr, OnErr, OnOk};
 ghost use Rattle.smap_mappings.specs.Meter.{HasRoom};
 ghost use Rattle.smap_index.specs.Marks.{marks};
 ghost use Rattle.smap_resolve.specs.SourceName.{name_of};
 ghost use Rattle.smap_record.specs.MapFile.{IsAnswerWithin};
-ghost use Rattle.smap_record.specs.NamedSources.{map_by_path};
+ghost use Rattle.smap_record.specs.NamedSources.{bytes_beside, map_beside, map_by_path};
 ghost use Rattle.smap_record.specs.Record.{answer_of_map, answer_of_map_from};
 ghost use Rattle.smap_record.specs.Sources.{with_name_at};
+ghost use Rattle.smap_record.specs.declared.refusal.MapRefusal.TheVariants.{LongNames, Memory};
 
+use crate::beside::name_sources_beside;
 use crate::map_file::MapFile;
 use crate::named_sources::name_sources_by_path;
+use crate::refusal::MapRefusal;
 use smap_index::{Answer, LineStarts};
 use smap_mappings::Meter;
 use smap_resolve::SourceName;
@@ -131,5 +134,22 @@ impl ReadyMap {
         ensures memory { OnErr result (self.new ≡ self.old) }
     {
         name_sources_by_path(alloc, &mut self.map, url)
+    }
+
+    /// Names the sources by the path at which the file of the map stands, as `name_sources_beside` does, with the same bound.
+    /// Where it is refused nothing is changed.
+    pub fn name_sources_beside(
+        &mut self,
+        alloc: Global,
+        path: &[u8],
+        most_names: u64,
+    ) -> Result<(), MapRefusal>
+        ensures named { OnOk result (self.new ≡ map_beside path.now self.old) }
+        ensures enough { OnOk result (bytes_beside path.now self.old.stated ≤ most_names) }
+        ensures refused { IfErr result (λ refusal. (refusal ≡ Memory)
+            ⊎ ((refusal ≡ LongNames) × (most_names < bytes_beside path.now self.old.stated))) }
+        ensures stays { OnErr result (self.new ≡ self.old) }
+    {
+        name_sources_beside(alloc, &mut self.map, path, most_names)
     }
 }

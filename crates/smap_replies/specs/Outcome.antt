@@ -57,7 +57,7 @@ abbrev pub reply_report : Reply → Report
 reply_report (replies.Text text) = answer (string_bytes text)
 reply_report (replies.Bytes bytes) = answer bytes.items
 reply_report (replies.Refused text) = refused_answer (string_bytes text)
-reply_report replies.Rewritten = answer []
+reply_report replies.Printed = answer []
 
 -- why there is none
 abbrev pub failure_report : Failure → Report

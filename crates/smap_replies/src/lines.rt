@@ -13,13 +13,13 @@ pub const ARGUMENT_NOT_UTF8: &str = "error: a word of the command line is not UT
 
 /// Standard error: the text could not be read. This line and the next two are made of the codes X1 to X3, and stand here
 /// whole since they are printed without taking memory.
-pub const TRACE_UNREAD: &str = "device: X1 Read\n";
+pub const TEXT_UNREAD: &str = "device: X1 Read\n";
 
 /// Standard error: the text could not be written.
-pub const TRACE_UNWRITTEN: &str = "device: X2 Write\n";
+pub const TEXT_UNWRITTEN: &str = "device: X2 Write\n";
 
 /// Standard error: the text is longer than one may be.
-pub const TRACE_TOO_LONG: &str = "refused: X3 TooMuch\n";
+pub const TEXT_TOO_LONG: &str = "refused: X3 TooMuch\n";
 
 /// Standard error: standard input failed.
 pub const INPUT_FAILED: &str = "device: read standard input\n";

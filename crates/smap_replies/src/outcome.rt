@@ -29,7 +29,7 @@ pub enum Reply {
     Refused(String),
     /// The trace is rewritten, the positions are answered or the mappings are printed, and standard output has that already:
     /// nothing is added.
-    Rewritten,
+    Printed,
 }
 
 /// Why a command does not answer: for standard error. Each text is whole, with its last LF.
@@ -75,7 +75,7 @@ impl Reply {
     {
         match self {
             Reply::Refused(_) => REFUSED,
-            Reply::Text(_) | Reply::Bytes(_) | Reply::Rewritten => DONE,
+            Reply::Text(_) | Reply::Bytes(_) | Reply::Printed => DONE,
         }
     }
 
@@ -87,7 +87,7 @@ impl Reply {
             Reply::Text(text) => text.as_bytes(),
             Reply::Bytes(bytes) => bytes,
             Reply::Refused(text) => text.as_bytes(),
-            Reply::Rewritten => &[],
+            Reply::Printed => &[],
         }
     }
 }
@@ -148,9 +148,9 @@ fn fault_line(fault: LineFault) -> &'static str
     ensures { result.now ≡ (fault_report fault).text }
 {
     match fault {
-        LineFault::Read => lines::TRACE_UNREAD,
-        LineFault::Write => lines::TRACE_UNWRITTEN,
-        LineFault::TooMuch => lines::TRACE_TOO_LONG,
+        LineFault::Read => lines::TEXT_UNREAD,
+        LineFault::Write => lines::TEXT_UNWRITTEN,
+        LineFault::TooMuch => lines::TEXT_TOO_LONG,
         LineFault::Memory => lines::NO_MEMORY,
     }
 }

@@ -6,7 +6,7 @@ use Rattle.std.specs.List.{AllByRecursion, fold, onto_first, slice_get}
 use Rattle.std.specs.Option.{option_map_or}
 use Rattle.std.proofs.lemmas.Bool.{cases_Bool, cond-true, cond-false, cond_both, eqb-false, ne_eqb, and_parts, both_ways, not-true}
 use Rattle.std.proofs.lemmas.List.Sums.{fold-append}
-use Rattle.smap_resolve.specs.Paths.{behind_slashes, ends_in_name, folder_of, goes_back, has_host, host_pieces, is_rooted, joined_pieces, one_further}
+use Rattle.smap_resolve.specs.Paths.{behind_slashes, ends_in_name, folder_of, goes_back, begins_with_host, host_pieces, is_rooted, joined_pieces, one_further}
 use Rattle.smap_resolve.specs.Paths.{path_from, pieces_from, pieces_of_path, root_of, stays}
 use Rattle.smap_resolve.proofs.PathPieceLaws.{all_both, all_drop, all_front, all_kept, all_take, ends, goes_on_plainly, last_is, on_by_all, pushed, without_last}
 
@@ -58,17 +58,17 @@ on_by_joined rooted from (piece ∷ pieces) all = ap (fold (one_further rooted) 
 -- ---- what stands before them
 
 -- a path with a host is rooted
-host_is_rooted : (path : List ℕ) → has_host path ≡ true → is_rooted path ≡ true
+host_is_rooted : (path : List ℕ) → begins_with_host path ≡ true → is_rooted path ≡ true
 host_is_rooted [] is = absurd (cc)
 host_is_rooted (byte ∷ path) is = let both = and_parts (eqb 47 byte) (is_rooted path) is in λ i. both.0 i && true
 
-no_host : (path : List ℕ) → is_rooted path ≡ false → has_host path ≡ false
+no_host : (path : List ℕ) → is_rooted path ≡ false → begins_with_host path ≡ false
 no_host path not_rooted =
-    ⊎_elim (λ is. absurd (both_ways _ not_rooted (host_is_rooted path is))) (λ is_not. is_not) (cases_Bool (has_host path))
+    ⊎_elim (λ is. absurd (both_ways _ not_rooted (host_is_rooted path is))) (λ is_not. is_not) (cases_Bool (begins_with_host path))
 
 -- what stands before the pieces of a path, from both halves of it
 abbrev host_text : List ℕ → List ℕ
-host_text path = cond (has_host path) (codes "//" ++ get_or (pieces_of_path path) 2 []) []
+host_text path = cond (begins_with_host path) (codes "//" ++ get_or (pieces_of_path path) 2 []) []
 
 root_is : (path host root : List ℕ) → host_text path ≡ host → cond (is_rooted path) (codes "/") [] ≡ root → root_of path ≡ host ++ root
 root_is path host root first second = λ i. first i ++ second i
@@ -116,7 +116,7 @@ module _ (file : List ℕ) (folder : List (List ℕ)) (last : List ℕ) (all : A
       let path_is : path ≡ joined_pieces (folder ++ last ∷ []) = ap (λ l. l ++ joined_pieces (folder ++ last ∷ [])) (no_root file not_rooted) in
       let off : is_rooted (first_byte.0 ∷ first_byte.1) ≡ false = λ i. first_byte.3 i && true in
       let not_here : is_rooted path ≡ false = ap is_rooted (path_is ∙ first_byte.2) ∙ off in
-      let no_host_here : host_pieces path ≡ 0 = cond-false (has_host path) 3 0 (no_host path not_here) in
+      let no_host_here : host_pieces path ≡ 0 = cond-false (begins_with_host path) 3 0 (no_host path not_here) in
       let here : folder_of path ≡ folder =
       folder_is path folder last (ap pieces_of_path path_is ∙ pieces_there) ∙ ap (λ n. drop n folder) no_host_here in
       record {
@@ -126,16 +126,16 @@ module _ (file : List ℕ) (folder : List (List ℕ)) (last : List ℕ) (all : A
       }
 
   -- behind the root alone
-  read_rooted : is_rooted file ≡ true → has_host file ≡ false → IsReadAs file path folder
+  read_rooted : is_rooted file ≡ true → begins_with_host file ≡ false → IsReadAs file path folder
   read_rooted is_root without_host =
       let root : root_of file ≡ codes "/" = root_is file [] (codes "/") (cond-false _ _ _ without_host) (cond-true _ _ _ is_root) in
       let path_is : path ≡ 47 ∷ joined_pieces (folder ++ last ∷ []) = ap (λ l. l ++ joined_pieces (folder ++ last ∷ [])) root in
       let rooted_here : is_rooted path ≡ true = ap is_rooted path_is in
-      let off : has_host (47 ∷ first_byte.0 ∷ first_byte.1) ≡ false = λ i. first_byte.3 i && true in
-      let no_host_here : has_host path ≡ false = ap has_host (path_is ∙ ap (λ l. 47 ∷ l) first_byte.2) ∙ off in
+      let off : begins_with_host (47 ∷ first_byte.0 ∷ first_byte.1) ≡ false = λ i. first_byte.3 i && true in
+      let no_host_here : begins_with_host path ≡ false = ap begins_with_host (path_is ∙ ap (λ l. 47 ∷ l) first_byte.2) ∙ off in
       let pieces_are : pieces_of_path path ≡ ([] ∷ folder) ++ last ∷ [] = ap pieces_of_path path_is ∙ ap (λ l. [] ∷ l) pieces_there in
       let here : folder_of path ≡ [] ∷ folder =
-      folder_is path ([] ∷ folder) last pieces_are ∙ ap (λ n. drop n ([] ∷ folder)) (cond-false (has_host path) 3 0 no_host_here) in
+      folder_is path ([] ∷ folder) last pieces_are ∙ ap (λ n. drop n ([] ∷ folder)) (cond-false (begins_with_host path) 3 0 no_host_here) in
       record {
         rooted = rooted_here ∙ sym is_root;
         root = root_is path [] (codes "/") (cond-false _ _ _ no_host_here) (cond-true _ _ _ rooted_here) ∙ sym root;
@@ -143,7 +143,7 @@ module _ (file : List ℕ) (folder : List (List ℕ)) (last : List ℕ) (all : A
       }
 
   -- behind a host
-  read_hosted : has_host file ≡ true → IsReadAs file path folder
+  read_hosted : begins_with_host file ≡ true → IsReadAs file path folder
   read_hosted with_host =
       let host = get_or (pieces_of_path file) 2 [] in
       let is_root = host_is_rooted file with_host in
@@ -152,11 +152,11 @@ module _ (file : List ℕ) (folder : List (List ℕ)) (last : List ℕ) (all : A
       let joined = joined_pieces (folder ++ last ∷ []) in
       let path_is : path ≡ 47 ∷ 47 ∷ (host ++ 47 ∷ joined) = ap (λ l. l ++ joined) root ∙ append_assoc (47 ∷ 47 ∷ host) (codes "/") joined in
       let rooted_here : is_rooted path ≡ true = ap is_rooted path_is in
-      let host_here : has_host path ≡ true = ap has_host path_is in
+      let host_here : begins_with_host path ≡ true = ap begins_with_host path_is in
       let pieces_are : pieces_of_path path ≡ ([] ∷ [] ∷ host ∷ folder) ++ last ∷ [] =
       ap pieces_of_path path_is ∙ ap (λ l. [] ∷ [] ∷ l) (split_at host joined (piece_at (pieces_of_path file) 2 (are_pieces file)) ∙ ap (λ l. host ∷ l) pieces_there) in
       let here : folder_of path ≡ folder =
-      folder_is path ([] ∷ [] ∷ host ∷ folder) last pieces_are ∙ ap (λ n. drop n ([] ∷ [] ∷ host ∷ folder)) (cond-true (has_host path) 3 0 host_here) in
+      folder_is path ([] ∷ [] ∷ host ∷ folder) last pieces_are ∙ ap (λ n. drop n ([] ∷ [] ∷ host ∷ folder)) (cond-true (begins_with_host path) 3 0 host_here) in
       record {
         rooted = rooted_here ∙ sym is_root;
         root = root_is path (47 ∷ 47 ∷ get_or (pieces_of_path path) 2 []) (codes "/") (cond-true _ _ _ host_here) (cond-true _ _ _ rooted_here)
@@ -167,7 +167,7 @@ module _ (file : List ℕ) (folder : List (List ℕ)) (last : List ℕ) (all : A
   read_as : IsReadAs file path folder
   read_as =
       ⊎_elim
-      (λ is_root. ⊎_elim (λ with_host. read_hosted with_host) (λ without_host. read_rooted is_root without_host) (cases_Bool (has_host file)))
+      (λ is_root. ⊎_elim (λ with_host. read_hosted with_host) (λ without_host. read_rooted is_root without_host) (cases_Bool (begins_with_host file)))
       (λ not_rooted. read_relative not_rooted)
       (cases_Bool (is_rooted file))
 
@@ -216,7 +216,7 @@ module _ (file first second : List ℕ) (relative : is_rooted first ≡ false) (
       (λ i. no_root first relative i
       ++ joined_pieces (fold (one_further (relative i)) [] (folder_of first ++ pieces_of_path second)))
       ∙ ap (λ l. joined_pieces (fold (one_further false) [] (l ++ pieces_of_path second)))
-      (folder_is first front last pieces_are ∙ ap (λ n. drop n front) (cond-false (has_host first) 3 0 (no_host first relative)))
+      (folder_is first front last pieces_are ∙ ap (λ n. drop n front) (cond-false (begins_with_host first) 3 0 (no_host first relative)))
 
   all_of_both : AllByRecursion IsPiece both
   all_of_both =

@@ -4,3 +4,4 @@ pub mod Private
 pub mod Paths
 pub mod InnerNames
 pub mod ByPath
+pub mod Beside

@@ -27,8 +27,8 @@ abbrev pub is_rooted : List ℕ → Bool
 is_rooted path = starts_with nat_eq path (codes "/")
 
 -- a URL without its scheme, whose host stands behind `//`
-abbrev pub has_host : List ℕ → Bool
-has_host path = starts_with nat_eq path (codes "//")
+abbrev pub begins_with_host : List ℕ → Bool
+begins_with_host path = starts_with nat_eq path (codes "//")
 
 -- a path that goes on from a folder
 abbrev pub is_relative : List ℕ → Bool
@@ -42,7 +42,7 @@ pieces_of_path path = slice_split (λ byte. byte == 47) path
 
 -- the first of them that make a host with its `//`: two empty ones and the host
 abbrev pub host_pieces : (path : List ℕ) → ℕ
-host_pieces path = if has_host path then 3 else 0
+host_pieces path = if begins_with_host path then 3 else 0
 
 -- those of the folder that a file is in, behind its host
 abbrev pub folder_of : (path : List ℕ) → List (List ℕ)
@@ -83,7 +83,7 @@ joined_pieces (piece ∷ pieces) = piece ++ behind_slashes pieces
 -- what stands before the pieces: a host and the root of its folders, or the root, or nothing
 abbrev pub root_of : (file : List ℕ) → List ℕ
 root_of file =
-    (if has_host file then codes "//" ++ get_or (pieces_of_path file) 2 [] else []) ++ (if is_rooted file then codes "/" else [])
+    (if begins_with_host file then codes "//" ++ get_or (pieces_of_path file) 2 [] else []) ++ (if is_rooted file then codes "/" else [])
 
 -- the path
 abbrev pub path_from : (file text : List ℕ) → List ℕ

@@ -1,7 +1,7 @@
 //! The names of a map's sources (ECMA-426, Resolving sources): each is the URL that the URL Standard's parser gives,
 //! and a text that does not parse stands as it is. And what a source is called where something else stands: by the name
-//! of the outer source that an inner map is of, or by the path that is the map's URL, from whose folder a relative path
-//! goes on.
+//! of the outer source that an inner map is of, or by the path that is the map's URL or at which its file stands, from
+//! whose folder a relative path goes on.
 //!
 //! ```text
 //! let base = Url::parse(alloc, "https://ex.test/js/app.js")?;
@@ -11,6 +11,7 @@
 //! ```
 #![tactic(auto)]
 
+mod beside;
 mod by_path;
 mod inner_names;
 pub mod laws;
@@ -19,6 +20,7 @@ mod refusal;
 mod resolution;
 mod source_name;
 
+pub use beside::name_beside;
 pub use by_path::{is_path, name_by_path};
 pub use inner_names::name_from_outer;
 pub use refusal::ResolveRefusal;

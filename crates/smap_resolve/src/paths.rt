@@ -1,7 +1,7 @@
 //! Paths that go on from the folder that a file is in.
 ghost use Rattle.std.specs.Prelude.{◌≡◌, ◌++◌, map, string_bytes, IfOk, OnOk};
 ghost use Rattle.std.specs.List.{fold};
-ghost use Rattle.smap_resolve.specs.Paths.{can_go_back, ends_scheme, folder_of, has_host, has_scheme, is_relative, is_rooted, is_scheme_byte};
+ghost use Rattle.smap_resolve.specs.Paths.{can_go_back, ends_scheme, folder_of, begins_with_host, has_scheme, is_relative, is_rooted, is_scheme_byte};
 ghost use Rattle.smap_resolve.specs.Paths.{behind_slashes, host_pieces, joined_pieces, one_further, path_from, pieces_of_path, root_of};
 
 use std::alloc::{AllocError, Global};
@@ -20,9 +20,9 @@ pub fn is_rooted(path: &[u8]) -> bool
     path.starts_with(b"/")
 }
 
-// Whether a text is a URL without its scheme, whose host stands behind `//`.
-fn has_host(path: &str) -> bool
-    ensures { result ≡ has_host path.now }
+/// Whether a text is a URL without its scheme, whose host stands behind `//`.
+pub fn begins_with_host(path: &str) -> bool
+    ensures { result ≡ begins_with_host path.now }
 {
     path.as_bytes().starts_with(b"//")
 }
@@ -72,7 +72,7 @@ pub fn path_from(alloc: Global, file: &str, text: &str) -> Result<String, AllocE
 fn host_pieces(file: &str) -> usize
     ensures { result ≡ host_pieces file.now }
 {
-    if has_host(file) { 3 } else { 0 }
+    if begins_with_host(file) { 3 } else { 0 }
 }
 
 // Goes on by those pieces of a file that stand behind its host and before its own name.
@@ -95,13 +95,13 @@ fn enter_folder<'a>(
     }
 }
 
-// What stands before the pieces: the host of a file, whose pieces these are, or the root, or nothing.
-fn root_of(alloc: Global, file: &str, pieces: &[&str]) -> Result<String, AllocError>
+/// What stands before the pieces: the host of a file, whose pieces these are, or the root, or nothing.
+pub fn root_of(alloc: Global, file: &str, pieces: &[&str]) -> Result<String, AllocError>
     requires { map (λ piece. piece.now) pieces.now ≡ pieces_of_path file.now }
     ensures { IfOk result (λ root. string_bytes root ≡ root_of file.now) }
 {
     let mut root = String::new(alloc);
-    if has_host(file) {
+    if begins_with_host(file) {
         root.push_str("//")?;
         if let Some(host) = pieces.get(2) {
             root.push_str(host)?;

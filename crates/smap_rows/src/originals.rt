@@ -5,7 +5,7 @@ use crate::lists::push_word;
 use crate::maps::map_of;
 use crate::row::Row;
 use smap_mappings::Meter;
-use smap_originals::{Asked, Direction, Originals, generated_for, generated_next};
+use smap_originals::{Asked, OriginalDirection, Originals, generated_for, generated_next};
 use smap_record::{MapFile, Mapping};
 use std::alloc::{AllocError, Global};
 
@@ -18,7 +18,7 @@ pub(crate) fn answer(row: &Row<'_>, answer: &mut Answer) -> Result<(), RowFault>
     let map = map_of(row, 1, 64)?;
     let originals = Originals::new(row.alloc(), &map)?;
     for line in first..first.saturating_add(lines) {
-        for direction in [Direction::AtOrBefore, Direction::AtOrAfter] {
+        for direction in [OriginalDirection::AtOrBefore, OriginalDirection::AtOrAfter] {
             let place = Asked {
                 source,
                 line,

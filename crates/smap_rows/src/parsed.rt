@@ -14,7 +14,7 @@ pub fn answer(row: &Row<'_>, answer: &mut Answer) -> Result<(), RowFault> {
             answer.put_text(&text)
         }
         Err(Usage::Words(text)) => {
-            answer.put_text("mistake")?;
+            answer.put_text("mistake_lines")?;
             answer.put_text(&text)
         }
         Err(Usage::Memory) => Err(RowFault::Memory),
@@ -23,7 +23,7 @@ pub fn answer(row: &Row<'_>, answer: &mut Answer) -> Result<(), RowFault> {
 
 /// A number of lines, and the words of a command line that is none: so many lines of what is said of it, and whether that
 /// ends in one LF.
-pub fn mistake(row: &Row<'_>, answer: &mut Answer) -> Result<(), RowFault> {
+pub fn mistake_lines(row: &Row<'_>, answer: &mut Answer) -> Result<(), RowFault> {
     let count = row.number(1)? as usize;
     match parse(row.alloc(), row.words(2)?) {
         Err(Usage::Words(text)) => {
@@ -33,6 +33,6 @@ pub fn mistake(row: &Row<'_>, answer: &mut Answer) -> Result<(), RowFault> {
             let is_ended = text.ends_with("\n") && !text.ends_with("\n\n");
             answer.put_text(if is_ended { "ended" } else { "not ended" })
         }
-        _ => answer.put_text("no mistake"),
+        _ => answer.put_text("no mistake_lines"),
     }
 }

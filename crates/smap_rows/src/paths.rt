@@ -51,10 +51,10 @@ pub(crate) fn list(row: &Row<'_>, answer: &mut Answer) -> Result<(), RowFault> {
 }
 
 fn taken(row: &Row<'_>) -> Result<Result<(), ListRefusal>, RowFault> {
-    let words = table_of(row, 2, 64)?;
+    let exact = table_of(row, 2, 64)?;
     let list = row.text(1)?;
     let mut locations = Locations::new(row.alloc());
-    Ok(add_list(row.alloc(), &mut locations, &words, &list))
+    Ok(add_list(row.alloc(), &mut locations, &exact, &list))
 }
 
 // Adds what the lines of a list name, up to the first that is refused.

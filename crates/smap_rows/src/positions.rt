@@ -2,7 +2,7 @@
 use crate::answer::Answer;
 use crate::fault::RowFault;
 use crate::row::Row;
-use smap_positions::read_position;
+use smap_printing::read_position;
 
 /// A line: its line and column, where it is a position; or `none`.
 pub(crate) fn answer(row: &Row<'_>, answer: &mut Answer) -> Result<(), RowFault> {

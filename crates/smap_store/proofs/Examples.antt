@@ -51,34 +51,34 @@ cut_line : entry_of (codes "a:/f\tb\tc") ≡ Some (codes "a:/f", codes "b\tc")
 cut_line = refl
 
 -- lines that are taken, and why others are not
-words : List (List ℕ × MapRecord)
-words = []
+exact : List (List ℕ × MapRecord)
+exact = []
 
-comment : line_fault words places (codes "# maps") ≡ None
-unfolding words
+comment : line_fault exact places (codes "# maps") ≡ None
+unfolding exact
 comment = refl
 
-no_tab : line_fault words places (codes "a:/f m/f") ≡ Some NoTab
+no_tab : line_fault exact places (codes "a:/f m/f") ≡ Some NoTab
 no_tab = refl
 
-no_folder : line_fault words places (codes "a:\tm/") ≡ Some NoFolder
+no_folder : line_fault exact places (codes "a:\tm/") ≡ Some NoFolder
 no_folder = refl
 
-folder_twice : line_fault words places (codes "a:/\tn/") ≡ Some Twice
+folder_twice : line_fault exact places (codes "a:/\tn/") ≡ Some Twice
 unfolding places is_bad_url
 folder_twice = refl
 
-file_twice : line_fault words places (codes "a:/f?1\tg.map") ≡ Some Twice
-unfolding words places is_bad_url
+file_twice : line_fault exact places (codes "a:/f?1\tg.map") ≡ Some Twice
+unfolding exact places is_bad_url
 file_twice = refl
 
-pattern_twice : line_fault words places (codes "*g.js\th.map") ≡ Some Twice
+pattern_twice : line_fault exact places (codes "*g.js\th.map") ≡ Some Twice
 unfolding places
 pattern_twice = refl
 
-pattern_of_folder : line_fault words places (codes "*g.js\tm/") ≡ Some NoFolder
+pattern_of_folder : line_fault exact places (codes "*g.js\tm/") ≡ Some NoFolder
 pattern_of_folder = refl
 
-every_url : line_fault words places (codes "*\th.map") ≡ None
+every_url : line_fault exact places (codes "*\th.map") ≡ None
 unfolding places
 every_url = refl

@@ -15,9 +15,9 @@ use Rattle.smap_locations.specs.declared.refusal.ListRefusal.{ListRefusal}
 -- ---- why it is not taken, memory aside
 
 abbrev pub file_fault : List (List ℕ × MapRecord) → LocationsSeen → (url : List ℕ) → Option ListFault
-file_fault words locations url =
+file_fault exact locations url =
     if is_bad_url url then Some BadUrl
-    else if is_some (value_under url words) || is_some (value_under url locations.files) then Some Twice
+    else if is_some (value_under url exact) || is_some (value_under url locations.files) then Some Twice
     else None
 
 abbrev pub folder_fault : LocationsSeen → (prefix : List ℕ) → Option ListFault
@@ -47,11 +47,11 @@ abbrev pub rule_fault : LocationsSeen → (url path : List ℕ) → Option ListF
 rule_fault locations url path = fault_of_rule locations (pattern_text url) url path
 
 abbrev pub entry_fault : List (List ℕ × MapRecord) → LocationsSeen → Option (List ℕ × List ℕ) → Option ListFault
-entry_fault words locations None = Some NoTab
-entry_fault words locations (Some (url, path)) = if is_rule url path then rule_fault locations url path else file_fault words locations url
+entry_fault exact locations None = Some NoTab
+entry_fault exact locations (Some (url, path)) = if is_rule url path then rule_fault locations url path else file_fault exact locations url
 
 abbrev pub line_fault : List (List ℕ × MapRecord) → LocationsSeen → (line : List ℕ) → Option ListFault
-line_fault words locations line = if is_passed_over line then None else entry_fault words locations (entry_of line)
+line_fault exact locations line = if is_passed_over line then None else entry_fault exact locations (entry_of line)
 
 -- ---- what it changes
 
@@ -83,34 +83,34 @@ Puts old None new = new ≡ old
 Puts old (Some (url, path)) new = MatchBool (is_rule url path) (PutsRule old url path new) (PutsFile old url path new)
 
 -- a line is taken
-pub record IsTaken (words : List (List ℕ × MapRecord)) (old : LocationsSeen) (line : List ℕ) (new : LocationsSeen) : Type 0 where
-  pub faultless : line_fault words old line ≡ None
+pub record IsTaken (exact : List (List ℕ × MapRecord)) (old : LocationsSeen) (line : List ℕ) (new : LocationsSeen) : Type 0 where
+  pub faultless : line_fault exact old line ≡ None
   pub puts : MatchBool (is_passed_over line) (new ≡ old) (Puts old (entry_of line) new)
 
 -- a line is refused: for this fault, or, where it has none, since memory ran out
 abbrev pub IsRefused : List (List ℕ × MapRecord) → LocationsSeen → (line : List ℕ) → ListFault → Type 0
-IsRefused words locations line fault =
-    (line_fault words locations line ≡ Some fault)
-    ⊎ ((is_passed_over line ≡ false) × (line_fault words locations line ≡ None) × (fault ≡ Memory))
+IsRefused exact locations line fault =
+    (line_fault exact locations line ≡ Some fault)
+    ⊎ ((is_passed_over line ≡ false) × (line_fault exact locations line ≡ None) × (fault ≡ Memory))
 
 -- ---- a list
 
 -- lines are taken, one after another
 abbrev pub AreTaken : List (List ℕ × MapRecord) → (lines : List (List ℕ)) → (old new : LocationsSeen) → Type 0
-AreTaken words [] old new = new ≡ old
-AreTaken words (line ∷ lines) old new = (between : LocationsSeen) × IsTaken words old line between × AreTaken words lines between new
+AreTaken exact [] old new = new ≡ old
+AreTaken exact (line ∷ lines) old new = (between : LocationsSeen) × IsTaken exact old line between × AreTaken exact lines between new
 
 -- the first line that is refused, whose number counts from 1, ends it; those before it are taken
-pub record IsRefusedAt (words : List (List ℕ × MapRecord)) (lines : List (List ℕ)) (old new : LocationsSeen) (refusal : ListRefusal) : Type 0 where
+pub record IsRefusedAt (exact : List (List ℕ × MapRecord)) (lines : List (List ℕ)) (old new : LocationsSeen) (refusal : ListRefusal) : Type 0 where
   pub before : List (List ℕ)
   pub line : List ℕ
   pub after : List (List ℕ)
   pub lines_are : lines ≡ before ++ line ∷ after
   pub number : refusal.line ≡ length before + 1
-  pub taken : AreTaken words before old new
-  pub refused : IsRefused words new line refusal.fault
+  pub taken : AreTaken exact before old new
+  pub refused : IsRefused exact new line refusal.fault
 
 -- all lines of a list are taken, or those before one that is refused
 abbrev pub TakesList : List (List ℕ × MapRecord) → (lines : List (List ℕ)) (old : LocationsSeen) → Result (Unit {0}) ListRefusal
     → (new : LocationsSeen) → Type 0
-TakesList words lines old result new = MatchResult result (λ _. AreTaken words lines old new) (IsRefusedAt words lines old new)
+TakesList exact lines old result new = MatchResult result (λ _. AreTaken exact lines old new) (IsRefusedAt exact lines old new)

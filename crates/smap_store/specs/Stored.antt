@@ -33,7 +33,7 @@ known_outcome (Some (Some stated)) kept = Ok stated
 
 -- maps that are found there: in a table, and else in files, by what is remembered of these and by what reads them
 pub record StoredSeen (L : Type 0) : Type 0 where
-  pub words : List (List ℕ × MapRecord)
+  pub exact : List (List ℕ × MapRecord)
   pub locations : LocationsSeen
   pub cache : CacheSeen
   pub loader : L
@@ -83,18 +83,18 @@ module _ {L : Type 0} where
   -- what is found under a URL: what it is known to have, and else what is remembered
   abbrev pub found_in : StoredSeen L → (url : List ℕ) → Option MapRecord
   found_in maps url =
-      or_other (known_of maps.words maps.locations url) (map_in (kept_under (key_for maps.locations url) maps.cache))
+      or_other (known_of maps.exact maps.locations url) (map_in (kept_under (key_for maps.locations url) maps.cache))
 
   -- the same, or why there is none
   abbrev pub outcome_at : StoredSeen L → (url : List ℕ) → Outcome
   outcome_at maps url =
-      known_outcome (known_of maps.words maps.locations url) (kept_under (key_for maps.locations url) maps.cache)
+      known_outcome (known_of maps.exact maps.locations url) (kept_under (key_for maps.locations url) maps.cache)
 
   -- how the maps stand after the map of a URL was looked for
   pub record FindsIn (Loads : LoadsStep L) (old : StoredSeen L) (url : List ℕ) (new : StoredSeen L) : Type 0 where
-    pub words : new.words ≡ old.words
+    pub exact : new.exact ≡ old.exact
     pub locations : new.locations ≡ old.locations
-    pub steps : MatchOption (known_of old.words old.locations url) (Recalls Loads old (key_for old.locations url) new) (λ known. Untouched old new)
+    pub steps : MatchOption (known_of old.exact old.locations url) (Recalls Loads old (key_for old.locations url) new) (λ known. Untouched old new)
 
   -- what may come for a URL of this path: none, where it has no path, or else where there is not enough memory
   abbrev pub MayCome : LoadsMay L → (loader : L) (url : List ℕ) (path : Option (List ℕ)) → (found : Option MapRecord) → Type 0
@@ -105,6 +105,6 @@ module _ {L : Type 0} where
   abbrev pub GivesIn : LoadsMay L → StoredSeen L → (url : List ℕ) → (found : Option MapRecord) → Type 0
   GivesIn MayLoad maps url found =
       let key = key_for maps.locations url in
-      MatchOption (known_of maps.words maps.locations url)
+      MatchOption (known_of maps.exact maps.locations url)
       (((it : Outcome) × IsKept maps.cache key it × (found ≡ result_ok it)) ⊎ MayCome MayLoad maps.loader key (path_for maps.locations url) found)
       (λ known. found ≡ known)

@@ -14,7 +14,7 @@ use Rattle.smap_trace.specs.declared.refusal.TableRefusal.TheVariants.{BadUrl, T
 
 -- the maps under URLs, and those of patterns, each under its text, in the order in which they were added
 pub record UrlTableSeen : Type 0 where
-  pub words : List (List ℕ × MapRecord)
+  pub exact : List (List ℕ × MapRecord)
   pub patterns : List (List ℕ × MapRecord)
 
 -- ---- the map of a URL
@@ -35,16 +35,16 @@ map_by_pattern table url =
 
 -- the map under a URL without its query and its fragment, where URLs are cut
 abbrev pub map_of_cut : (cut : Bool) → UrlTableSeen → (url : List ℕ) → Option MapRecord
-map_of_cut cut table url = if cut then value_under (without_query url) table.words else None
+map_of_cut cut table url = if cut then value_under (without_query url) table.exact else None
 
 abbrev pub map_under : (cut : Bool) → UrlTableSeen → (url : List ℕ) → Option MapRecord
-map_under cut table url = option_or (value_under url table.words) (option_or (map_of_cut cut table url) (map_by_pattern table url))
+map_under cut table url = option_or (value_under url table.exact) (option_or (map_of_cut cut table url) (map_by_pattern table url))
 
 -- ---- what is added
 
 -- the map under a pattern of this text, or else under a URL
 abbrev pub map_of_entry : UrlTableSeen → (pattern : Option (List ℕ)) → (url : List ℕ) → Option MapRecord
-map_of_entry table None url = value_under url table.words
+map_of_entry table None url = value_under url table.exact
 map_of_entry table (Some text) url = value_under text table.patterns
 
 -- the map under this very URL, or this very pattern
@@ -57,13 +57,13 @@ url_refusal table url = if is_bad_url url then Some BadUrl else if is_some (entr
 
 -- one more map under a URL
 pub record IsWithWord (old : UrlTableSeen) (url : List ℕ) (stated : MapRecord) (new : UrlTableSeen) : Type 0 where
-  pub words : IsWith old.words url stated new.words
+  pub exact : IsWith old.exact url stated new.exact
   pub patterns : new.patterns ≡ old.patterns
 
 -- one more pattern, behind those that there were
 pub record IsWithPattern (old : UrlTableSeen) (text : List ℕ) (stated : MapRecord) (new : UrlTableSeen) : Type 0 where
   pub patterns : new.patterns ≡ old.patterns ++ (text, stated) ∷ []
-  pub words : new.words ≡ old.words
+  pub exact : new.exact ≡ old.exact
 
 -- one more map
 abbrev pub IsAdded : (old : UrlTableSeen) → (url : List ℕ) → MapRecord → (new : UrlTableSeen) → Type 0

@@ -4,9 +4,9 @@
 //!
 //! ```
 //! let mut locations = Locations::new(alloc);
-//! add_list(alloc, &mut locations, &words, "https://example.test/js/\tmaps/\n")?;
+//! add_list(alloc, &mut locations, &exact, "https://example.test/js/\tmaps/\n")?;
 //! let mut cache = MapCache::new(1_073_741_824);
-//! let mut maps = StoredMaps { alloc, words: &words, locations: &locations, cache: &mut cache, loader: &mut loader };
+//! let mut maps = StoredMaps { alloc, exact: &exact, locations: &locations, cache: &mut cache, loader: &mut loader };
 //! maps.find(b"https://example.test/js/app.js");
 //! let map = maps.map_for(b"https://example.test/js/app.js"); // that of maps/app.js.map, read by the loader
 //! ```

@@ -20,15 +20,15 @@ use std::alloc::Global;
 pub fn add_list(
     alloc: Global,
     locations: &mut Locations,
-    words: &Table,
+    exact: &Table,
     text: &str,
 ) -> Result<(), ListRefusal>
-    ensures { TakesList words.now (lines text.now) locations.old result locations.new }
+    ensures { TakesList exact.now (lines text.now) locations.old result locations.new }
 {
     let mut number = 0;
     for line in text.lines() {
         number += 1;
-        if let Err(fault) = add_line(alloc, locations, words, line) {
+        if let Err(fault) = add_line(alloc, locations, exact, line) {
             return Err(ListRefusal {
                 line: number,
                 fault,
@@ -42,16 +42,16 @@ pub fn add_list(
 fn add_line(
     alloc: Global,
     locations: &mut Locations,
-    words: &Table,
+    exact: &Table,
     line: &str,
 ) -> Result<(), ListFault>
-    ensures taken { OnOk result (IsTaken words.now locations.old line.now locations.new) }
+    ensures taken { OnOk result (IsTaken exact.now locations.old line.now locations.new) }
     ensures kept { OnErr result (locations.new ≡ locations.old) }
-    ensures refused { IfErr result (IsRefused words.now locations.old line.now) }
+    ensures refused { IfErr result (IsRefused exact.now locations.old line.now) }
 {
     match entry_of_line(line) {
         Ok(Some((url, path))) if is_rule(url, path) => add_rule(alloc, locations, url, path),
-        Ok(Some((url, path))) => add_file(alloc, locations, words, url, path),
+        Ok(Some((url, path))) => add_file(alloc, locations, exact, url, path),
         Ok(None) => Ok(()),
         Err(fault) => Err(fault),
     }
@@ -61,19 +61,19 @@ fn add_line(
 fn add_file(
     alloc: Global,
     locations: &mut Locations,
-    words: &Table,
+    exact: &Table,
     url: &str,
     path: &str,
 ) -> Result<(), ListFault>
     ensures added { OnOk result (PutsFile locations.old url.now path.now locations.new) }
     ensures kept { OnErr result (locations.new ≡ locations.old) }
-    ensures refused { MatchOption (file_fault words.now locations.old url.now)
+    ensures refused { MatchOption (file_fault exact.now locations.old url.now)
         (IfErr result (λ fault. fault ≡ Memory)) (λ fault. IsErrAnd result (λ e. e ≡ fault)) }
 {
     if is_bad_url(url.as_bytes()) {
         return Err(ListFault::BadUrl);
     }
-    if words.map_for(url.as_bytes()).is_some() || locations.has_file(url.as_bytes()) {
+    if exact.map_for(url.as_bytes()).is_some() || locations.has_file(url.as_bytes()) {
         return Err(ListFault::Twice);
     }
     let (url, path) = texts(alloc, url, path)?;

@@ -19,7 +19,7 @@ use std::alloc::Global;
 pub struct StoredMaps<'s, 'c, L: MapLoader> {
     pub alloc: Global,
     /// What it has comes first.
-    pub words: &'s Table,
+    pub exact: &'s Table,
     /// The files of the others.
     pub locations: &'s Locations,
     pub cache: &'c mut MapCache,
@@ -30,9 +30,9 @@ impl<L: MapLoader> StoredMaps<'_, '_, L> {
     // What is known of a URL before any file is asked for: its map, or that it has none.
     fn known(&self, url: &[u8]) -> Option<Option<&ReadyMap>>
         ensures { option_map (λ known. option_map (λ map. map.now.stated) known) result
-            ≡ known_of self.now.words.now self.now.locations.now url.now }
+            ≡ known_of self.now.exact.now self.now.locations.now url.now }
     {
-        if let Some(map) = self.words.map_for(url) {
+        if let Some(map) = self.exact.map_for(url) {
             return Some(Some(map));
         }
         if asks_no_file(self.locations, url) {
@@ -86,6 +86,7 @@ fn load_from<L: MapLoader>(
 }
 
 impl<L: MapLoader> Maps for StoredMaps<'_, '_, L> {
+    ghost use Rattle.std.specs.Prelude.{None, false, refl};
     ghost use Rattle.smap_store.specs.Stored.{FindsIn, GivesIn, found_in};
     ghost use Rattle.smap_store.specs.StoredMaps.{IsSameStore, stored_seen};
     ghost use Rattle.smap_store.specs.Laws.Stored.{given_in, same_in, some_in};
@@ -96,6 +97,12 @@ impl<L: MapLoader> Maps for StoredMaps<'_, '_, L> {
         FindsIn L.Loads (stored_seen maps) url (stored_seen after) × IsSameStore maps after };
 
     ghost found = { λ maps. found_in (stored_seen maps) };
+
+    ghost names = { λ maps url. None };
+
+    ghost names_any = { false };
+
+    ghost GivesNames = { λ maps url stated written. Unit {0} };
 
     fn find(&mut self, url: &[u8]) -> bool {
         if self.known(url).is_some() {
@@ -120,6 +127,17 @@ impl<L: MapLoader> Maps for StoredMaps<'_, '_, L> {
         }
     }
 
+    fn written_name<'a>(
+        &'a self,
+        _alloc: Global,
+        _url: &[u8],
+        _function: &'a [u8],
+        _line: u32,
+        _column: u32,
+    ) -> Option<&'a [u8]> {
+        None
+    }
+
     ghost some = { λ maps url. some_in L.MayLoad (stored_seen maps) url };
 
     ghost given = { λ maps after url finds.
@@ -128,4 +146,12 @@ impl<L: MapLoader> Maps for StoredMaps<'_, '_, L> {
     ghost same = { λ maps after url other more finds.
         same_in L.MayLoad L.Loads L.given L.same (stored_seen maps) (stored_seen after)
         url other more finds.0 };
+
+    ghost some_names = { λ maps url. (None, None, tt) };
+
+    ghost given_names = { λ maps after url finds. tt };
+
+    ghost same_names = { λ maps after url other stated written finds gives. tt };
+
+    ghost unnamed = { λ maps url none. refl };
 }

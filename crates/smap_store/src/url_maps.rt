@@ -2,6 +2,7 @@
 use crate::url_table::UrlTable;
 use smap_record::ReadyMap;
 use smap_trace::Maps;
+use std::alloc::Global;
 
 /// The maps of a table. With `cut` a URL under which it has none has the one under it without its query and its fragment,
 /// before those of patterns.
@@ -12,7 +13,7 @@ pub struct UrlMaps<'t> {
 }
 
 impl Maps for UrlMaps<'_> {
-    ghost use Rattle.std.specs.Prelude.{◌≡◌, refl};
+    ghost use Rattle.std.specs.Prelude.{◌≡◌, None, false, refl};
     ghost use Rattle.smap_store.specs.UrlTable.{map_under};
     ghost use Rattle.smap_store.specs.Laws.UrlMaps.{table_given, table_same};
 
@@ -22,6 +23,12 @@ impl Maps for UrlMaps<'_> {
 
     ghost found = { λ maps url. map_under maps.cut maps.table.now url };
 
+    ghost names = { λ maps url. None };
+
+    ghost names_any = { false };
+
+    ghost GivesNames = { λ maps url stated written. Unit {0} };
+
     fn find(&mut self, _url: &[u8]) -> bool {
         false
     }
@@ -30,9 +37,28 @@ impl Maps for UrlMaps<'_> {
         self.table.map_under(url, self.cut)
     }
 
+    fn written_name<'a>(
+        &'a self,
+        _alloc: Global,
+        _url: &[u8],
+        _function: &'a [u8],
+        _line: u32,
+        _column: u32,
+    ) -> Option<&'a [u8]> {
+        None
+    }
+
     ghost some = { λ maps url. (map_under maps.cut maps.table.now url, refl) };
 
     ghost given = { table_given };
 
     ghost same = { table_same };
+
+    ghost some_names = { λ maps url. (None, None, tt) };
+
+    ghost given_names = { λ maps after url finds. tt };
+
+    ghost same_names = { λ maps after url other stated written finds gives. tt };
+
+    ghost unnamed = { λ maps url none. refl };
 }

@@ -15,7 +15,7 @@ use std::marker::Model;
 /// Maps, each under a URL, or under `*` and the text of a pattern, which is that of a file.
 #[derive(Drop)]
 pub struct UrlTable {
-    words: Table,
+    exact: Table,
     // The patterns, each with a path that nobody asks for.
     locations: Locations,
     // Their maps, in the same order.
@@ -30,7 +30,7 @@ impl Model for UrlTable {
     ghost Value = { UrlTableSeen };
 
     ghost view = { λ table. record {
-      words = table.words;
+      exact = table.exact;
       patterns = map pattern_seen table.patterns.items;
     } };
 
@@ -40,10 +40,10 @@ impl Model for UrlTable {
 impl UrlTable {
     /// A table without maps. The call takes no memory.
     pub fn new(alloc: Global) -> UrlTable
-        ensures { result ≡ record { words = []; patterns = [] } }
+        ensures { result ≡ record { exact = []; patterns = [] } }
     {
         UrlTable {
-            words: Table::new(alloc),
+            exact: Table::new(alloc),
             locations: Locations::new(alloc),
             patterns: Vec::new(alloc),
         }
@@ -68,7 +68,7 @@ impl UrlTable {
     {
         match pattern_text(url) {
             Some(text) => self.has_pattern(text),
-            None => self.words.map_for(url).is_some(),
+            None => self.exact.map_for(url).is_some(),
         }
     }
 
@@ -101,12 +101,12 @@ impl UrlTable {
 
     // Puts a map under a URL. Where that can't be, nothing is changed.
     fn add_word(&mut self, alloc: Global, url: &str, map: SharedMap) -> Result<(), AllocError>
-        requires { word_refusal self.old.words url.now ≡ None }
+        requires { word_refusal self.old.exact url.now ≡ None }
         ensures added { OnOk result (IsWithWord self.old url.now map.stated self.new) }
         ensures kept { OnErr result (self.new ≡ self.old) }
     {
         let owned = Vec::from_slice(alloc, url.as_bytes())?;
-        self.words.add_shared(owned, map)
+        self.exact.add_shared(owned, map)
     }
 
     // Puts a map under the text of a pattern. Where that can't be, nothing is changed.
@@ -133,11 +133,11 @@ impl UrlTable {
     pub fn map_under(&self, url: &[u8], cut: bool) -> Option<&ReadyMap>
         ensures { option_map (λ map. map.now.stated) result ≡ map_under cut self.now url.now }
     {
-        if let Some(map) = self.words.map_for(url) {
+        if let Some(map) = self.exact.map_for(url) {
             return Some(map);
         }
         if cut {
-            if let Some(map) = self.words.map_for(without_query(url)) {
+            if let Some(map) = self.exact.map_for(without_query(url)) {
                 return Some(map);
             }
         }
@@ -156,10 +156,10 @@ impl UrlTable {
     }
 
     /// The maps under URLs.
-    pub fn words(&self) -> &Table
-        ensures { result.now ≡ self.now.words }
+    pub fn exact(&self) -> &Table
+        ensures { result.now ≡ self.now.exact }
     {
-        &self.words
+        &self.exact
     }
 
     /// The patterns, as those of files whose paths nobody asks for.

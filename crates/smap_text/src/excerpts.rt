@@ -15,7 +15,7 @@ const MOST_CHARACTERS: usize = 120;
 const MOST_BEFORE: usize = 60;
 
 // The bytes of the longest excerpt: characters of four bytes, an LF, spaces, and the caret.
-const MOST_BYTES: usize = 542;
+const MOST_EXCERPT_BYTES: usize = 542;
 
 /// An excerpt of the line of this number that shows the place of this column, both from 0, the column in UTF-16 code
 /// units: at most 120 characters of the line, an LF, and a caret under the character. `None` where the content has no such
@@ -53,7 +53,7 @@ fn excerpt_text(alloc: Global, line: &str, byte: usize) -> Result<String, AllocE
 {
     let number = characters(&line[..byte]);
     let first = number.saturating_sub(MOST_BEFORE);
-    let mut shown = String::with_capacity(alloc, MOST_BYTES)?;
+    let mut shown = String::with_capacity(alloc, MOST_EXCERPT_BYTES)?;
     push_line(&mut shown, line, first)?;
     shown.push('\n')?;
     push_spaces(&mut shown, number - first)?;

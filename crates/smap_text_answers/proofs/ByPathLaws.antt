@@ -10,10 +10,10 @@ use Rattle.smap_lines.specs.Limits.{most_text_bytes}
 use Rattle.smap_lines.specs.Lines.{Line, line_text, lines_with_ends}
 use Rattle.smap_lines.specs.declared.counts.LineCounts.{LineCounts}
 use Rattle.smap_lines.specs.declared.fault.LineFault.{LineFault}
-use Rattle.smap_text_answers.specs.ByPath.{AnswersAll, AnswersLine, AnswersPlace, IsDefined, IsFoundFor, IsFoundIn, IsFoundOf, IsKnown}
+use Rattle.smap_text_answers.specs.AnswersOfFiles.{AnswersAll, AnswersLine, AnswersPlace, IsDefined, IsFoundFor, IsFoundIn, IsFoundOf, IsKnown}
 use Rattle.smap_text_answers.specs.Locate.{AnswersByPath, IsLocatedOverStore}
 use Rattle.smap_text_answers.specs.Locating.{LocateStep, Locates}
-use Rattle.smap_text_answers.specs.Place.{Place, place_of}
+use Rattle.smap_text_answers.specs.UrlPlace.{UrlPlace, place_of}
 use Rattle.smap_locations.specs.Laws.Key.{path_of_key}
 use Rattle.smap_locations.specs.Locations.{LocationsSeen, key_for, path_for}
 use Rattle.smap_command.specs.Limits.{usual_cache_bytes}
@@ -106,14 +106,14 @@ module _ (Reads : MayRead) (paths : Bool) (base : Option Parts) (k number : ℕ)
   came_found old new url None came comes = inr (ap outcome_in comes.0)
   came_found old new url (Some path) came comes = loaded old new url path came comes
 
-  module _ (words : List (List ℕ × MapRecord)) (locations : LocationsSeen) where
+  module _ (exact : List (List ℕ × MapRecord)) (locations : LocationsSeen) where
     abbrev AllRight : StoredSeen LoaderSeen → Type 0
-    AllRight = IsRight (Loads Reads paths base k number) Found words locations
+    AllRight = IsRight (Loads Reads paths base k number) Found exact locations
 
     -- ---- what is found for a URL
 
     abbrev Defined : (url : List ℕ) → Outcome → Type 0
-    Defined url outcome = (outcome ≡ Err Memory) ⊎ IsDefined paths base k bytes_at words locations url outcome
+    Defined url outcome = (outcome ≡ Err Memory) ⊎ IsDefined paths base k bytes_at exact locations url outcome
 
     kept_found : (maps : StoredSeen LoaderSeen) (url : List ℕ) (found : Option Outcome) → kept_under (key_for locations url) maps.cache ≡ found → AllRight maps
         → Found (key_for locations url) (path_for locations url) (outcome_of found)
@@ -124,34 +124,34 @@ module _ (Reads : MayRead) (paths : Bool) (base : Option Parts) (k number : ℕ)
 
     known_defined : (maps : StoredSeen LoaderSeen) (url : List ℕ) (known : Option (Option MapRecord)) → AllRight maps
         → (known_outcome known (kept_under (key_for locations url) maps.cache) ≡ Err Memory)
-        ⊎ IsKnown paths base k bytes_at words locations known url (known_outcome known (kept_under (key_for locations url) maps.cache))
+        ⊎ IsKnown paths base k bytes_at exact locations known url (known_outcome known (kept_under (key_for locations url) maps.cache))
     known_defined maps url None right = kept_found maps url (kept_under (key_for locations url) maps.cache) refl right
     known_defined maps url (Some None) right = inr refl
     known_defined maps url (Some (Some stated)) right = inr refl
 
     defined_at : (maps : StoredSeen LoaderSeen) (url : List ℕ) → AllRight maps → Defined url (outcome_at maps url)
     defined_at maps url right =
-        let outcome : outcome_at maps url ≡ known_outcome (known_of words locations url) (kept_under (key_for locations url) maps.cache) =
+        let outcome : outcome_at maps url ≡ known_outcome (known_of exact locations url) (kept_under (key_for locations url) maps.cache) =
         λ i. known_outcome (known_of (right.words_are i) (right.locations_are i) url) (kept_under (key_for (right.locations_are i) url) maps.cache) in
-        subst (Defined url) (sym outcome) (known_defined maps url (known_of words locations url) right)
+        subst (Defined url) (sym outcome) (known_defined maps url (known_of exact locations url) right)
 
-    placed : (options : AnswerOptions) (old new : StoredSeen LoaderSeen) (place : Option Place) (text : List ℕ) → AllRight old
+    placed : (options : AnswerOptions) (old new : StoredSeen LoaderSeen) (place : Option UrlPlace) (text : List ℕ) → AllRight old
         → Locates (FindsIn (Loads Reads paths base k number)) options old place text new
-        → AnswersPlace paths base k bytes_at words locations options place text × AllRight new
+        → AnswersPlace paths base k bytes_at exact locations options place text × AllRight new
     placed options old new None text right step = (step.0, subst AllRight (sym step.1) right)
     placed options old new (Some place) text right step =
-        let after = right_after (Loads Reads paths base k number) Found words locations old new right place.url step.0
+        let after = right_after (Loads Reads paths base k number) Found exact locations old new right place.url step.0
         (λ key path came comes. came_found old.loader new.loader key path came comes) in
         ((outcome_at new place.url, defined_at new place.url after, step.1), after)
 
     located_by_path : (options : AnswerOptions) (most : ℕ) (before after : DevicesSeen) (old new : StoredSeen LoaderSeen) (counts : LineCounts)
-        → old.words ≡ words → old.locations ≡ locations → IsEmpty old.cache
+        → old.exact ≡ exact → old.locations ≡ locations → IsEmpty old.cache
         → EditsInto (LocateStep (FindsIn (Loads Reads paths base k number)) options) most before after old new counts
-        → AnswersAll (AnswersLine paths base k bytes_at words locations options) before after
+        → AnswersAll (AnswersLine paths base k bytes_at exact locations options) before after
     located_by_path options most before after old new counts words_are locations_are empty edits =
-        answers_all (LocateStep (FindsIn (Loads Reads paths base k number)) options) AllRight (AnswersLine paths base k bytes_at words locations options)
+        answers_all (LocateStep (FindsIn (Loads Reads paths base k number)) options) AllRight (AnswersLine paths base k bytes_at exact locations options)
         (λ old line text new right step. placed options old new (place_of line.bytes) text right step) most before after old new counts
-        (right_start (Loads Reads paths base k number) Found words locations old words_are locations_are empty) edits
+        (right_start (Loads Reads paths base k number) Found exact locations old words_are locations_are empty) edits
 
 -- and so a run over a store answers each line
 pub run_by_path : (Reads : MayRead) (asked : Locate) (sources : MapSources) (end : StoreEnd LineCounts) (before after : Streams)
@@ -162,5 +162,5 @@ run_by_path Reads asked sources end before after over bytes_at alike counts resu
     let P : Result LineCounts LineFault → Type 0 = λ result. IfOk result (EditsInto
     (LocateStep (FindsIn (Loads Reads asked.paths asked.base asked.interval number)) asked.options) most_text_bytes
     (devices_seen before.input before.sinks.output) (devices_seen after.input after.sinks.output) start over.last) in
-    located_by_path Reads asked.paths asked.base asked.interval number bytes_at alike sources.words sources.locations asked.options most_text_bytes
+    located_by_path Reads asked.paths asked.base asked.interval number bytes_at alike sources.exact sources.locations asked.options most_text_bytes
     (devices_seen before.input before.sinks.output) (devices_seen after.input after.sinks.output) start over.last counts refl refl (refl, refl) (subst P result over.whole)

@@ -9,14 +9,14 @@ use Rattle.std.proofs.lemmas.Bool.{cond-false, cond-true, or_from, or_parts}
 use Rattle.std.proofs.lemmas.List.{take-append-drop}
 use Rattle.smap_lines.specs.Bytes.{IsLineEnd, is_blank}
 use Rattle.smap_lines.specs.Numbers.{IsPrinted, decimal_number}
-use Rattle.smap_text_answers.specs.Place.{Place, place_before, place_cut, place_of, place_with}
+use Rattle.smap_text_answers.specs.UrlPlace.{UrlPlace, place_before, place_cut, place_of, place_with}
 use Rattle.smap_text_answers.specs.PlaceForm.{IsPlace, IsUrlText}
-use Rattle.smap_positions.specs.Position.{AreBlanks}
-use Rattle.smap_positions.specs.PositionOf.{after_blanks, column_of, position_with}
-use Rattle.smap_positions.specs.declared.printed_position.PrintedPosition.{PrintedPosition}
-use Rattle.smap_positions.proofs.ColumnLaws.{column_has_form, form_is_column}
-use Rattle.smap_positions.proofs.PositionLaws.{AllPass, after_span, begins, blank_not_colon, number_digits, passes, stops_after, with_is}
-use Rattle.smap_trace.specs.Cuts.{cut_at_last}
+use Rattle.smap_printing.specs.Position.{AreBlanks}
+use Rattle.smap_printing.specs.PositionOf.{after_blanks, column_of, position_with}
+use Rattle.smap_printing.specs.declared.printed_position.PrintedPosition.{PrintedPosition}
+use Rattle.smap_printing.proofs.ColumnLaws.{column_has_form, form_is_column}
+use Rattle.smap_printing.proofs.PositionLaws.{AllPass, after_span, begins, blank_not_colon, number_digits, passes, stops_after, with_is}
+use Rattle.smap_trace.specs.Cuts.{cut_at_last_byte}
 use Rattle.smap_trace.proofs.CutLaws.{IsLastCut, cut_is_last, is_without, last_cut}
 
 -- ---- no `:` stands in what is behind the last
@@ -60,7 +60,7 @@ stops (x ∷ url) rest some none = go (is_blank x) refl none
 
 -- ---- the place
 
-url_with : (url : List ℕ) (position : Option PrintedPosition) (place : Place) → place_with url position ≡ Some place
+url_with : (url : List ℕ) (position : Option PrintedPosition) (place : UrlPlace) → place_with url position ≡ Some place
     → ((length url == 0) ≡ false) × (is_utf8 url ≡ true) × (url ≡ place.url) × (position ≡ Some place.position)
 url_with url None place is = cc
 url_with url (Some position) place is = go (length url == 0) (is_utf8 url) refl refl is
@@ -79,7 +79,7 @@ with_url url position is = cond-false (length url == 0) None _ is.some ∙ cond-
 
 module _ (numbers : (text : List ℕ) (n : ℕ) → (decimal_number text ≡ Some n) ↔ ((text ≡ decimal n) × IsPrinted n)) where
   -- where the line's number is cut
-  front_form : (line before front column : List ℕ) (place : Place) → line ≡ before ++ (front ++ 58 ∷ column) → AreBlanks before
+  front_form : (line before front column : List ℕ) (place : UrlPlace) → line ≡ before ++ (front ++ 58 ∷ column) → AreBlanks before
       → begins is_blank (front ++ 58 ∷ column) ≡ false → (cut : Option (List ℕ × List ℕ)) → MatchOption cut (is_without 58 front) (IsLastCut 58 front)
       → place_before cut (column_of column) ≡ Some place → IsPlace line place
   front_form line before front column place joined blank starts None is found = cc
@@ -104,20 +104,20 @@ module _ (numbers : (text : List ℕ) (n : ℕ) → (decimal_number text ≡ Som
         ends = form.ends;
       }
 
-  text_form : (line before text : List ℕ) (place : Place) → line ≡ before ++ text → AreBlanks before → begins is_blank text ≡ false
+  text_form : (line before text : List ℕ) (place : UrlPlace) → line ≡ before ++ text → AreBlanks before → begins is_blank text ≡ false
       → (cut : Option (List ℕ × List ℕ)) → MatchOption cut (is_without 58 text) (IsLastCut 58 text) → place_cut cut ≡ Some place → IsPlace line place
   text_form line before text place joined blank starts None is found = cc
   text_form line before text place joined blank starts (Some (front, column)) is found =
       front_form line before front column place (joined ∙ ap (λ t. before ++ t) is.0) blank (ap (begins is_blank) (sym is.0) ∙ starts)
-      (cut_at_last 58 front) (cut_is_last 58 front) found
+      (cut_at_last_byte 58 front) (cut_is_last 58 front) found
 
-  pub place_has_form : (line : List ℕ) (place : Place) → place_of line ≡ Some place → IsPlace line place
+  pub place_has_form : (line : List ℕ) (place : UrlPlace) → place_of line ≡ Some place → IsPlace line place
   unfolding place_of
   place_has_form line place is =
       text_form line (take (prefix_len is_blank line) line) (after_blanks line) place (sym (take-append-drop (prefix_len is_blank line) line))
-      (passes is_blank line) (stops_after is_blank line) (cut_at_last 58 (after_blanks line)) (cut_is_last 58 (after_blanks line)) is
+      (passes is_blank line) (stops_after is_blank line) (cut_at_last_byte 58 (after_blanks line)) (cut_is_last 58 (after_blanks line)) is
 
-  pub form_is_place : (line : List ℕ) (place : Place) → IsPlace line place → place_of line ≡ Some place
+  pub form_is_place : (line : List ℕ) (place : UrlPlace) → IsPlace line place → place_of line ≡ Some place
   unfolding place_of
   form_is_place line place form =
       let l = (numbers (decimal place.position.line) place.position.line).1 (refl, form.line_printed) in
@@ -129,11 +129,11 @@ module _ (numbers : (text : List ℕ) (n : ℕ) → (decimal_number text ≡ Som
       ∙ stops place.url (58 ∷ decimal place.position.line ++ 58 ∷ column) form.url.some form.url.begins in
       let text : after_blanks line ≡ front ++ 58 ∷ column =
       ap after_blanks form.joined ∙ after_span is_blank form.before (front ++ 58 ∷ column) form.blank_before starts in
-      let cut : cut_at_last 58 (after_blanks line) ≡ Some (front, column) =
-      ap (cut_at_last 58) text ∙ last_cut 58 front column (without_both (decimal place.position.column) (form.after ++ form.end)
+      let cut : cut_at_last_byte 58 (after_blanks line) ≡ Some (front, column) =
+      ap (cut_at_last_byte 58) text ∙ last_cut 58 front column (without_both (decimal place.position.column) (form.after ++ form.end)
       (digits_without (decimal place.position.column) (number_digits (decimal place.position.column) place.position.column c))
       (without_both form.after form.end (blanks_without form.after form.blank_after) (end_without form.end form.ends))) in
-      let before : cut_at_last 58 front ≡ Some (place.url, decimal place.position.line) =
+      let before : cut_at_last_byte 58 front ≡ Some (place.url, decimal place.position.line) =
       last_cut 58 place.url (decimal place.position.line)
       (digits_without (decimal place.position.line) (number_digits (decimal place.position.line) place.position.line l)) in
       let read : column_of column ≡ Some place.position.column = form_is_column numbers column place.position.column

@@ -9,16 +9,16 @@ use Rattle.smap_store.specs.Laws.Stored.{CameAnew, Moves, found_moves}
 use Rattle.smap_store.specs.Loaded.{Came, Outcome, outcome_in}
 use Rattle.smap_store.specs.Stored.{Comes, FindsIn, LoadsStep, StoredSeen}
 
-module _ {L : Type 0} (Loads : LoadsStep L) (Is : (key : List ℕ) (path : Option (List ℕ)) → Outcome → Type 0) (words : List (List ℕ × MapRecord))
+module _ {L : Type 0} (Loads : LoadsStep L) (Is : (key : List ℕ) (path : Option (List ℕ)) → Outcome → Type 0) (exact : List (List ℕ × MapRecord))
     (locations : LocationsSeen) where
-  -- the store is over these words and locations, and what it remembers under each text is such
+  -- the store is over these exact URLs and locations, and what it remembers under each text is such
   pub record IsRight (maps : StoredSeen L) : Type 0 where
-    pub words_are : maps.words ≡ words
+    pub words_are : maps.exact ≡ exact
     pub locations_are : maps.locations ≡ locations
     pub kept : (key : List ℕ) (found : Outcome) → IsKept maps.cache key found → Is key (path_for locations key) found
 
   -- nothing is remembered at first
-  pub right_start : (maps : StoredSeen L) → maps.words ≡ words → maps.locations ≡ locations → IsEmpty maps.cache → IsRight maps
+  pub right_start : (maps : StoredSeen L) → maps.exact ≡ exact → maps.locations ≡ locations → IsEmpty maps.cache → IsRight maps
   right_start maps words_are locations_are empty = record {
     words_are = words_are;
     locations_are = locations_are;
@@ -44,7 +44,7 @@ module _ {L : Type 0} (Loads : LoadsStep L) (Is : (key : List ℕ) (path : Optio
         → ((key : List ℕ) (path : Option (List ℕ)) (came : Came) → Comes Loads old.loader key path came new.loader → Is key path (outcome_in came))
         → IsRight new
     right_after url finds comes = record {
-      words_are = finds.words ∙ right.words_are;
+      words_are = finds.exact ∙ right.words_are;
       locations_are = finds.locations ∙ right.locations_are;
       kept = kept_moved (key_for old.locations url) (found_moves Loads old url new finds) (comes (key_for old.locations url) (path_for old.locations (key_for old.locations url)));
     }

@@ -107,7 +107,7 @@ module _ {L : Type 0} (Steps : LoadsStep L) (Good : L → Type 0) (load : MapsBy
   steps_good old new key (Some known) same good = untouched_good old new same good
 
   good_before : (old new : StoredSeen L) (url : List ℕ) → FindsIn Steps old url new → IsGood Good new → IsGood Good old
-  good_before old new url finds good = steps_good old new (key_for old.locations url) (known_of old.words old.locations url) finds.steps good
+  good_before old new url finds good = steps_good old new (key_for old.locations url) (known_of old.exact old.locations url) finds.steps good
 
   -- ---- what is found is the map of the file, and what is remembered stays right
 
@@ -126,29 +126,29 @@ module _ {L : Type 0} (Steps : LoadsStep L) (Good : L → Type 0) (load : MapsBy
         (counted_under old.cache asked.came key ∙ absent),
   )
 
-  module _ (words : List (List ℕ × MapRecord)) (locations : LocationsSeen) where
+  module _ (exact : List (List ℕ × MapRecord)) (locations : LocationsSeen) where
     -- where a URL is known to have a map or none, that is found, and else that of the file
     found_right : (old new : StoredSeen L) (key : List ℕ) (known : Option (Option MapRecord))
-        → MatchOption known (Recalls Steps old key new) (λ known. Untouched old new) → IsGood Good new → IsRight Steps Gave words locations new
+        → MatchOption known (Recalls Steps old key new) (λ known. Untouched old new) → IsGood Good new → IsRight Steps Gave exact locations new
         → or_other known (map_in (kept_under key new.cache)) ≡ or_other known (by_path load key (path_for locations key))
     found_right old new key None recalls good right =
         let it = is_found old new key (kept_under key old.cache) refl recalls good in
         ap map_in it.1 ∙ right.kept key it.0 (is_kept new.cache key it.0 it.1)
     found_right old new key (Some known) untouched good right = refl
 
-    finds_right : (old new : StoredSeen L) (url : List ℕ) → FindsIn Steps old url new → IsGood Good new → IsRight Steps Gave words locations old
-        → (found_in new url ≡ stored_maps load words locations url) × IsRight Steps Gave words locations new
+    finds_right : (old new : StoredSeen L) (url : List ℕ) → FindsIn Steps old url new → IsGood Good new → IsRight Steps Gave exact locations old
+        → (found_in new url ≡ stored_maps load exact locations url) × IsRight Steps Gave exact locations new
     finds_right old new url finds good right =
         let key = key_for locations url in
-        let after = right_after Steps Gave words locations old new right url finds
+        let after = right_after Steps Gave exact locations old new right url finds
         (λ key path came comes. (comes_right old.loader new.loader key path came comes good.0).1) in
         let P : List (List ℕ × MapRecord) × LocationsSeen → Type 0 = λ (w, l).
         MatchOption (known_of w l url) (Recalls Steps old (key_for l url) new) (λ known. Untouched old new) in
-        let both : ◌≡◌ {A = List (List ℕ × MapRecord) × LocationsSeen} (old.words, old.locations) (words, locations) =
+        let both : ◌≡◌ {A = List (List ℕ × MapRecord) × LocationsSeen} (old.exact, old.locations) (exact, locations) =
         λ i. (right.words_are i, right.locations_are i) in (
           (λ i. or_other (known_of (after.words_are i) (after.locations_are i) url) (map_in (kept_under (key_for (after.locations_are i) url) new.cache)))
-              ∙ found_right old new key (known_of words locations url) (subst P both finds.steps) good after
-              ∙ ap (λ path. or_other (known_of words locations url) (by_path load key path)) (path_of_key locations url),
+              ∙ found_right old new key (known_of exact locations url) (subst P both finds.steps) good after
+              ∙ ap (λ path. or_other (known_of exact locations url) (by_path load key path)) (path_of_key locations url),
           after,
         )
 
@@ -156,20 +156,20 @@ module _ {L : Type 0} (Steps : LoadsStep L) (Good : L → Type 0) (load : MapsBy
 
   rewrites_same : (asked : RewriteAsked) (before after : DevicesSeen) (old new : StoredSeen L) (counts : RewriteCounts) (notes : NotesSeen)
       → RewritesOver (FindsIn Steps) found_in asked before after old new counts notes → IsEmpty old.cache → IsGood Good new
-      → RewritesBy (stored_maps load old.words old.locations) asked.hide asked.most before after counts
+      → RewritesBy (stored_maps load old.exact old.locations) asked.hide asked.most before after counts
   rewrites_same asked before after old new counts notes all empty good =
-      rewrites_by (FindsIn Steps) found_in (stored_maps load old.words old.locations) (IsGood Good) (IsRight Steps Gave old.words old.locations)
-      good_before (finds_right old.words old.locations) asked before after old new counts notes all
-      good (right_start Steps Gave old.words old.locations old refl refl empty)
+      rewrites_by (FindsIn Steps) found_in (stored_maps load old.exact old.locations) (IsGood Good) (IsRight Steps Gave old.exact old.locations)
+      good_before (finds_right old.exact old.locations) asked before after old new counts notes all
+      good (right_start Steps Gave old.exact old.locations old refl refl empty)
 
   -- and rewriting places
   places_same : (asked : PlacesAsked) (before after : DevicesSeen) (old new : StoredSeen L) (summary : Summary) (named others : NotesSeen)
       → RewritesAnywhere (FindsIn Steps) found_in asked before after old new summary named others → IsEmpty old.cache → IsGood Good new
-      → RewritesAnywhereBy (stored_maps load old.words old.locations) asked.parts asked.most_bytes before after summary
+      → RewritesAnywhereBy (stored_maps load old.exact old.locations) asked.parts asked.most_bytes before after summary
   places_same asked before after old new summary named others all empty good =
-      anywhere_by (FindsIn Steps) found_in (stored_maps load old.words old.locations) (IsGood Good) (IsRight Steps Gave old.words old.locations)
-      good_before (finds_right old.words old.locations) asked before after old new summary named
-      others all good (right_start Steps Gave old.words old.locations old refl refl empty)
+      anywhere_by (FindsIn Steps) found_in (stored_maps load old.exact old.locations) (IsGood Good) (IsRight Steps Gave old.exact old.locations)
+      good_before (finds_right old.exact old.locations) asked before after old new summary named
+      others all good (right_start Steps Gave old.exact old.locations old refl refl empty)
 
 -- ---- where the maps are settled
 
@@ -224,7 +224,7 @@ module _ (Reads : MayRead) (paths : Bool) (base : Option Parts) (k number : ℕ)
       (RewritesOver (FindsIn (Loads Reads paths base k number)) found_in (asked_of request sources) before after old new counts notes
       × (others ≡ nothing_noted))
       → IsEmpty old.cache → Settled new.loader → new.cache.shortages ≡ 0
-      → RewritesTextBy anywhere (stored_maps load old.words old.locations) (parts_in (urls_of sources)) request.hide request.limit_bytes before after counts
+      → RewritesTextBy anywhere (stored_maps load old.exact old.locations) (parts_in (urls_of sources)) request.hide request.limit_bytes before after counts
   same_settled request sources before after old new counts notes others true all empty settled enough =
       places_same (Loads Reads paths base k number) Settled load loads_settled (places_asked request sources) before after old new counts.summary notes others
       all.over empty (settled, enough)

@@ -62,13 +62,13 @@ module _ (arguments rest : List (List ℕ × List ℕ)) (url path : List ℕ) (o
 
 -- ---- a list
 
-module _ (anywhere : Bool) (list bytes : List ℕ) (words : Maps) (old : LocationsSeen) where
+module _ (anywhere : Bool) (list bytes : List ℕ) (exact : Maps) (old : LocationsSeen) where
   abbrev Adds : Result MapSources Report → Type 0
-  Adds = AddsList anywhere list bytes words old
+  Adds = AddsList anywhere list bytes exact old
 
   -- its bytes are refused
   refused_for : (why : Option Code) (report : Report) → IsSomeAnd why (λ code. report ≡ refused_file list code)
-      → MatchOption why (AddsAllowed anywhere list (without_mark bytes) words old (Err report))
+      → MatchOption why (AddsAllowed anywhere list (without_mark bytes) exact old (Err report))
       (λ code. ◌≡◌ {A = Result MapSources Report} (Err report) (Err (refused_file list code)))
   refused_for None report reported = absurd reported
   refused_for (Some code) report reported = ap Err reported
@@ -78,32 +78,32 @@ module _ (anywhere : Bool) (list bytes : List ℕ) (words : Maps) (old : Locatio
   adds_no_text report (inl no_memory) = inl (ap Err no_memory)
   adds_no_text report (inr reported) = inr (refused_for (list_bytes_refusal bytes) report reported)
 
-  of_text : list_bytes_refusal bytes ≡ None → (result : Result MapSources Report) → AddsAllowed anywhere list (without_mark bytes) words old result
+  of_text : list_bytes_refusal bytes ≡ None → (result : Result MapSources Report) → AddsAllowed anywhere list (without_mark bytes) exact old result
       → Adds result
   of_text is_text result adds =
-      inr (subst (λ r. MatchOption r (AddsAllowed anywhere list (without_mark bytes) words old result) (λ code. result ≡ Err (refused_file list code)))
+      inr (subst (λ r. MatchOption r (AddsAllowed anywhere list (without_mark bytes) exact old result) (λ code. result ≡ Err (refused_file list code)))
       (sym is_text) adds)
 
   -- a line is excluded
   pub adds_excluded : list_bytes_refusal bytes ≡ None → (number : ℕ) → excluded_line anywhere (without_mark bytes) ≡ Some number
       → (report : Report) → report ≡ misuse (list_refused_line list number excluded_reason) → Adds (Err report)
   adds_excluded is_text number excluded report reported =
-      of_text is_text (Err report) (subst (λ r. MatchOption r (AddsLines list (without_mark bytes) words old (Err report))
+      of_text is_text (Err report) (subst (λ r. MatchOption r (AddsLines list (without_mark bytes) exact old (Err report))
       (λ number. ◌≡◌ {A = Result MapSources Report} (Err report) (Err (misuse (list_refused_line list number excluded_reason)))))
       (sym excluded) (ap Err reported))
 
   of_lines : list_bytes_refusal bytes ≡ None → excluded_line anywhere (without_mark bytes) ≡ None → (result : Result MapSources Report)
-      → AddsLines list (without_mark bytes) words old result → Adds result
+      → AddsLines list (without_mark bytes) exact old result → Adds result
   of_lines is_text allowed result adds =
-      of_text is_text result (subst (λ r. MatchOption r (AddsLines list (without_mark bytes) words old result)
+      of_text is_text result (subst (λ r. MatchOption r (AddsLines list (without_mark bytes) exact old result)
       (λ number. result ≡ Err (misuse (list_refused_line list number excluded_reason)))) (sym allowed) adds)
 
   -- its lines are taken
-  pub adds_taken : list_bytes_refusal bytes ≡ None → excluded_line anywhere (without_mark bytes) ≡ None → (new : LocationsSeen) → AreTaken words (lines (without_mark bytes)) old new
-      → Adds (Ok (record { words = words; locations = new }))
+  pub adds_taken : list_bytes_refusal bytes ≡ None → excluded_line anywhere (without_mark bytes) ≡ None → (new : LocationsSeen) → AreTaken exact (lines (without_mark bytes)) old new
+      → Adds (Ok (record { exact = exact; locations = new }))
   adds_taken is_text allowed new taken = of_lines is_text allowed _ (Ok tt, (new, taken, refl))
 
   -- up to one that is refused
   pub adds_refused : list_bytes_refusal bytes ≡ None → excluded_line anywhere (without_mark bytes) ≡ None → (new : LocationsSeen) (refused : ListRefusal)
-      → IsRefusedAt words (lines (without_mark bytes)) old new refused → (report : Report) → report ≡ list_refusal list refused → Adds (Err report)
+      → IsRefusedAt exact (lines (without_mark bytes)) old new refused → (report : Report) → report ≡ list_refusal list refused → Adds (Err report)
   adds_refused is_text allowed new refused at report reported = of_lines is_text allowed _ (Err refused, (new, at, ap Err reported))

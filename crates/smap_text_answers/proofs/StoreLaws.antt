@@ -28,7 +28,7 @@ use Rattle.smap_trace.specs.declared.outcome.RewriteCounts.{RewriteCounts}
 use Rattle.smap_replies.specs.Files.{MayRead}
 use Rattle.smap_text_answers.specs.Loader.{IsSameLoader, LoaderSeen, Loads, MayLoad, loader_seen}
 use Rattle.smap_text_answers.specs.Locating.{BecomesAnswer, LocateStep, Locates, MayLocate}
-use Rattle.smap_text_answers.specs.Place.{Place, place_of}
+use Rattle.smap_text_answers.specs.UrlPlace.{UrlPlace, place_of}
 use Rattle.smap_text_answers.specs.Request.{RequestSeen}
 use Rattle.smap_text_answers.specs.RewriteFrom.{RewritesPlaces, RewritesText, RewritesTextFront, asked_of, places_asked}
 use Rattle.smap_text_answers.specs.StoreRun.{LoadsOf, MayLoadOf}
@@ -40,7 +40,7 @@ use Rattle.smap_text_answers.proofs.BesideLaws.{when_both}
 
 module _ {L N : Type 0} (see : L → N) where
   abbrev see_store : StoredSeen L → StoredSeen N
-  see_store maps = record { words = maps.words; locations = maps.locations; cache = maps.cache; loader = see maps.loader }
+  see_store maps = record { exact = maps.exact; locations = maps.locations; cache = maps.cache; loader = see maps.loader }
 
   untouched_seen : (old new : StoredSeen L) → Untouched old new → Untouched (see_store old) (see_store new)
   untouched_seen old new is = record { cache = is.cache; loader = ap see is.loader }
@@ -79,9 +79,9 @@ module _ {L N : Type 0} (see : L → N) where
 
     finds_seen : (old new : StoredSeen L) (loads : StepSeen old.loader new.loader) (url : List ℕ) → FindsIn Steps old url new → FindsIn Seen (see_store old) url (see_store new)
     finds_seen old new loads url is = record {
-      words = is.words;
+      exact = is.exact;
       locations = is.locations;
-      steps = steps_seen old new loads (key_for old.locations url) (known_of old.words old.locations url) is.steps;
+      steps = steps_seen old new loads (key_for old.locations url) (known_of old.exact old.locations url) is.steps;
     }
 
   module _ (May : LoadsMay L) (MaySeen : LoadsMay N) (maps : StoredSeen L)
@@ -107,7 +107,7 @@ module _ {L N : Type 0} (see : L → N) where
     gives_for url found (Some known) is = is
 
     gives_seen : (url : List ℕ) (found : Option MapRecord) → GivesIn May maps url found → GivesIn MaySeen (see_store maps) url found
-    gives_seen url found is = gives_for url found (known_of maps.words maps.locations url) is
+    gives_seen url found is = gives_for url found (known_of maps.exact maps.locations url) is
 
 -- ---- what reads them stays what it is
 
@@ -217,7 +217,7 @@ module _ {F E : Type 0} (gives : F → MayRead) (seen : E → SinkSeen) where
 
       -- answering over it
       module _ (options : AnswerOptions) (before after : DevicesSeen) where
-        locates_so : (old new : StoredSeen (FileLoader F E)) (place : Option Place) (text : List ℕ) → IsSameLoader first old.loader
+        locates_so : (old new : StoredSeen (FileLoader F E)) (place : Option UrlPlace) (text : List ℕ) → IsSameLoader first old.loader
             → Locates (FindsIn Steps) options old place text new
             → Locates (FindsIn (LoadsOf gives first)) options (see old) place text (see new) × IsSameLoader first new.loader
         locates_so old new None text is step = ((step.0, ap see step.1), subst (λ maps. IsSameLoader first maps.loader) (sym step.1) is)
@@ -225,7 +225,7 @@ module _ {F E : Type 0} (gives : F → MayRead) (seen : E → SinkSeen) where
             let one = finds_so old new place.url is step.0 in
             ((one.0, step.1), one.1)
 
-        may_more : (place : Option Place) (text : List ℕ) → MayLocate (GivesIn May old) options place text
+        may_more : (place : Option UrlPlace) (text : List ℕ) → MayLocate (GivesIn May old) options place text
             → MayLocate (GivesIn (MayLoadOf gives first) (see old)) options place text
         may_more None text may = may
         may_more (Some place) text may = (may.0, gives_first place.url _ may.1, may.2)
@@ -252,11 +252,11 @@ module _ {L : Type 0} (Steps : LoadsStep L) (first new : StoredMaps L) (cache : 
     (loader_is : loader ≡ new.loader.now) where
   -- it stays over the same maps
   abbrev After : StoredSeen L
-  After = record { words = first.words.now; locations = first.locations.now; cache = cache; loader = loader }
+  After = record { exact = first.exact.now; locations = first.locations.now; cache = cache; loader = loader }
 
   pub store_after : IsSameStore first new → stored_seen new ≡ After
   store_after same = λ i. record {
-    words = ap (λ w. w.now) same.words i;
+    exact = ap (λ w. w.now) same.exact i;
     locations = ap (λ l. l.now) same.locations i;
     cache = sym cache_is i;
     loader = sym loader_is i;

@@ -1,5 +1,5 @@
 pub mod Lines
-pub mod Nearest
+pub mod NearestUrl
 pub mod UrlLines
 pub mod Dotted
 pub mod Loader
@@ -13,9 +13,9 @@ pub mod StoreRun
 pub mod Trace
 pub mod Private
 pub mod Laws
-pub mod Place
+pub mod UrlPlace
 pub mod PlaceForm
 pub mod PlaceSeen
 pub mod Locating
-pub mod ByPath
+pub mod AnswersOfFiles
 pub mod Locate

@@ -7,7 +7,7 @@ use Rattle.smap_lines.specs.Editing.{EditsFrontInto, EditsInto, devices_seen}
 use Rattle.smap_lines.specs.Limits.{most_text_bytes}
 use Rattle.smap_lines.specs.declared.counts.LineCounts.{LineCounts}
 use Rattle.smap_text_answers.specs.Dotted.{TellsDotted, with_errors}
-use Rattle.smap_text_answers.specs.ByPath.{AnswersAll, AnswersLine}
+use Rattle.smap_text_answers.specs.AnswersOfFiles.{AnswersAll, AnswersLine}
 use Rattle.smap_text_answers.specs.Locating.{BecomesAnswer, LocateStep}
 use Rattle.smap_text_answers.specs.declared.storing.StoreEnd.{StoreEnd}
 use Rattle.smap_command.specs.Limits.{usual_cache_bytes}
@@ -34,7 +34,7 @@ IsLocatedOverStore Reads asked sources end before after =
 abbrev pub AnswersByPath : MayRead → Locate → MapSources → StoreEnd LineCounts → (before after : Streams) → Type 0
 AnswersByPath Reads asked sources end before after =
     (bytes_at : BytesByPath) → ReadsAlike Reads (length asked.maps.items + 1) bytes_at → (counts : LineCounts) → end.result ≡ Ok counts
-    → AnswersAll (AnswersLine asked.paths asked.base asked.interval bytes_at sources.words sources.locations asked.options)
+    → AnswersAll (AnswersLine asked.paths asked.base asked.interval bytes_at sources.exact sources.locations asked.options)
     (devices_seen before.input before.sinks.output) (devices_seen after.input after.sinks.output)
 
 -- ---- the run

@@ -5,8 +5,8 @@ use Rattle.std.specs.List.{prefix_len}
 use Rattle.std.specs.Str.{is_utf8}
 use Rattle.smap_lines.specs.Bytes.{IsLineEnd, is_blank}
 use Rattle.smap_lines.specs.Numbers.{IsPrinted}
-use Rattle.smap_text_answers.specs.Place.{Place}
-use Rattle.smap_positions.specs.Position.{AreBlanks}
+use Rattle.smap_text_answers.specs.UrlPlace.{UrlPlace}
+use Rattle.smap_printing.specs.Position.{AreBlanks}
 
 -- the text can be a URL: UTF-8, not empty, and it begins with no blank
 pub record IsUrlText (url : List ℕ) : Type 0 where
@@ -15,7 +15,7 @@ pub record IsUrlText (url : List ℕ) : Type 0 where
   pub begins : prefix_len is_blank url ≡ 0
 
 -- the line asks for this place; 58 is `:`
-pub record IsPlace (line : List ℕ) (place : Place) : Type 0 where
+pub record IsPlace (line : List ℕ) (place : UrlPlace) : Type 0 where
   pub before : List ℕ
   pub after : List ℕ
   pub end : List ℕ

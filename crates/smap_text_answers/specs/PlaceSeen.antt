@@ -1,6 +1,6 @@
 -- What contracts see of a place that was read.
-use Rattle.smap_text_answers.specs.Place.{Place}
-use Rattle.smap_positions.specs.declared.places.AskedPlace.{AskedPlace}
+use Rattle.smap_text_answers.specs.UrlPlace.{UrlPlace}
+use Rattle.smap_printing.specs.declared.places.AskedPlace.{AskedPlace}
 
-abbrev pub place_seen : AskedPlace → Place
+abbrev pub place_seen : AskedPlace → UrlPlace
 place_seen place = record { url = place.url.now; position = place.position }

@@ -44,7 +44,7 @@ use Rattle.smap_text_answers.specs.declared.sources.MapSources.{MapSources}
 
 -- which URLs an argument or a list has
 abbrev pub urls_of : MapSources → UrlsKnown
-urls_of sources = urls_known (record { table = sources.words; locations = sources.locations })
+urls_of sources = urls_known (record { table = sources.exact; locations = sources.locations })
 
 -- what is asked of its places: which they are, and which URLs look like one and have no map
 abbrev pub places_asked : RequestSeen → MapSources → PlacesAsked
@@ -119,7 +119,7 @@ AnswersByPath Reads base k request sources end before after =
     (bytes_at : BytesByPath) → ReadsSame Reads (length request.arguments + 1) bytes_at
     → (counts : RewriteCounts) → end.result ≡ Ok counts
     → AreSettled Reads (length request.arguments + 1) bytes_at end.status end.lost → end.shortages ≡ 0
-    → RewritesTextBy request.anywhere (stored_maps (maps_at request.paths base k bytes_at) sources.words sources.locations) (parts_in (urls_of sources)) request.hide request.limit_bytes
+    → RewritesTextBy request.anywhere (stored_maps (maps_at request.paths base k bytes_at) sources.exact sources.locations) (parts_in (urls_of sources)) request.hide request.limit_bytes
     (devices_seen before.input before.sinks.output) (devices_seen after.input after.sinks.output) counts
 
 -- ---- what is reported at the end

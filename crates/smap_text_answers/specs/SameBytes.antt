@@ -55,8 +55,8 @@ by_path load url None = None
 by_path load url (Some path) = load url path
 
 -- the map of each URL: the one that it is known to have, and else that of its file
-abbrev pub stored_maps : MapsByPath → (words : List (List ℕ × MapRecord)) (locations : LocationsSeen) → MapsByUrl
-stored_maps load words locations url = or_other (known_of words locations url) (by_path load (key_for locations url) (path_for locations url))
+abbrev pub stored_maps : MapsByPath → (exact : List (List ℕ × MapRecord)) (locations : LocationsSeen) → MapsByUrl
+stored_maps load exact locations url = or_other (known_of exact locations url) (by_path load (key_for locations url) (path_for locations url))
 
 -- ---- what became of the maps
 

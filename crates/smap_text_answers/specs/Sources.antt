@@ -42,14 +42,14 @@ NamesRules ((url, path) ∷ arguments) old result =
 
 -- what taking the lines of a list came to
 abbrev pub sources_after : (list : List ℕ) → Maps → Result (Unit {0}) ListRefusal → LocationsSeen → Result MapSources Report
-sources_after list words (Ok taken) locations = Ok (record { words = words; locations = locations })
-sources_after list words (Err refused) locations = Err (list_refusal list refused)
+sources_after list exact (Ok taken) locations = Ok (record { exact = exact; locations = locations })
+sources_after list exact (Err refused) locations = Err (list_refusal list refused)
 
 -- the lines of a list add to the locations, up to the first that is refused
 abbrev pub AddsLines : (list bytes : List ℕ) → Maps → LocationsSeen → Result MapSources Report → Type 0
-AddsLines list bytes words old result =
-    (taken : Result (Unit {0}) ListRefusal) × ((new : LocationsSeen) × TakesList words (lines bytes) old taken new
-    × (result ≡ sources_after list words taken new))
+AddsLines list bytes exact old result =
+    (taken : Result (Unit {0}) ListRefusal) × ((new : LocationsSeen) × TakesList exact (lines bytes) old taken new
+    × (result ≡ sources_after list exact taken new))
 
 -- a line has the pattern of all URLs: `*` alone
 abbrev pub is_of_any_url : (line : List ℕ) → Bool
@@ -64,39 +64,39 @@ excluded_reason = codes "not together: *=FILE, --anywhere"
 
 -- the lines of a list add to the locations, unless one is excluded
 abbrev pub AddsAllowed : (anywhere : Bool) → (list bytes : List ℕ) → Maps → LocationsSeen → Result MapSources Report → Type 0
-AddsAllowed anywhere list bytes words locations result =
-    MatchOption (excluded_line anywhere bytes) (AddsLines list bytes words locations result)
+AddsAllowed anywhere list bytes exact locations result =
+    MatchOption (excluded_line anywhere bytes) (AddsLines list bytes exact locations result)
     (λ number. result ≡ Err (misuse (list_refused_line list number excluded_reason)))
 
 -- the list at this path, which has these bytes, adds to the locations or is refused, unless memory runs out; a byte order mark at
 -- its start is no part of its first line
 abbrev pub AddsList : (anywhere : Bool) → (list bytes : List ℕ) → Maps → LocationsSeen → Result MapSources Report → Type 0
-AddsList anywhere list bytes words locations result =
+AddsList anywhere list bytes exact locations result =
     (result ≡ Err out_of_memory)
-    ⊎ MatchOption (list_bytes_refusal bytes) (AddsAllowed anywhere list (without_mark bytes) words locations result)
+    ⊎ MatchOption (list_bytes_refusal bytes) (AddsAllowed anywhere list (without_mark bytes) exact locations result)
     (λ code. result ≡ Err (refused_file list code))
 
 -- the list, where there is one, is read under this number, and adds to the locations
 abbrev pub ReadsList : MayRead → (anywhere : Bool) → (number : ℕ) → (list : Option (List ℕ)) → Maps → LocationsSeen → Result MapSources Report → Type 0
-ReadsList Reads anywhere number None words locations result = result ≡ Ok (record { words = words; locations = locations })
-ReadsList Reads anywhere number (Some list) words locations result =
+ReadsList Reads anywhere number None exact locations result = result ≡ Ok (record { exact = exact; locations = locations })
+ReadsList Reads anywhere number (Some list) exact locations result =
     ((report : Report) × OrMemory (IsUnread Reads number list) report × (result ≡ Err report))
-    ⊎ ((bytes : List ℕ) × Reads number list (Ok bytes) × AddsList anywhere list bytes words locations result)
+    ⊎ ((bytes : List ℕ) × Reads number list (Ok bytes) × AddsList anywhere list bytes exact locations result)
 
 -- ---- all of them
 
 -- after the files of the arguments
 abbrev pub AfterWords : MayRead → (anywhere : Bool) → (number : ℕ) → (list : Option (List ℕ)) → LocationsSeen → Result Maps Report → Result MapSources Report → Type 0
 AfterWords Reads anywhere number list locations (Err refused) result = result ≡ Err refused
-AfterWords Reads anywhere number list locations (Ok words) result = ReadsList Reads anywhere number list words locations result
+AfterWords Reads anywhere number list locations (Ok exact) result = ReadsList Reads anywhere number list exact locations result
 
 -- after the rules of the arguments
 abbrev pub AfterRules : MayRead → (paths anywhere : Bool) → Option Parts → (k : ℕ) → List (List ℕ × List ℕ) → (list : Option (List ℕ)) → Result LocationsSeen Report
     → Result MapSources Report → Type 0
 AfterRules Reads paths anywhere base k arguments list (Err refused) result = result ≡ Err refused
 AfterRules Reads paths anywhere base k arguments list (Ok locations) result =
-    (words : Result Maps Report) × Gathers true Reads paths base k 0 (Ok []) arguments words
-    × AfterWords Reads anywhere (length arguments) list locations words result
+    (exact : Result Maps Report) × Gathers true Reads paths base k 0 (Ok []) arguments exact
+    × AfterWords Reads anywhere (length arguments) list locations exact result
 
 -- what a text is rewritten over: the arguments, each a URL and a path, where a path that ends in `/` is that of a folder and a
 -- URL that begins with `*` a pattern, and the list at a path, whose number is that behind the arguments; or what is reported where one of them is refused or not read

@@ -24,7 +24,7 @@ use Rattle.smap_trace.specs.Rewriting.{Looked}
 
 -- a store of maps of these files and folders
 abbrev pub store_of : {L : Type 0} → MapSources → CacheSeen → (loader : L) → StoredSeen L
-store_of sources cache loader = record { words = sources.words; locations = sources.locations; cache = cache; loader = loader }
+store_of sources cache loader = record { exact = sources.exact; locations = sources.locations; cache = cache; loader = loader }
 
 -- the store before anything was read into it
 abbrev pub store_start : MapSources → (cache_bytes : ℕ) → (errors : SinkSeen) → (code : Option Code) → StoredSeen LoaderSeen
@@ -66,7 +66,7 @@ pub record IsOverStore {C : Type 0} (Whole : Finding → (before after : Devices
   pub input_failed : after.input.failed ≡ is_read_fault end.result
   pub untouched : end.result ≡ Err Memory → (after.input ≡ before.input) × (after.sinks.output ≡ before.sinks.output)
   pub status : end.status ≡ last.loader.status
-  pub maps : end.maps ≡ both_counted last.cache.read (length sources.words)
+  pub maps : end.maps ≡ both_counted last.cache.read (length sources.exact)
   pub missing : end.missing ≡ last.cache.missing - last.loader.refused
   pub refused : end.refused ≡ last.loader.refused
   pub lost : end.lost ≡ last.loader.lost

@@ -24,7 +24,7 @@ use Rattle.smap_replies.specs.Standing.{IsRefusedFor}
 use Rattle.smap_text_answers.specs.Loader.{IsLoaded}
 use Rattle.smap_text_answers.specs.Standing.{record_loaded}
 use Rattle.smap_store.specs.Fileless.{asks_no_file}
-use Rattle.smap_text_answers.specs.Nearest.{nearest_of}
+use Rattle.smap_text_answers.specs.NearestUrl.{nearest_of}
 use Rattle.smap_trace.specs.UrlNotes.{NotesSeen, UrlNoteSeen}
 
 -- how many frames name the URL, or places anywhere, and how many of them were replaced

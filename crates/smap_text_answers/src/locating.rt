@@ -124,11 +124,11 @@ fn locate_text<L: MapLoader, R: ByteSource, W: ByteSink>(
         (store_of sources.now cache.old loader.old)
         (store_of sources.now cache.new loader.new) }
 {
-    let MapSources { words, locations } = sources;
+    let MapSources { exact, locations } = sources;
     let mut locator = Locator {
         maps: StoredMaps {
             alloc: work.alloc,
-            words,
+            exact,
             locations,
             cache,
             loader,

@@ -3,7 +3,7 @@ use crate::place::read_place;
 use smap_command::AnswerOptions;
 use smap_io::{ByteSink, DeviceFault};
 use smap_lines::{LineEditor, LineOutput};
-use smap_positions::{put_bad_place, put_place_line};
+use smap_printing::{put_bad_place, put_place_line};
 use smap_store::{MapLoader, StoredMaps};
 use smap_trace::Maps;
 

@@ -1,7 +1,7 @@
 //! Which argument is nearest to a URL that none has.
-ghost use Rattle.std.specs.Prelude.{◌≡◌, length, map, min, option_copied};
+ghost use Rattle.std.specs.Prelude.{◌≡◌, length, map, min, option_copied, option_map};
 ghost use Rattle.smap_replies.specs.Arguments.{argument_of};
-ghost use Rattle.smap_text_answers.specs.Nearest.{common_ending, front_ending, nearer, nearest_of, shared, shared_so_far};
+ghost use Rattle.smap_text_answers.specs.NearestUrl.{common_ending, front_ending, nearer, nearest_of, shared, shared_so_far};
 
 use smap_locations::is_folder;
 
@@ -13,18 +13,24 @@ pub fn nearest_of<'a>(url: &[u8], arguments: &'a [(String, String)]) -> Option<&
     ensures { option_copied result ≡ nearest_of url.now (map argument_of arguments.now) }
 {
     let mut nearest = None;
-    for (argument, _) in arguments {
+    for argument in arguments {
         nearest = nearer(url, nearest, argument);
     }
-    nearest
+    let (name, _) = nearest?;
+    Some(name)
 }
 
 // Of an argument and the nearest so far the nearer.
-fn nearer<'a>(url: &[u8], nearest: Option<&'a str>, argument: &'a str) -> Option<&'a str>
-    ensures { option_copied result
-        ≡ nearer url.now (option_copied nearest.entry) (argument.now, argument.now) }
+fn nearer<'a>(
+    url: &[u8],
+    nearest: Option<&'a (String, String)>,
+    argument: &'a (String, String),
+) -> Option<&'a (String, String)>
+    ensures { option_map argument_of (option_copied result)
+        ≡ nearer url.now (option_map argument_of (option_copied nearest.entry))
+        (argument_of argument.now) }
 {
-    if shared_so_far(url, nearest) < shared(url, argument.as_bytes()) {
+    if shared_so_far(url, nearest) < shared(url, argument) {
         Some(argument)
     } else {
         nearest
@@ -32,24 +38,25 @@ fn nearer<'a>(url: &[u8], nearest: Option<&'a str>, argument: &'a str) -> Option
 }
 
 // How much a URL shares with the nearest so far.
-fn shared_so_far(url: &[u8], nearest: Option<&str>) -> usize
-    ensures { result ≡ shared_so_far url.now (option_copied nearest.entry) }
+fn shared_so_far(url: &[u8], nearest: Option<&(String, String)>) -> usize
+    ensures { result ≡ shared_so_far url.now (option_map argument_of (option_copied nearest.entry)) }
 {
     match nearest {
-        Some(nearest) => shared(url, nearest.as_bytes()),
+        Some(nearest) => shared(url, nearest),
         None => 0,
     }
 }
 
 // How much a URL shares with what an argument names: with the URL of a file an ending, and with the prefix of a folder one
 // of its fronts does.
-fn shared(url: &[u8], name: &[u8]) -> usize
-    ensures { result ≡ shared url.now name.now }
+fn shared(url: &[u8], argument: &(String, String)) -> usize
+    ensures { result ≡ shared url.now (argument_of argument.now) }
 {
-    if is_folder(name) {
-        front_ending(url, name)
+    let (name, path) = argument;
+    if is_folder(path.as_bytes()) {
+        front_ending(url, name.as_bytes())
     } else {
-        common_ending(url, name)
+        common_ending(url, name.as_bytes())
     }
 }
 

@@ -10,7 +10,7 @@ ghost use Rattle.smap_text_answers.specs.StoreRun.{store_of};
 ghost use Rattle.smap_anywhere.specs.Anywhere.{AreNone};
 ghost use Rattle.smap_trace.specs.NotesSeen.{notes_seen};
 ghost use Rattle.smap_trace.specs.Noted.{nothing_noted};
-ghost use Rattle.smap_trace.specs.Rewriting.{Looked, RewritesFrontOver, RewritesOver};
+ghost use Rattle.smap_trace.specs.Rewriting.{Looked, RewritesNamed, RewritesNamedFront};
 
 use crate::dotted::tell_dotted;
 use crate::ending::{hint, sum_up};
@@ -25,7 +25,7 @@ use smap_io::{ByteSink, ByteSource};
 use smap_replies::{DONE, Failure, FileReader, report};
 use smap_store::{MapCache, MapLoader, StoredMaps};
 use smap_trace::{
-    Beside, Maps, PlaceCounter, RewriteCounts, RewriteFault, RewriteOptions, UrlNotes, rewrite_over,
+    Beside, Maps, PlaceCounter, RewriteCounts, RewriteFault, TraceOptions, UrlNotes, rewrite_over,
 };
 use std::alloc::Global;
 
@@ -201,8 +201,8 @@ fn rewrite_frames<F: FileReader, L: MapLoader, R: ByteSource, W: ByteSink>(
         (notes_seen notes.new.named) (notes_seen notes.new.others) result }
 {
     let alloc = run.alloc;
-    let MapSources { words, locations } = run.sources;
-    let Ok(urls) = MapUrls::new(alloc, words, locations) else {
+    let MapSources { exact, locations } = run.sources;
+    let Ok(urls) = MapUrls::new(alloc, exact, locations) else {
         return Err(RewriteFault::Memory);
     };
     let Ok(mut places) = LineCounter::new(alloc, &urls) else {
@@ -210,7 +210,7 @@ fn rewrite_frames<F: FileReader, L: MapLoader, R: ByteSource, W: ByteSink>(
     };
     let mut stored = StoredMaps {
         alloc,
-        words,
+        exact,
         locations,
         cache,
         loader,
@@ -233,15 +233,16 @@ fn frames_over<F: FileReader, M: Maps, P: PlaceCounter, R: ByteSource, W: ByteSi
     requires output_works { (W.seen output.old).failed ≡ false }
     requires limit { (request_seen run.now.request.now).limit_bytes < 2 ^ 63 }
     ensures ends { RunEnds R.seen W.seen input.old input.new output.old output.new
-        (λ before after counts. RewritesOver M.Finds M.found
+        (λ before after counts. RewritesNamed M.Finds M.found M.names
         (asked_by (request_seen run.now.request.now) (P.count places.old)) before after
         maps.old maps.new counts (notes_seen notes.new))
-        (RewritesFrontOver (M.Gives maps.old) (request_seen run.now.request.now).hide
+        (RewritesNamedFront (M.Gives maps.old) (M.GivesNames maps.old) M.names_any
+        (request_seen run.now.request.now).hide
         (request_seen run.now.request.now).limit_bytes) result }
     ensures looked { Looked M.Finds maps.old maps.new }
 {
     let request = run.request;
-    let options = RewriteOptions {
+    let options = TraceOptions {
         hiding: request.hiding(),
         most: request.limit_bytes(),
         is_noted: request.options.explain,
@@ -272,13 +273,13 @@ fn rewrite_places<F: FileReader, L: MapLoader, R: ByteSource, W: ByteSink>(
         (notes_seen notes.new.named) (notes_seen notes.new.others) result }
 {
     let (alloc, request) = (run.alloc, run.request);
-    let MapSources { words, locations } = run.sources;
-    let Ok(urls) = MapUrls::new(alloc, words, locations) else {
+    let MapSources { exact, locations } = run.sources;
+    let Ok(urls) = MapUrls::new(alloc, exact, locations) else {
         return Err(RewriteFault::Memory);
     };
     let mut stored = StoredMaps {
         alloc,
-        words,
+        exact,
         locations,
         cache,
         loader,

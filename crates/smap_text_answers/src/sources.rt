@@ -24,7 +24,7 @@ const EXCLUDED: &str = "not together: *=FILE, --anywhere";
 #[derive(Drop)]
 pub struct MapSources {
     /// The maps of the files that are words of the command line, each under its URL.
-    pub words: Table,
+    pub exact: Table,
     /// The rules that are such words, and the files and the rules of the list.
     pub locations: Locations,
 }
@@ -49,8 +49,8 @@ pub fn sources_of<F: FileReader>(
         (or_reported result) }
 {
     let locations = rules_of(alloc, arguments)?;
-    let words = table_of(alloc, maps, paths, arguments, true)?;
-    let sources = MapSources { words, locations };
+    let exact = table_of(alloc, maps, paths, arguments, true)?;
+    let sources = MapSources { exact, locations };
     match list {
         Some(list) => with_list(alloc, maps.files, anywhere, arguments.len(), list, sources),
         None => Ok(sources),
@@ -111,7 +111,7 @@ fn with_list<F: FileReader>(
     sources: MapSources,
 ) -> Result<MapSources, Failure>
     ensures { ReadsList (F.gives files.now) anywhere number (Some list.now)
-        sources.words sources.locations (or_reported result) }
+        sources.exact sources.locations (or_reported result) }
 {
     let bytes = file_bytes(alloc, files, number, list)?;
     with_lines(alloc, anywhere, list, bytes, sources)
@@ -125,7 +125,7 @@ fn with_lines(
     bytes: Vec<u8>,
     sources: MapSources,
 ) -> Result<MapSources, Failure>
-    ensures { AddsList anywhere list.now bytes.items sources.words sources.locations
+    ensures { AddsList anywhere list.now bytes.items sources.exact sources.locations
         (or_reported result) }
 {
     let whole = text_of(alloc, list, bytes)?;
@@ -135,11 +135,11 @@ fn with_lines(
         return Err(Failure::Misuse(line));
     }
     let MapSources {
-        words,
+        exact,
         mut locations,
     } = sources;
-    match add_list(alloc, &mut locations, &words, text) {
-        Ok(()) => Ok(MapSources { words, locations }),
+    match add_list(alloc, &mut locations, &exact, text) {
+        Ok(()) => Ok(MapSources { exact, locations }),
         Err(refused) => Err(refused_list(alloc, list, refused)?),
     }
 }

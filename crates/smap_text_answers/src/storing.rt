@@ -122,7 +122,7 @@ pub fn over_store<F: FileReader, T: StoreWork, R: ByteSource, W: ByteSink, E: By
     StoreEnd {
         result,
         status,
-        maps: cache.read().saturating_add(sources.words.count() as u64),
+        maps: cache.read().saturating_add(sources.exact.count() as u64),
         missing: cache.missing().saturating_sub(refused),
         refused,
         lost,
@@ -144,7 +144,7 @@ pub fn finish<C, W: ByteSink, E: ByteSink>(
 {
     match &end.result {
         Ok(_) => {
-            let reported = report(&Ok(Reply::Rewritten), output, errors, first);
+            let reported = report(&Ok(Reply::Printed), output, errors, first);
             let short = report_shortage(end.shortages, errors);
             end.status.max(reported).max(short)
         }

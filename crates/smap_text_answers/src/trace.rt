@@ -41,7 +41,7 @@ fn rewritten(end: Result<Summary, RewriteFault>) -> Result<Reply, Failure>
     ensures { report_of result ≡ rewrite_report end }
 {
     match end {
-        Ok(_) => Ok(Reply::Rewritten),
+        Ok(_) => Ok(Reply::Printed),
         Err(fault) => Err(Failure::Fault(fault)),
     }
 }

@@ -7,7 +7,7 @@ use Rattle.std.specs.Option.{MatchOption}
 use Rattle.std.proofs.lemmas.Bool.{or_parts, or_from, cond-true, cond-false, cond_both, eqb-true, eq-eqb, ne_eqb, and_parts, and_from}
 use Rattle.std.proofs.lemmas.Bool.{false_from_ne_true, both_ways, and_left, and_right, cases_lt}
 use Rattle.std.proofs.lemmas.List.{drop_more, get_or-drop, get_or-take, take-append-drop}
-use Rattle.smap_trace.specs.Cuts.{put_before, later_cut, cut_at_first, cut_at_last, cut_at_call, without_last}
+use Rattle.smap_trace.specs.Cuts.{put_before, later_cut, cut_at_first_byte, cut_at_last_byte, cut_at_call, without_last}
 
 -- ---- the last of these bytes
 
@@ -15,13 +15,13 @@ use Rattle.smap_trace.specs.Cuts.{put_before, later_cut, cut_at_first, cut_at_la
 abbrev pub is_without : ℕ → List ℕ → Type 0
 is_without byte xs = list_any (λ x. x == byte) xs ≡ false
 
-pub no_cut : (byte : ℕ) (xs : List ℕ) → is_without byte xs → cut_at_last byte xs ≡ None
+pub no_cut : (byte : ℕ) (xs : List ℕ) → is_without byte xs → cut_at_last_byte byte xs ≡ None
 no_cut byte [] none = refl
 no_cut byte (x ∷ xs) none =
     let parts = or_parts (x == byte) (list_any (λ y. y == byte) xs) none in
     ap (later_cut byte x xs) (no_cut byte xs parts.1) ∙ cond-false (x == byte) (Some ([], xs)) None parts.0
 
-pub last_cut : (byte : ℕ) (front rest : List ℕ) → is_without byte rest → cut_at_last byte (front ++ byte ∷ rest) ≡ Some (front, rest)
+pub last_cut : (byte : ℕ) (front rest : List ℕ) → is_without byte rest → cut_at_last_byte byte (front ++ byte ∷ rest) ≡ Some (front, rest)
 last_cut byte [] rest none = ap (later_cut byte byte rest) (no_cut byte rest none) ∙ cond-true (byte == byte) (Some ([], rest)) None (eq-eqb byte byte refl)
 last_cut byte (x ∷ front) rest none = ap (later_cut byte x (front ++ byte ∷ rest)) (last_cut byte front rest none)
 
@@ -36,24 +36,24 @@ later_step byte x xs None is =
     cond_both (x == byte) (Some ([], xs)) None (λ o. MatchOption o (is_without byte (x ∷ xs)) (IsLastCut byte (x ∷ xs)))
     (λ same. (ap (λ y. y ∷ xs) (eqb-true x byte same), is)) (λ other. or_from (x == byte) _ other is)
 
-pub cut_is_last : (byte : ℕ) (xs : List ℕ) → MatchOption (cut_at_last byte xs) (is_without byte xs) (IsLastCut byte xs)
+pub cut_is_last : (byte : ℕ) (xs : List ℕ) → MatchOption (cut_at_last_byte byte xs) (is_without byte xs) (IsLastCut byte xs)
 cut_is_last byte [] = refl
-cut_is_last byte (x ∷ xs) = later_step byte x xs (cut_at_last byte xs) (cut_is_last byte xs)
+cut_is_last byte (x ∷ xs) = later_step byte x xs (cut_at_last_byte byte xs) (cut_is_last byte xs)
 
 -- ---- the first of these bytes
 
-pub no_first : (byte : ℕ) (xs : List ℕ) → is_without byte xs → cut_at_first byte xs ≡ None
+pub no_first : (byte : ℕ) (xs : List ℕ) → is_without byte xs → cut_at_first_byte byte xs ≡ None
 no_first byte [] none = refl
 no_first byte (x ∷ xs) none =
     let parts = or_parts (x == byte) (list_any (λ y. y == byte) xs) none in
-    cond-false (x == byte) (Some ([], xs)) (option_map (put_before x) (cut_at_first byte xs)) parts.0
+    cond-false (x == byte) (Some ([], xs)) (option_map (put_before x) (cut_at_first_byte byte xs)) parts.0
     ∙ ap (option_map (put_before x)) (no_first byte xs parts.1)
 
-pub first_cut : (byte : ℕ) (front rest : List ℕ) → is_without byte front → cut_at_first byte (front ++ byte ∷ rest) ≡ Some (front, rest)
-first_cut byte [] rest none = cond-true (byte == byte) (Some ([], rest)) (option_map (put_before byte) (cut_at_first byte rest)) (eq-eqb byte byte refl)
+pub first_cut : (byte : ℕ) (front rest : List ℕ) → is_without byte front → cut_at_first_byte byte (front ++ byte ∷ rest) ≡ Some (front, rest)
+first_cut byte [] rest none = cond-true (byte == byte) (Some ([], rest)) (option_map (put_before byte) (cut_at_first_byte byte rest)) (eq-eqb byte byte refl)
 first_cut byte (x ∷ front) rest none =
     let parts = or_parts (x == byte) (list_any (λ y. y == byte) front) none in
-    cond-false (x == byte) (Some ([], front ++ byte ∷ rest)) (option_map (put_before x) (cut_at_first byte (front ++ byte ∷ rest))) parts.0
+    cond-false (x == byte) (Some ([], front ++ byte ∷ rest)) (option_map (put_before x) (cut_at_first_byte byte (front ++ byte ∷ rest))) parts.0
     ∙ ap (option_map (put_before x)) (first_cut byte front rest parts.1)
 
 -- what a cut at the first byte says
@@ -65,13 +65,13 @@ first_step : (byte x : ℕ) (xs : List ℕ) (cut : Option (List ℕ × List ℕ)
 first_step byte x xs None other is = or_from (x == byte) _ other is
 first_step byte x xs (Some (front, rest)) other is = (ap (λ l. x ∷ l) is.0, or_from (x == byte) _ other is.1)
 
-pub cut_is_first : (byte : ℕ) (xs : List ℕ) → MatchOption (cut_at_first byte xs) (is_without byte xs) (IsFirstCut byte xs)
+pub cut_is_first : (byte : ℕ) (xs : List ℕ) → MatchOption (cut_at_first_byte byte xs) (is_without byte xs) (IsFirstCut byte xs)
 cut_is_first byte [] = refl
 cut_is_first byte (x ∷ xs) =
-    cond_both (x == byte) (Some ([], xs)) (option_map (put_before x) (cut_at_first byte xs))
+    cond_both (x == byte) (Some ([], xs)) (option_map (put_before x) (cut_at_first_byte byte xs))
     (λ o. MatchOption o (is_without byte (x ∷ xs)) (IsFirstCut byte (x ∷ xs)))
     (λ same. (ap (λ y. y ∷ xs) (eqb-true x byte same), refl))
-    (λ other. first_step byte x xs (cut_at_first byte xs) other (cut_is_first byte xs))
+    (λ other. first_step byte x xs (cut_at_first_byte byte xs) other (cut_is_first byte xs))
 
 -- where a search for the byte finds it
 pub without_anywhere : (byte : ℕ) (text : List ℕ) → ((k : ℕ) → k < length text → (get_or text k 0 == byte) ≡ true → ⊥) → is_without byte text
@@ -82,14 +82,14 @@ without_anywhere byte (x ∷ text) none =
 
 pub found_at : (byte : ℕ) (text : List ℕ) (k : ℕ) → k < length text → ((i : ℕ) → i < k → (get_or text i 0 == byte) ≡ true → ⊥)
     → (get_or text k 0 == byte) ≡ true →
-    cut_at_first byte text ≡ Some (take k text, drop (k + 1) text)
+    cut_at_first_byte byte text ≡ Some (take k text, drop (k + 1) text)
 found_at byte text k within none here =
     let whole : text ≡ take k text ++ byte ∷ drop (k + 1) text =
     sym (take-append-drop k text) ∙ ap (λ l. take k text ++ l) (drop_more text k 0 within ∙ ap (λ b. b ∷ drop (k + 1) text) (eqb-true _ byte here)) in
     let front : is_without byte (take k text) = without_anywhere byte (take k text) (λ i below there.
     let inside : i < k = omega (arith, below, length-take k text) in
     none i inside (ap (λ b. b == byte) (sym (get_or-take k text i 0 inside)) ∙ there)) in
-    ap (cut_at_first byte) whole ∙ first_cut byte (take k text) (drop (k + 1) text) front
+    ap (cut_at_first_byte byte) whole ∙ first_cut byte (take k text) (drop (k + 1) text) front
 
 -- ---- the first ` (`
 

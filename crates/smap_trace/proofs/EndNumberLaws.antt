@@ -5,7 +5,7 @@ use Rattle.std.specs.Char.{is_ascii_digit}
 use Rattle.std.proofs.Math.Nat.{add-mul, le-mul_of_pos_right, mul_assoc, mul_comm}
 use Rattle.std.proofs.lemmas.Bool.{and_parts, cond-true, cond-false, eqb-true, le-leb, leb-true, leb-false, lt-leb, ltb-true, or_from}
 use Rattle.smap_lines.specs.Numbers.{decimal_number, read_on}
-use Rattle.smap_trace.specs.Cuts.{cut_at_last, later_cut}
+use Rattle.smap_trace.specs.Cuts.{cut_at_last_byte, later_cut}
 use Rattle.smap_trace.specs.FrameOf.{location_before, location_cut, location_of, location_with}
 use Rattle.smap_trace.specs.Private.EndNumber.{cut_at_number, with_front, with_number}
 use Rattle.smap_trace.proofs.CutLaws.{is_without, last_cut, no_cut}
@@ -104,9 +104,9 @@ module _ (byte : ℕ) (rest : List ℕ) where
   cut_later x xs (Some (front, second)) = refl
 
   -- the last of these bytes, where none follows
-  cut_before : (xs : List ℕ) → is_without byte rest → cut_at_last byte (xs ++ rest) ≡ option_map (with_rest rest) (cut_at_last byte xs)
+  cut_before : (xs : List ℕ) → is_without byte rest → cut_at_last_byte byte (xs ++ rest) ≡ option_map (with_rest rest) (cut_at_last_byte byte xs)
   cut_before [] none = no_cut byte rest none
-  cut_before (x ∷ xs) none = ap (later_cut byte x (xs ++ rest)) (cut_before xs none) ∙ cut_later x xs (cut_at_last byte xs)
+  cut_before (x ∷ xs) none = ap (later_cut byte x (xs ++ rest)) (cut_before xs none) ∙ cut_later x xs (cut_at_last_byte byte xs)
 
 -- no number is behind the last `:`, where a byte before the digits rules it out
 unnumbered : (c : ℕ) (ds : List ℕ) → ((xs : List ℕ) → decimal_number (xs ++ c ∷ ds) ≡ None) → (cut : Option (List ℕ × List ℕ))
@@ -117,7 +117,7 @@ unnumbered c ds none (Some (front, second)) = ap (option_map (with_front front))
 pub no_number : (front : List ℕ) (c : ℕ) (ds : List ℕ) → (c == 58) ≡ false → is_without 58 ds → ((xs : List ℕ) → decimal_number (xs ++ c ∷ ds) ≡ None)
     → cut_at_number (front ++ c ∷ ds) ≡ None
 no_number front c ds other none unread =
-    ap with_number (cut_before 58 (c ∷ ds) front (or_from (c == 58) _ other none)) ∙ unnumbered c ds unread (cut_at_last 58 front)
+    ap with_number (cut_before 58 (c ∷ ds) front (or_from (c == 58) _ other none)) ∙ unnumbered c ds unread (cut_at_last_byte 58 front)
 
 pub number_behind : (front ds : List ℕ) (number : Option ℕ) → is_without 58 ds → decimal_number ds ≡ number
     → cut_at_number (front ++ 58 ∷ ds) ≡ option_map (with_front front) number
@@ -137,8 +137,8 @@ without_column : (cut : Option (List ℕ × List ℕ)) → location_before cut N
 without_column None = refl
 without_column (Some (url, line)) = nowhere url (decimal_number line)
 
-no_column_in : (front : List ℕ) (column : Option ℕ) → None ≡ option_map (with_front front) column → None ≡ location_before (cut_at_last 58 front) column
-no_column_in front None is = sym (without_column (cut_at_last 58 front))
+no_column_in : (front : List ℕ) (column : Option ℕ) → None ≡ option_map (with_front front) column → None ≡ location_before (cut_at_last_byte 58 front) column
+no_column_in front None is = sym (without_column (cut_at_last_byte 58 front))
 no_column_in front (Some n) is = absurd (cc)
 
 no_column_at : (cut : Option (List ℕ × List ℕ)) → None ≡ with_number cut → None ≡ location_cut cut
@@ -146,7 +146,7 @@ no_column_at None is = refl
 no_column_at (Some (front, digits)) is = no_column_in front (decimal_number digits) is
 
 pub no_column : (text : List ℕ) → None ≡ cut_at_number text → None ≡ location_of text
-no_column text is = no_column_at (cut_at_last 58 text) is
+no_column text is = no_column_at (cut_at_last_byte 58 text) is
 
 no_line_in : (url : List ℕ) (line : Option ℕ) (column : ℕ) → None ≡ option_map (with_front url) line → None ≡ location_with url line (Some column)
 no_line_in [] line column is = refl
@@ -159,13 +159,13 @@ no_line_at (Some (url, digits)) column is = no_line_in url (decimal_number digit
 
 module _ (front : List ℕ) (n : ℕ) where
   column_in : (found : List ℕ) (number : Option ℕ) → Some (front, n) ≡ option_map (with_front found) number
-      → location_before (cut_at_last 58 front) (Some n) ≡ location_before (cut_at_last 58 found) number
+      → location_before (cut_at_last_byte 58 front) (Some n) ≡ location_before (cut_at_last_byte 58 found) number
   column_in found None is = absurd (cc)
   column_in found (Some m) is =
       let same : with_front front n ≡ with_front found m = cc in
-      λ i. location_before (cut_at_last 58 ((same i).0)) (Some ((same i).1))
+      λ i. location_before (cut_at_last_byte 58 ((same i).0)) (Some ((same i).1))
 
-  column_at : (cut : Option (List ℕ × List ℕ)) → Some (front, n) ≡ with_number cut → location_before (cut_at_last 58 front) (Some n) ≡ location_cut cut
+  column_at : (cut : Option (List ℕ × List ℕ)) → Some (front, n) ≡ with_number cut → location_before (cut_at_last_byte 58 front) (Some n) ≡ location_cut cut
   column_at None is = absurd (cc)
   column_at (Some (found, digits)) is = column_in found (decimal_number digits) is
 
@@ -182,12 +182,12 @@ module _ (front : List ℕ) (n : ℕ) where
   line_at column (Some (found, digits)) is = line_in column found (decimal_number digits) is
 
 pub no_line : (text front : List ℕ) (column : ℕ) → Some (front, column) ≡ cut_at_number text → None ≡ cut_at_number front → None ≡ location_of text
-no_line text front column before is = no_line_at (cut_at_last 58 front) column is ∙ column_at front column (cut_at_last 58 text) before
+no_line text front column before is = no_line_at (cut_at_last_byte 58 front) column is ∙ column_at front column (cut_at_last_byte 58 text) before
 
 located : (text front url : List ℕ) (line column : ℕ) → Some (front, column) ≡ cut_at_number text → Some (url, line) ≡ cut_at_number front
     → location_with url (Some line) (Some column) ≡ location_of text
 located text front url line column before is =
-    line_at url line column (cut_at_last 58 front) is ∙ column_at front column (cut_at_last 58 text) before
+    line_at url line column (cut_at_last_byte 58 front) is ∙ column_at front column (cut_at_last_byte 58 text) before
 
 pub no_url : (text front url : List ℕ) (line column : ℕ) → Some (front, column) ≡ cut_at_number text → Some (url, line) ≡ cut_at_number front
     → (length url == 0) ≡ true → None ≡ location_of text

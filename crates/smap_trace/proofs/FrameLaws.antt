@@ -12,7 +12,7 @@ use Rattle.std.proofs.lemmas.Slice.Eq.{starts_is}
 use Rattle.smap_lines.specs.Bytes.{IsLineEnd, is_blank}
 use Rattle.smap_lines.specs.Laws.Number.{none_else, number_is, number_reads}
 use Rattle.smap_lines.specs.Numbers.{IsPrinted, decimal_number}
-use Rattle.smap_trace.specs.Cuts.{cut_at_first, cut_at_last, cut_at_call, without_last}
+use Rattle.smap_trace.specs.Cuts.{cut_at_first_byte, cut_at_last_byte, cut_at_call, without_last}
 use Rattle.smap_trace.specs.Frame.{FrameParts, is_line, IsCallFrame, IsPlainFrame, IsSignFrame, IsForm, IsFrame}
 use Rattle.smap_trace.specs.FrameOf.{Location, location_of, location_cut, location_before, location_with, parts_with, call_frame, is_async}
 use Rattle.smap_trace.specs.FrameOf.{unless_async, plain_frame, ends_in_digit, sign_frame, sign_frame_at, at_frame, frame_after, frame_in, frame_of}
@@ -60,16 +60,16 @@ before_is text front column location (Some (url, line)) cuts whole is =
 cut_is : (text : List ℕ) (location : Location) (cut : Option (List ℕ × List ℕ)) → MatchOption cut (is_without 58 text) (IsLastCut 58 text)
     → location_cut cut ≡ Some location → IsLocation text location
 cut_is text location None cuts is = cc
-cut_is text location (Some (front, column)) cuts is = before_is text front column location (cut_at_last 58 front) (cut_is_last 58 front) cuts.0 is
+cut_is text location (Some (front, column)) cuts is = before_is text front column location (cut_at_last_byte 58 front) (cut_is_last 58 front) cuts.0 is
 
 location_is : (text : List ℕ) (location : Location) → location_of text ≡ Some location → IsLocation text location
-location_is text location is = cut_is text location (cut_at_last 58 text) (cut_is_last 58 text) is
+location_is text location is = cut_is text location (cut_at_last_byte 58 text) (cut_is_last 58 text) is
 
 location_reads : (url : List ℕ) (line column : ℕ) → url ≢ [] → IsPrinted line → IsPrinted column
     → location_of (location_text url line column) ≡ Some (record { url = url; line = line; column = column })
 location_reads [] line column located l c = absurd (located refl)
 location_reads (b ∷ url) line column located l c =
-    ap location_cut (ap (cut_at_last 58) (sym (append_assoc (b ∷ url) (58 ∷ decimal line) (58 ∷ decimal column)))
+    ap location_cut (ap (cut_at_last_byte 58) (sym (append_assoc (b ∷ url) (58 ∷ decimal line) (58 ∷ decimal column)))
     ∙ last_cut 58 ((b ∷ url) ++ 58 ∷ decimal line) (decimal column) (number_without column c))
     ∙ ap (λ cut. location_before cut (decimal_number (decimal column))) (last_cut 58 (b ∷ url) (decimal line) (number_without line l))
     ∙ (λ i. location_with (b ∷ url) (number_reads line l i) (number_reads column c i))
@@ -242,7 +242,7 @@ module _ (line : List ℕ) (bounded : IsTrue (is_line line)) where
           (last_stands 41 (drop (n + 3) body))
           (whole ∙ ap (λ b. b ++ end) split ∙ append_assoc (take n body ++ at_word) (drop (n + 3) body) end)
           (ap (λ h. at_frame h (drop (n + 3) body) (without_last 41 (drop (n + 3) body)) end) (sym head) ∙ e)
-      go false fails e = sign_is body end parts (cut_at_first 64 body) ends fails (cut_is_first 64 body) whole (none_else (ends_in_digit body) _ parts e).1
+      go false fails e = sign_is body end parts (cut_at_first_byte 64 body) ends fails (cut_is_first 64 body) whole (none_else (ends_in_digit body) _ parts e).1
 
   in_is : (parts : FrameParts) (body : Option (List ℕ)) → MatchOption body (Unit {0}) (λ front. line ≡ front ++ 13 ∷ [])
       → frame_in line body ≡ Some parts → IsFrame line parts
@@ -428,7 +428,7 @@ sign_reads line parts is sign =
     (front.1 ∙ sym (append_assoc (take (prefix_len is_blank body) body) at_word front.0))) in
     ended line body parts.tail sign.tail_is whole other
     ∙ cond-false (starts_with nat_eq (drop (prefix_len is_blank body) body) at_word) _ (sign_frame body parts.tail) off
-    ∙ cond-true (ends_in_digit body) (sign_frame_at (cut_at_first 64 body) parts.tail) None digit
+    ∙ cond-true (ends_in_digit body) (sign_frame_at (cut_at_first_byte 64 body) parts.tail) None digit
     ∙ ap (λ cut. sign_frame_at cut parts.tail) (first_cut 64 sign.function location sign.first)
     ∙ ap (λ p. parts_with head p parts.tail) (location_reads parts.url parts.line parts.column is.located is.line_printed is.column_printed)
     ∙ ap Some (record_is parts head parts.tail sign.head_is refl)

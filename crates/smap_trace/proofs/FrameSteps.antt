@@ -10,7 +10,7 @@ use Rattle.std.proofs.lemmas.List.{take_at, drop_at, take-take, take_rest, lengt
 use Rattle.std.proofs.lemmas.Slice.Eq.{starts_is}
 use Rattle.std.proofs.lemmas.Bool.Decides.{Decides-eqb}
 use Rattle.smap_lines.specs.Bytes.{is_blank}
-use Rattle.smap_trace.specs.Cuts.{cut_at_call, cut_at_first, without_last}
+use Rattle.smap_trace.specs.Cuts.{cut_at_call, cut_at_first_byte, without_last}
 use Rattle.smap_lines.specs.Lines.{has_line_end}
 use Rattle.smap_trace.specs.Frame.{has_cr_within, is_line, is_one_line}
 use Rattle.smap_trace.specs.FrameOf.{ends_in_digit, frame_of, frame_in, frame_after, at_frame, call_frame, plain_frame, parts_with, location_of}
@@ -259,19 +259,19 @@ after_async line start end found ordered inside is holds =
 
 -- a line that ends in no digit
 pub unsigned : (text tail : List ℕ) → ends_in_digit text ≡ false → None ≡ sign_frame text tail
-unsigned text tail fails = sym (cond-false (ends_in_digit text) (sign_frame_at (cut_at_first 64 text) tail) None fails)
+unsigned text tail fails = sym (cond-false (ends_in_digit text) (sign_frame_at (cut_at_first_byte 64 text) tail) None fails)
 
 -- a line without an `@`
-pub uncut : (text tail : List ℕ) → None ≡ cut_at_first 64 text → None ≡ sign_frame text tail
+pub uncut : (text tail : List ℕ) → None ≡ cut_at_first_byte 64 text → None ≡ sign_frame text tail
 uncut text tail none = sym (none_both (ends_in_digit text))
   where
-    none_both : (digit : Bool) → cond digit (sign_frame_at (cut_at_first 64 text) tail) None ≡ None
+    none_both : (digit : Bool) → cond digit (sign_frame_at (cut_at_first_byte 64 text) tail) None ≡ None
     none_both true = ap (λ cut. sign_frame_at cut tail) (sym none)
     none_both false = refl
 
 -- the cut at the first `@`, and what follows from it
 pub signed : (line : List ℕ) (end : ℕ) (function rest : List ℕ) → end ≤ length line → ends_in_digit (take end line) ≡ true
-    → Some (function, rest) ≡ cut_at_first 64 (take end line) →
+    → Some (function, rest) ≡ cut_at_first_byte 64 (take end line) →
     (length function + 1 ≤ end)
     × (parts_with (take (length function + 1) line) (location_of (slice_range line (length function + 1) end)) (drop end line)
     ≡ sign_frame (take end line) (drop end line))
@@ -287,5 +287,5 @@ signed line end function rest inside digit is =
     let location : slice_range line k end ≡ rest = sym (range_of_front line k end fits) ∙ ap (drop k) whole ∙ drop_at opening rest k long in (
       fits,
       (λ i. parts_with (head i) (location_of (location i)) (drop end line)) ∙ ap (λ cut. sign_frame_at cut (drop end line)) is
-          ∙ sym (cond-true (ends_in_digit text) (sign_frame_at (cut_at_first 64 text) (drop end line)) None digit),
+          ∙ sym (cond-true (ends_in_digit text) (sign_frame_at (cut_at_first_byte 64 text) (drop end line)) None digit),
     )

@@ -6,6 +6,7 @@ pub mod FrameLaws
 pub mod CountLaws
 pub mod EndNumberLaws
 pub mod Examples
+pub mod NameLaws
 pub mod NotesLaws
 pub mod NoteSteps
 pub mod RewritingLaws

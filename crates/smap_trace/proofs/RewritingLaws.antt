@@ -10,14 +10,15 @@ use Rattle.smap_lines.specs.declared.counts.LineCounts.{LineCounts}
 use Rattle.smap_record.specs.Record.{MapRecord}
 use Rattle.smap_trace.specs.Frame.{FrameParts}
 use Rattle.smap_trace.specs.FrameOf.{frame_of}
+use Rattle.smap_trace.specs.FunctionNames.{FunctionNames}
 use Rattle.smap_trace.specs.Hiding.{hiding_seen}
 use Rattle.smap_trace.specs.Noted.{AreNotesIf, AreNotesOf, namings_in, nothing_noted}
 use Rattle.smap_trace.specs.NotesSeen.{notes_seen}
 use Rattle.smap_trace.specs.Passed.{PlaceCount, passed_in}
 use Rattle.smap_trace.specs.Private.FrameRewriter.{IsLineNoted, IsNotedIf, RewriterSteps}
 use Rattle.smap_trace.specs.Private.Passing.{passed_after}
-use Rattle.smap_trace.specs.Rewriting.{RewriteAsked, RewritesOver, TraceNow, TraceStep, asked_seen, trace_start}
-use Rattle.smap_trace.specs.Rewritten.{FateStep, is_frame_line, is_hidden, is_mapped}
+use Rattle.smap_trace.specs.Rewriting.{NamedTraceStep, RewriteAsked, RewritesNamed, TraceNow, asked_seen, trace_start}
+use Rattle.smap_trace.specs.Rewritten.{NamedStep, is_frame_line, is_hidden, is_mapped}
 use Rattle.smap_trace.specs.UrlNotes.{NamingSeen, NotesSeen, naming_in}
 use Rattle.smap_trace.specs.declared.frame_rewriter.FrameRewriter.{FrameRewriter}
 
@@ -94,7 +95,8 @@ none_noted false notes none = none
 
 -- ---- the editor
 
-module _ {M P : Type 0} (Finds : M → (url : List ℕ) → M → Type 0) (found : M → (url : List ℕ) → Option MapRecord) (count : P → PlaceCount) (asked : RewriteAsked) where
+module _ {M P : Type 0} (Finds : M → (url : List ℕ) → M → Type 0) (found : M → (url : List ℕ) → Option MapRecord)
+    (names : M → (url : List ℕ) → Option FunctionNames) (count : P → PlaceCount) (asked : RewriteAsked) where
   -- it stands as this says
   pub record Keeps (rewriter : FrameRewriter M P) (now : TraceNow M) : Type 0 where
     pub asks : asked_seen (count rewriter.places.now) rewriter.options.now ≡ asked
@@ -116,13 +118,13 @@ module _ {M P : Type 0} (Finds : M → (url : List ℕ) → M → Type 0) (found
   }
 
   step_kept : (old : FrameRewriter M P) (now : TraceNow M) (line : Line) (text : List ℕ) (new : FrameRewriter M P) → Keeps old now
-      → RewriterSteps Finds found count old line text new → (after : TraceNow M) × TraceStep Finds found asked now line text after × Keeps new after
+      → RewriterSteps Finds found names count old line text new → (after : TraceNow M) × NamedTraceStep Finds found names asked now line text after × Keeps new after
   step_kept old now line text new keeps steps = (
     after now line new,
     record {
       met = steps.met;
-      step = subst (λ a. FateStep Finds found a.hide now.maps (frame_of line.bytes) steps.met new.maps.now) keeps.asks
-          (subst (λ m. FateStep Finds found (hiding_seen old.options.now.hiding) m (frame_of line.bytes) steps.met new.maps.now) (sym keeps.maps) steps.step);
+      step = subst (λ a. NamedStep Finds found names a.hide now.maps (frame_of line.bytes) steps.met new.maps.now) keeps.asks
+          (subst (λ m. NamedStep Finds found names (hiding_seen old.options.now.hiding) m (frame_of line.bytes) steps.met new.maps.now) (sym keeps.maps) steps.step);
       text_is = steps.text_is;
       frames = steps.frames ∙ ap (λ n. n + cond (is_frame_line line) 1 0) (sym keeps.frames);
       mapped = steps.mapped ∙ ap (λ n. n + cond (is_mapped steps.met) 1 0) (sym keeps.mapped);
@@ -146,8 +148,8 @@ module _ {M P : Type 0} (Finds : M → (url : List ℕ) → M → Type 0) (found
 
   -- what its steps come to
   pub rewrites_kept : (before after : DevicesSeen) (old new : FrameRewriter M P) (lines : LineCounts) → Keeps old (trace_start old.maps.now)
-      → EditsInto (RewriterSteps Finds found count) asked.most before after old new lines
-      → RewritesOver Finds found asked before after old.maps.now new.maps.now
+      → EditsInto (RewriterSteps Finds found names count) asked.most before after old new lines
+      → RewritesNamed Finds found names asked before after old.maps.now new.maps.now
       (record {
         summary = record { lines = lines.lines; frames = new.frames; mapped = new.mapped; hidden = new.hidden };
         long = lines.long;
@@ -155,7 +157,7 @@ module _ {M P : Type 0} (Finds : M → (url : List ℕ) → M → Type 0) (found
       })
       (notes_seen new.notes.now)
   rewrites_kept before after old new lines keeps done =
-      let kept = edits_go (RewriterSteps Finds found count) (TraceStep Finds found asked) Keeps step_kept asked.most before after old new
+      let kept = edits_go (RewriterSteps Finds found names count) (NamedTraceStep Finds found names asked) Keeps step_kept asked.most before after old new
       (trace_start old.maps.now) lines keeps done in
       record {
         last = kept.0;

@@ -11,14 +11,14 @@ later_cut byte x xs (Some cut) = Some (put_before x cut)
 later_cut byte x xs None = if x == byte then Some ([], xs) else None
 
 -- what stands before the last of these bytes, and what stands after it
-abbrev pub cut_at_last : (byte : ℕ) → List ℕ → Option (List ℕ × List ℕ)
-cut_at_last byte [] = None
-cut_at_last byte (x ∷ xs) = later_cut byte x xs (cut_at_last byte xs)
+abbrev pub cut_at_last_byte : (byte : ℕ) → List ℕ → Option (List ℕ × List ℕ)
+cut_at_last_byte byte [] = None
+cut_at_last_byte byte (x ∷ xs) = later_cut byte x xs (cut_at_last_byte byte xs)
 
 -- what stands before the first of these bytes, and what stands after it
-abbrev pub cut_at_first : (byte : ℕ) → List ℕ → Option (List ℕ × List ℕ)
-cut_at_first byte [] = None
-cut_at_first byte (x ∷ xs) = if x == byte then Some ([], xs) else option_map (put_before x) (cut_at_first byte xs)
+abbrev pub cut_at_first_byte : (byte : ℕ) → List ℕ → Option (List ℕ × List ℕ)
+cut_at_first_byte byte [] = None
+cut_at_first_byte byte (x ∷ xs) = if x == byte then Some ([], xs) else option_map (put_before x) (cut_at_first_byte byte xs)
 
 -- what stands before the first ` (`, and what stands after it
 abbrev pub cut_at_call : List ℕ → Option (List ℕ × List ℕ)

@@ -5,7 +5,7 @@ use Rattle.std.specs.List.{prefix_len, starts_with}
 use Rattle.std.specs.Bool.{nat_eq}
 use Rattle.smap_lines.specs.Bytes.{is_blank}
 use Rattle.smap_lines.specs.Numbers.{decimal_number}
-use Rattle.smap_trace.specs.Cuts.{cut_at_first, cut_at_last, cut_at_call, without_last}
+use Rattle.smap_trace.specs.Cuts.{cut_at_first_byte, cut_at_last_byte, cut_at_call, without_last}
 use Rattle.smap_trace.specs.Frame.{FrameParts, is_line}
 
 -- ---- a location: a URL, `:`, a line, `:`, a column
@@ -28,11 +28,11 @@ location_before (Some (url, line)) column = location_with url (decimal_number li
 
 abbrev pub location_cut : Option (List ℕ × List ℕ) → Option Location
 location_cut None = None
-location_cut (Some (front, column)) = location_before (cut_at_last 58 front) (decimal_number column)
+location_cut (Some (front, column)) = location_before (cut_at_last_byte 58 front) (decimal_number column)
 
 -- the location that a text is; its last two `:` cut it
 abbrev pub location_of : List ℕ → Option Location
-location_of text = location_cut (cut_at_last 58 text)
+location_of text = location_cut (cut_at_last_byte 58 text)
 
 -- ---- the three forms
 
@@ -74,7 +74,7 @@ sign_frame_at None tail = None
 sign_frame_at (Some (function, location)) tail = parts_with (function ++ codes "@") (location_of location) tail
 
 abbrev pub sign_frame : (text tail : List ℕ) → Option FrameParts
-sign_frame text tail = if ends_in_digit text then sign_frame_at (cut_at_first 64 text) tail else None
+sign_frame text tail = if ends_in_digit text then sign_frame_at (cut_at_first_byte 64 text) tail else None
 
 -- ---- the line
 

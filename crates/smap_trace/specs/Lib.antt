@@ -4,6 +4,9 @@ pub mod FrameOf
 pub mod FrameSeen
 pub mod Table
 pub mod Hiding
+pub mod FunctionNames
+pub mod HeadSeen
+pub mod NamedTable
 pub mod Rewritten
 pub mod Rewriting
 pub mod SightSeen

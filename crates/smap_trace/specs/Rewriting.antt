@@ -1,5 +1,5 @@
 -- What rewriting a trace does to its devices.
-use Rattle.std.specs.Prelude.{◌≡◌, ◌+◌, ◌++◌, ℕ, Bool, false, List, [], Option, cond, min}
+use Rattle.std.specs.Prelude.{◌≡◌, ◌+◌, ◌++◌, ℕ, Bool, false, List, [], None, Option, cond, min}
 use Rattle.std.specs.List.{FoldsTo}
 use Rattle.smap_lines.specs.Editing.{Edits, EditsFront, EditsFrontInto, EditsInto, DevicesSeen}
 use Rattle.smap_lines.specs.Limits.{most_text_bytes}
@@ -7,12 +7,13 @@ use Rattle.smap_lines.specs.Lines.{Line}
 use Rattle.smap_lines.specs.declared.fault.LineFault.{LineFault}
 use Rattle.smap_record.specs.Record.{MapRecord}
 use Rattle.smap_trace.specs.FrameOf.{frame_of}
+use Rattle.smap_trace.specs.FunctionNames.{FunctionNames}
 use Rattle.smap_trace.specs.Hiding.{HidingSeen, hiding_seen}
 use Rattle.smap_trace.specs.Noted.{AreNotesIf, namings_in}
 use Rattle.smap_trace.specs.Passed.{PlaceCount, passed_in}
-use Rattle.smap_trace.specs.Rewritten.{Counts, Fate, FateStep, MayMeet, counts_of, is_frame_line, is_hidden, is_mapped, line_after, rewritten_line}
+use Rattle.smap_trace.specs.Rewritten.{Counts, Fate, MayMeet, NamedMeet, NamedStep, counts_of, is_frame_line, is_hidden, is_mapped, line_after, rewritten_line}
 use Rattle.smap_trace.specs.UrlNotes.{NamingSeen, NotesSeen}
-use Rattle.smap_trace.specs.declared.options.RewriteOptions.{RewriteOptions}
+use Rattle.smap_trace.specs.declared.options.TraceOptions.{TraceOptions}
 use Rattle.smap_trace.specs.declared.outcome.RewriteCounts.{RewriteCounts}
 use Rattle.smap_trace.specs.declared.outcome.Summary.{Summary}
 
@@ -43,7 +44,7 @@ pub record RewriteAsked : Type 0 where
   pub count : PlaceCount
   pub most_passed : ℕ
 
-abbrev pub asked_seen : (count : PlaceCount) → RewriteOptions → RewriteAsked
+abbrev pub asked_seen : (count : PlaceCount) → TraceOptions → RewriteAsked
 asked_seen count options = record {
   hide = hiding_seen options.hiding;
   most = options.most;
@@ -69,10 +70,11 @@ abbrev pub trace_start : {M : Type 0} → M → TraceNow M
 trace_start maps = record { maps = maps; frames = 0; mapped = 0; hidden = 0; passed = 0; namings = [] }
 
 -- what a line became, and how the maps, the counts and the namings stand after it
-pub record TraceStep {M : Type 0} (Finds : M → (url : List ℕ) → M → Type 0) (found : M → (url : List ℕ) → Option MapRecord) (asked : RewriteAsked)
-    (old : TraceNow M) (line : Line) (text : List ℕ) (new : TraceNow M) : Type 0 where
+pub record NamedTraceStep {M : Type 0} (Finds : M → (url : List ℕ) → M → Type 0) (found : M → (url : List ℕ) → Option MapRecord)
+    (names : M → (url : List ℕ) → Option FunctionNames) (asked : RewriteAsked) (old : TraceNow M) (line : Line) (text : List ℕ) (new : TraceNow M)
+    : Type 0 where
   pub met : Fate
-  pub step : FateStep Finds found asked.hide old.maps (frame_of line.bytes) met new.maps
+  pub step : NamedStep Finds found names asked.hide old.maps (frame_of line.bytes) met new.maps
   pub text_is : text ≡ line_after line met
   pub frames : new.frames ≡ old.frames + cond (is_frame_line line) 1 0
   pub mapped : new.mapped ≡ old.mapped + cond (is_mapped met) 1 0
@@ -80,12 +82,18 @@ pub record TraceStep {M : Type 0} (Finds : M → (url : List ℕ) → M → Type
   pub passed : new.passed ≡ old.passed + passed_in asked.count (found new.maps) line
   pub named : new.namings ≡ old.namings ++ namings_in asked.hide (found new.maps) (frame_of line.bytes)
 
+-- where nothing is known of the functions' names
+abbrev pub TraceStep : {M : Type 0} → (Finds : M → (url : List ℕ) → M → Type 0) → (found : M → (url : List ℕ) → Option MapRecord) → (asked : RewriteAsked)
+    → (old : TraceNow M) → (line : Line) → (text : List ℕ) → (new : TraceNow M) → Type 0
+TraceStep Finds found = NamedTraceStep Finds found (λ maps url. None)
+
 -- all that the input had, which is not too much, was read, and what each line became over the maps that were found for it was
 -- written, and nothing else; places that were passed are counted in lines of at most 65,536 bytes
-pub record RewritesOver {M : Type 0} (Finds : M → (url : List ℕ) → M → Type 0) (found : M → (url : List ℕ) → Option MapRecord) (asked : RewriteAsked)
-    (before after : DevicesSeen) (old new : M) (counts : RewriteCounts) (notes : NotesSeen) : Type 0 where
+pub record RewritesNamed {M : Type 0} (Finds : M → (url : List ℕ) → M → Type 0) (found : M → (url : List ℕ) → Option MapRecord)
+    (names : M → (url : List ℕ) → Option FunctionNames) (asked : RewriteAsked) (before after : DevicesSeen) (old new : M) (counts : RewriteCounts)
+    (notes : NotesSeen) : Type 0 where
   pub last : TraceNow M
-  pub edits : EditsInto (TraceStep Finds found asked) asked.most before after (trace_start old) last
+  pub edits : EditsInto (NamedTraceStep Finds found names asked) asked.most before after (trace_start old) last
       (record { lines = counts.summary.lines; long = counts.long })
   pub maps : last.maps ≡ new
   pub frames : counts.summary.frames ≡ last.frames
@@ -93,6 +101,11 @@ pub record RewritesOver {M : Type 0} (Finds : M → (url : List ℕ) → M → T
   pub hiding : counts.summary.hidden ≡ last.hidden
   pub passed : counts.passed ≡ min asked.most_passed last.passed
   pub noted : AreNotesIf asked.is_noted last.namings notes
+
+-- where nothing is known of the functions' names
+abbrev pub RewritesOver : {M : Type 0} → (Finds : M → (url : List ℕ) → M → Type 0) → (found : M → (url : List ℕ) → Option MapRecord) → (asked : RewriteAsked)
+    → (before after : DevicesSeen) → (old new : M) → (counts : RewriteCounts) → (notes : NotesSeen) → Type 0
+RewritesOver Finds found = RewritesNamed Finds found (λ maps url. None)
 
 -- the maps may stand so after some URLs were looked for, one after another
 abbrev pub Looked : {M : Type 0} → (Finds : M → (url : List ℕ) → M → Type 0) → (old new : M) → Type 0
@@ -107,3 +120,16 @@ BecomesFrame Gives hide line text = (met : Fate) × MayMeet Gives hide (frame_of
 abbrev pub RewritesFrontOver : (Gives : (url : List ℕ) → Option MapRecord → Type 0) → (hide : HidingSeen) → (most : ℕ) → (before after : DevicesSeen) → LineFault
     → Type 0
 RewritesFrontOver Gives hide most before after fault = EditsFrontInto (BecomesFrame Gives hide) most before after fault
+
+-- the same where functions are named or not
+abbrev pub BecomesNamed : (Gives : (url : List ℕ) → Option MapRecord → Type 0)
+    → (GivesNames : (url : List ℕ) → Option MapRecord → Option FunctionNames → Type 0) → (names_any : Bool) → (hide : HidingSeen) → Line → (text : List ℕ)
+    → Type 0
+BecomesNamed Gives GivesNames names_any hide line text =
+    (met : Fate) × NamedMeet Gives GivesNames names_any hide (frame_of line.bytes) met × (text ≡ line_after line met)
+
+abbrev pub RewritesNamedFront : (Gives : (url : List ℕ) → Option MapRecord → Type 0)
+    → (GivesNames : (url : List ℕ) → Option MapRecord → Option FunctionNames → Type 0) → (names_any : Bool) → (hide : HidingSeen) → (most : ℕ)
+    → (before after : DevicesSeen) → LineFault → Type 0
+RewritesNamedFront Gives GivesNames names_any hide most before after fault =
+    EditsFrontInto (BecomesNamed Gives GivesNames names_any hide) most before after fault

@@ -14,6 +14,7 @@ use Rattle.smap_record.specs.Sources.{StatedSource}
 use Rattle.smap_record.specs.Written.{is_ignored_where, text_of_source}
 use Rattle.smap_trace.specs.Frame.{FrameParts}
 use Rattle.smap_trace.specs.FrameOf.{frame_of}
+use Rattle.smap_trace.specs.FunctionNames.{FunctionNames, named}
 use Rattle.smap_trace.specs.Hiding.{HidingSeen, hides, only_ignored}
 use Rattle.smap_locations.specs.ByText.{value_under}
 
@@ -90,16 +91,35 @@ unfoldable pub fate : List ℕ → List (List ℕ × MapRecord) → (hide : Bool
 fate line table hide = fate_of hide table (frame_of line)
 
 -- the fate of a line, where the maps are given by what finds them: that of its frame's URL is looked for, and how the maps
--- stand then decides
+-- stand then decides; where it is replaced, its function has the name that they say was written
+abbrev pub NamedStep : {M : Type 0} → (Finds : M → (url : List ℕ) → M → Type 0) → (found : M → (url : List ℕ) → Option MapRecord)
+    → (names : M → (url : List ℕ) → Option FunctionNames) → (hide : HidingSeen) → (old : M) → Option FrameParts → Fate → (new : M) → Type 0
+NamedStep Finds found names hide old None met new = (met ≡ no_frame) × (new ≡ old)
+NamedStep Finds found names hide old (Some parts) met new =
+    Finds old parts.url new × (met ≡ fate_at hide (named (names new parts.url) parts) (original_in parts (found new parts.url)))
+
+-- the same where nothing is known of the functions' names
 abbrev pub FateStep : {M : Type 0} → (Finds : M → (url : List ℕ) → M → Type 0) → (found : M → (url : List ℕ) → Option MapRecord) → (hide : HidingSeen)
     → (old : M) → Option FrameParts → Fate → (new : M) → Type 0
-FateStep Finds found hide old None met new = (met ≡ no_frame) × (new ≡ old)
-FateStep Finds found hide old (Some parts) met new = Finds old parts.url new × (met ≡ fate_at hide parts (original_in parts (found new parts.url)))
+FateStep Finds found = NamedStep Finds found (λ maps url. None)
 
 -- the fate that a line may have from now on, where each URL may have these maps
 abbrev pub MayMeet : (Gives : (url : List ℕ) → Option MapRecord → Type 0) → (hide : HidingSeen) → Option FrameParts → Fate → Type 0
 MayMeet Gives hide None met = met ≡ no_frame
 MayMeet Gives hide (Some parts) met = (found : Option MapRecord) × Gives parts.url found × (met ≡ fate_at hide parts (original_in parts found))
+
+-- the same where functions are named: each URL may have these maps with these names
+abbrev pub NamesMeet : (GivesNames : (url : List ℕ) → Option MapRecord → Option FunctionNames → Type 0) → (hide : HidingSeen) → Option FrameParts → Fate → Type 0
+NamesMeet GivesNames hide None met = met ≡ no_frame
+NamesMeet GivesNames hide (Some parts) met =
+    (found : Option MapRecord) × (names : Option FunctionNames) × GivesNames parts.url found names
+    × (met ≡ fate_at hide (named names parts) (original_in parts found))
+
+-- where they are named or not
+abbrev pub NamedMeet : (Gives : (url : List ℕ) → Option MapRecord → Type 0) → (GivesNames : (url : List ℕ) → Option MapRecord → Option FunctionNames → Type 0)
+    → (names_any : Bool) → (hide : HidingSeen) → Option FrameParts → Fate → Type 0
+NamedMeet Gives GivesNames false = MayMeet Gives
+NamedMeet Gives GivesNames true = NamesMeet GivesNames
 
 -- ---- a trace
 

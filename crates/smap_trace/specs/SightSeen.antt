@@ -1,5 +1,6 @@
 -- What contracts see of a frame that was looked at.
 use Rattle.std.specs.Prelude.{ℕ, List, ◌++◌, option_map}
+use Rattle.smap_trace.specs.Frame.{FrameParts}
 use Rattle.smap_trace.specs.Rewritten.{Fate, SourceLocation, hidden, location_text, replaced, stays}
 use Rattle.smap_trace.specs.declared.original.Original.{Original}
 use Rattle.smap_trace.specs.declared.original.Replacement.{Replacement}
@@ -24,8 +25,11 @@ replacement_seen replacement = location_text replacement.name.now replacement.li
 abbrev pub replaced_frame : Frame → Replacement → List ℕ
 replaced_frame frame replacement = frame.head.now ++ replacement_seen replacement ++ frame.tail.now
 
--- what a frame is
-abbrev pub fate_seen : Frame → Sight → Fate
-fate_seen frame Staying = stays
-fate_seen frame (Replaced replacement) = replaced (replaced_frame frame replacement)
-fate_seen frame Hidden = hidden
+abbrev pub replaced_parts : FrameParts → Replacement → List ℕ
+replaced_parts parts replacement = parts.head ++ replacement_seen replacement ++ parts.tail
+
+-- what a frame of these parts is
+abbrev pub fate_seen : FrameParts → Sight → Fate
+fate_seen parts Staying = stays
+fate_seen parts (Replaced replacement) = replaced (replaced_parts parts replacement)
+fate_seen parts Hidden = hidden

@@ -1,20 +1,20 @@
 //! Bytes, cut in two.
 ghost use Rattle.std.specs.Prelude.{◌≡◌, option_map};
-ghost use Rattle.smap_trace.specs.Cuts.{cut_at_call, cut_at_first, cut_at_last, without_last};
+ghost use Rattle.smap_trace.specs.Cuts.{cut_at_call, cut_at_first_byte, cut_at_last_byte, without_last};
 
 use memchr::memchr;
 
 /// What stands before the first of these bytes, and what stands after it.
-pub fn cut_at_first(byte: u8, text: &[u8]) -> Option<(&[u8], &[u8])>
-    ensures { option_map (λ cut. (cut.0.now, cut.1.now)) result ≡ cut_at_first byte text.now }
+pub fn cut_at_first_byte(byte: u8, text: &[u8]) -> Option<(&[u8], &[u8])>
+    ensures { option_map (λ cut. (cut.0.now, cut.1.now)) result ≡ cut_at_first_byte byte text.now }
 {
     let place = memchr(byte, text)?;
     Some((&text[..place], &text[place + 1..]))
 }
 
 /// What stands before the last of these bytes, and what stands after it.
-pub fn cut_at_last(byte: u8, text: &[u8]) -> Option<(&[u8], &[u8])>
-    ensures { option_map (λ cut. (cut.0.now, cut.1.now)) result ≡ cut_at_last byte text.now }
+pub fn cut_at_last_byte(byte: u8, text: &[u8]) -> Option<(&[u8], &[u8])>
+    ensures { option_map (λ cut. (cut.0.now, cut.1.now)) result ≡ cut_at_last_byte byte text.now }
 {
     let mut end = text.len();
     while end > 0 {

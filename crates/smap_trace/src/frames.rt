@@ -11,7 +11,7 @@ ghost use Rattle.smap_trace.specs.FrameOf.{ends_in_digit, plain_frame, sign_fram
 ghost use Rattle.smap_trace.specs.FrameSeen.{parts_seen};
 ghost use Rattle.smap_trace.specs.Private.LocationSeen.{location_seen};
 
-use crate::cuts::{cut_at_call, cut_at_first, without_last};
+use crate::cuts::{cut_at_call, cut_at_first_byte, without_last};
 use crate::end_number::cut_at_number;
 use crate::parts::Frame;
 use memchr::memchr;
@@ -136,7 +136,7 @@ fn sign_frame(line: &[u8], end: usize) -> Option<Frame<'_>>
     if !ends_in_digit(body) {
         return None;
     }
-    let (function, _) = cut_at_first(b'@', body)?;
+    let (function, _) = cut_at_first_byte(b'@', body)?;
     frame_at(line, function.len() + b"@".len(), end)
 }
 

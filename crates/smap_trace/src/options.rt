@@ -7,7 +7,7 @@ use crate::hiding::Hiding;
 
 /// How a trace is rewritten, and how much is looked at beside its frames.
 #[derive(Drop)]
-pub struct RewriteOptions<'a> {
+pub struct TraceOptions<'a> {
     /// Which frames are left out.
     pub hiding: Hiding<'a>,
     /// How many bytes of the trace are taken at most: less than 2^63.
@@ -18,13 +18,13 @@ pub struct RewriteOptions<'a> {
     pub most_passed: u64,
 }
 
-impl<'a> RewriteOptions<'a> {
+impl<'a> TraceOptions<'a> {
     /// Nothing is noted, and no place is counted.
-    pub fn of_frames(hiding: Hiding<'a>, most: u64) -> RewriteOptions<'a>
+    pub fn of_frames(hiding: Hiding<'a>, most: u64) -> TraceOptions<'a>
         ensures { asked_seen (λ own line. 0) result
             ≡ frames_alone (hiding_seen hiding.entry) most }
     {
-        RewriteOptions {
+        TraceOptions {
             hiding,
             most,
             is_noted: false,

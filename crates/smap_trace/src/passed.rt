@@ -5,7 +5,7 @@ ghost use Rattle.smap_lines.specs.Lines.{has_line_end};
 ghost use Rattle.smap_trace.specs.Passed.{passed_beside};
 ghost use Rattle.smap_trace.specs.Private.Passing.{passed_after};
 
-use crate::options::RewriteOptions;
+use crate::options::TraceOptions;
 
 /// What counts the places of lines. What it takes to count those of one may be kept for the next.
 pub trait PlaceCounter {
@@ -38,7 +38,7 @@ impl PlaceCounter for NoPlaces {
 /// How many places were passed, at most so many as are asked for, after a line whose frame has this URL, where it is one;
 /// and that has a map or none.
 pub fn passed_after<P: PlaceCounter>(
-    options: &RewriteOptions<'_>,
+    options: &TraceOptions<'_>,
     places: &mut P,
     passed: u64,
     own: Option<&[u8]>,

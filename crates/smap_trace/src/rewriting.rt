@@ -5,13 +5,13 @@ ghost use Rattle.smap_trace.specs.Beside.{IsSameBeside};
 ghost use Rattle.smap_trace.specs.Hiding.{hiding_seen};
 ghost use Rattle.smap_trace.specs.Noted.{nothing_noted};
 ghost use Rattle.smap_trace.specs.NotesSeen.{notes_seen};
-ghost use Rattle.smap_trace.specs.Rewriting.{Looked, Rewrites, RewritesFront, RewritesFrontOver, RewritesOver, asked_seen};
+ghost use Rattle.smap_trace.specs.Rewriting.{Looked, Rewrites, RewritesFront, RewritesNamed, RewritesNamedFront, asked_seen};
 
 use crate::beside::Beside;
 use crate::frame_rewriter::FrameRewriter;
 use crate::hiding::Hiding;
 use crate::maps::{Maps, TableMaps};
-use crate::options::RewriteOptions;
+use crate::options::TraceOptions;
 use crate::outcome::{RewriteCounts, RewriteFault, Summary};
 use crate::passed::{NoPlaces, PlaceCounter};
 use crate::remembered::Remembered;
@@ -43,7 +43,7 @@ pub fn rewrite<R: ByteSource, W: ByteSink>(
         (λ before after. RewritesFront before after table.now hide_ignored) result }
 {
     let mut maps = TableMaps(table);
-    let options = RewriteOptions::of_frames(Hiding::only_ignored(hide_ignored), MOST_TEXT_BYTES);
+    let options = TraceOptions::of_frames(Hiding::only_ignored(hide_ignored), MOST_TEXT_BYTES);
     let mut notes = UrlNotes::new(alloc);
     let mut beside = Beside {
         notes: &mut notes,
@@ -53,16 +53,17 @@ pub fn rewrite<R: ByteSource, W: ByteSink>(
     Ok(counts.summary)
 }
 
-/// The same over maps that are looked for when a frame names them. Where that is asked, it is noted what became of the first
-/// 100 different URLs that frames name; and the places that are passed over in lines of up to 65,536 bytes are counted, as
-/// far as a number. The caller gives devices that have not failed, and notes without any. What the counter counts stays the
-/// same. The output is not flushed.
+/// The same over maps that are looked for when a frame names them, and that may know the written names of functions: with an
+/// original a frame gets that of its function, where this is one name. Where that is asked, it is noted what became of the
+/// first 100 different URLs that frames name; and the places that are passed over in lines of up to 65,536 bytes are
+/// counted, as far as a number. The caller gives devices that have not failed, and notes without any. What the counter counts
+/// stays the same. The output is not flushed.
 pub fn rewrite_over<R: ByteSource, W: ByteSink, M: Maps, P: PlaceCounter>(
     alloc: Global,
     input: &mut R,
     output: &mut W,
     maps: &mut M,
-    options: &RewriteOptions<'_>,
+    options: &TraceOptions<'_>,
     beside: &mut Beside<'_, '_, P>,
 ) -> Result<RewriteCounts, RewriteFault>
     requires input_works { (R.seen input.old).failed ≡ false }
@@ -70,11 +71,11 @@ pub fn rewrite_over<R: ByteSource, W: ByteSink, M: Maps, P: PlaceCounter>(
     requires most { options.now.most < 2 ^ 63 }
     requires unnoted { notes_seen beside.old.notes.now ≡ nothing_noted }
     ensures ends { RunEnds R.seen W.seen input.old input.new output.old output.new
-        (λ before after counts. RewritesOver M.Finds M.found
+        (λ before after counts. RewritesNamed M.Finds M.found M.names
         (asked_seen (P.count beside.old.places.now) options.now)
         before after maps.old maps.new counts (notes_seen beside.new.notes.now))
-        (RewritesFrontOver (M.Gives maps.old) (hiding_seen options.now.hiding)
-        options.now.most) result }
+        (RewritesNamedFront (M.Gives maps.old) (M.GivesNames maps.old) M.names_any
+        (hiding_seen options.now.hiding) options.now.most) result }
     ensures looked { Looked M.Finds maps.old maps.new }
     ensures counter { P.count beside.new.places.now ≡ P.count beside.old.places.now }
     ensures same { IsSameBeside beside.old beside.new }

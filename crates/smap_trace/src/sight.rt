@@ -27,21 +27,22 @@ pub enum Sight<'m> {
 impl Sight<'_> {
     // Whether it is replaced.
     pub fn is_mapped(&self) -> bool
-        ensures { (frame : _) → result ≡ is_mapped (fate_seen frame self.now) }
+        ensures { (parts : _) → result ≡ is_mapped (fate_seen parts self.now) }
     {
         matches!(self, Sight::Replaced(_))
     }
 
     // Whether it is hidden.
     pub fn is_hidden(&self) -> bool
-        ensures { (frame : _) → result ≡ is_hidden (fate_seen frame self.now) }
+        ensures { (parts : _) → result ≡ is_hidden (fate_seen parts self.now) }
     {
         matches!(self, Sight::Hidden)
     }
 }
 
 /// Whether the URL of a frame has a map, and what the frame is, over maps of which that of its URL was looked for, where
-/// these frames are left out; what was answered before is remembered, over maps that are still found.
+/// these frames are left out, whatever name its function has; what was answered before is remembered, over maps that are
+/// still found.
 pub fn look_at<'m, M: Maps>(
     alloc: Global,
     maps: &'m M,
@@ -50,8 +51,8 @@ pub fn look_at<'m, M: Maps>(
     frame: &Frame<'_>,
 ) -> (bool, Sight<'m>)
     ensures has_map { result.0 ≡ is_some (M.found maps.now frame.now.url.now) }
-    ensures sight { is_right (M.found maps.now) remembered.old ≡ true →
-        fate_seen frame.now result.1 ≡ fate_at (hiding_seen hiding.now) (parts_seen frame.now)
+    ensures sight { is_right (M.found maps.now) remembered.old ≡ true → (parts : _) →
+        fate_seen parts result.1 ≡ fate_at (hiding_seen hiding.now) parts
         (original_in (parts_seen frame.now) (M.found maps.now frame.now.url.now)) }
     ensures right { StaysRight (M.found maps.now) remembered.old remembered.new }
 {
@@ -62,10 +63,10 @@ pub fn look_at<'m, M: Maps>(
     (true, sight_of(original, hiding))
 }
 
-// What a frame is that comes from here.
+// What a frame is that comes from here, whatever stands around its place.
 fn sight_of<'m>(original: Option<Original<'m>>, hiding: &Hiding<'_>) -> Sight<'m>
-    ensures { (frame : _) → fate_seen frame result ≡ fate_at (hiding_seen hiding.now)
-        (parts_seen frame) (option_map original_seen original.entry) }
+    ensures { (parts : _) → fate_seen parts result ≡ fate_at (hiding_seen hiding.now)
+        parts (option_map original_seen original.entry) }
 {
     let Some(original) = original else {
         return Sight::Staying;

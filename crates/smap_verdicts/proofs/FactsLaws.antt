@@ -17,7 +17,7 @@ use Rattle.smap_explain.specs.declared.explanation.KeyFacts.{KeyFacts}
 use Rattle.smap_explain.specs.declared.explanation.Measure.{Measure}
 use Rattle.smap_explain.specs.declared.explanation.NotJsonFacts.{NotJsonFacts}
 use Rattle.smap_explain.specs.declared.explanation.SegmentFacts.{SegmentFacts}
-use Rattle.smap_explain.specs.declared.explanation.Found.{Found}
+use Rattle.smap_explain.specs.declared.explanation.FoundValue.{FoundValue}
 use Rattle.smap_verdicts.specs.Explanation.{found_text}
 use Rattle.smap_verdicts.specs.Facts.{beginning_name, integer, numbers_value, place_value, printed_value, put_where, stop_byte, with_build, with_explanation, with_found, with_key, with_measure, with_measure_where, with_not_json, with_segment}
 use Rattle.smap_verdicts.specs.Keys.{key_name}
@@ -62,7 +62,7 @@ not_json_plain : (facts : NotJsonFacts) (ms : Members) → HasNone ms → HasNon
 not_json_plain facts ms none = where_plain _ stop_byte facts.stop _ (λ stop. refl)
     (put_plain (codes "beginsAs") (string (beginning_name facts.begins_as)) ms refl none)
 
-found_plain : (found : Found) (ms : Members) → HasNone ms → HasNone (with_found found ms)
+found_plain : (found : FoundValue) (ms : Members) → HasNone ms → HasNone (with_found found ms)
 found_plain found ms none = put_plain (codes "found") (string (found_text found)) ms refl none
 
 key_plain : (facts : KeyFacts) (ms : Members) → HasNone ms → HasNone (with_key facts ms)

@@ -4,11 +4,11 @@ use Rattle.std.specs.Fmt.{decimal}
 use Rattle.smap_explain.specs.declared.explanation.Beginning.{Beginning}
 use Rattle.smap_explain.specs.declared.explanation.Beginning.TheVariants as begins
 use Rattle.smap_explain.specs.declared.explanation.BuildFacts.{BuildFacts}
-use Rattle.smap_explain.specs.declared.explanation.Found.{Found}
-use Rattle.smap_explain.specs.declared.explanation.Found.TheVariants as founds
+use Rattle.smap_explain.specs.declared.explanation.FoundValue.{FoundValue}
+use Rattle.smap_explain.specs.declared.explanation.FoundValue.TheVariants as founds
 use Rattle.smap_explain.specs.declared.explanation.NotJsonFacts.{NotJsonFacts}
-use Rattle.smap_explain.specs.declared.explanation.Place.{Place}
-use Rattle.smap_explain.specs.declared.explanation.Stop.{Stop}
+use Rattle.smap_explain.specs.declared.explanation.PrintedPlace.{PrintedPlace}
+use Rattle.smap_explain.specs.declared.explanation.JsonStop.{JsonStop}
 use Rattle.smap_text.specs.Shown.{shown}
 use Rattle.smap_verdicts.specs.Texts.{text_from}
 
@@ -27,7 +27,7 @@ beginning_text begins.Json = codes "the file begins as JSON"
 beginning_text begins.Other = codes "the file is no JSON text, and of no kind that is often taken for a map"
 
 -- the line and the column at which reading stopped
-unfoldable pub stop_place_text : Stop → List ℕ
+unfoldable pub stop_place_text : JsonStop → List ℕ
 stop_place_text stop = text_from (
     codes "  reading stopped at byte " ∷ decimal stop.byte ∷ codes " (line " ∷ decimal stop.line
     ∷ codes ", column " ∷ decimal stop.column ∷ codes "): " ∷ [])
@@ -41,7 +41,7 @@ abbrev pub cut_text : Bool → List ℕ
 cut_text is_cut = if is_cut then codes "; the file ends too early, as one that was cut does" else []
 
 -- and the text about it
-unfoldable pub stop_text : Option Stop → List ℕ
+unfoldable pub stop_text : Option JsonStop → List ℕ
 stop_text None = []
 stop_text (Some stop) = text_from (
     stop_place_text stop ∷ codes ".." ∷ shown (string_bytes stop.before) ∷ place_mark
@@ -52,7 +52,7 @@ not_json_text facts = text_from (codes "  " ∷ beginning_text facts.begins_as �
 
 -- ---- what stands at a place
 
-unfoldable pub found_text : Found → List ℕ
+unfoldable pub found_text : FoundValue → List ℕ
 found_text founds.Nothing = codes "missing"
 found_text founds.Null = codes "null"
 found_text (founds.Boolean true) = codes "true"
@@ -66,7 +66,7 @@ found_text founds.Object = codes "an object"
 -- ---- an index that is not built
 
 -- a line and a column
-unfoldable pub at_text : Place → List ℕ
+unfoldable pub at_text : PrintedPlace → List ℕ
 at_text place = text_from (codes "line " ∷ decimal place.line ∷ codes ", column " ∷ decimal place.column ∷ [])
 
 -- where a section begins
@@ -74,12 +74,12 @@ unfoldable pub section_text : BuildFacts → List ℕ
 section_text facts = text_from (codes "  section " ∷ decimal facts.section ∷ codes " begins at " ∷ at_text facts.offset ∷ codes "\n" ∷ [])
 
 -- where the section before it begins
-unfoldable pub before_text : Option Place → List ℕ
+unfoldable pub before_text : Option PrintedPlace → List ℕ
 before_text None = []
 before_text (Some place) = text_from (codes "  the section before it begins at " ∷ at_text place ∷ codes "\n" ∷ [])
 
 -- the mapping that stands in the way
-unfoldable pub mapping_text : Option Place → List ℕ
+unfoldable pub mapping_text : Option PrintedPlace → List ℕ
 mapping_text None = []
 mapping_text (Some place) = text_from (codes "  the mapping that is at fault is at " ∷ at_text place ∷ codes "\n" ∷ [])
 

@@ -9,14 +9,14 @@ use Rattle.smap_explain.specs.declared.explanation.Beginning.TheVariants as begi
 use Rattle.smap_explain.specs.declared.explanation.BuildFacts.{BuildFacts}
 use Rattle.smap_explain.specs.declared.explanation.Explanation.{Explanation}
 use Rattle.smap_explain.specs.declared.explanation.Explanation.TheVariants as explained
-use Rattle.smap_explain.specs.declared.explanation.Found.{Found}
+use Rattle.smap_explain.specs.declared.explanation.FoundValue.{FoundValue}
 use Rattle.smap_explain.specs.declared.explanation.KeyFacts.{KeyFacts}
 use Rattle.smap_explain.specs.declared.explanation.Measure.{Measure}
 use Rattle.smap_explain.specs.declared.explanation.NotJsonFacts.{NotJsonFacts}
-use Rattle.smap_explain.specs.declared.explanation.Place.{Place}
+use Rattle.smap_explain.specs.declared.explanation.PrintedPlace.{PrintedPlace}
 use Rattle.smap_explain.specs.declared.explanation.Quantity.{Quantity}
 use Rattle.smap_explain.specs.declared.explanation.SegmentFacts.{SegmentFacts}
-use Rattle.smap_explain.specs.declared.explanation.Stop.{Stop}
+use Rattle.smap_explain.specs.declared.explanation.JsonStop.{JsonStop}
 use Rattle.smap_verdicts.specs.Explanation.{found_text}
 use Rattle.smap_verdicts.specs.Keys.{key_name}
 use Rattle.smap_verdicts.specs.Segment.{printed, quantity_name}
@@ -35,7 +35,7 @@ numbers_value numbers = array (items_of (map integer numbers))
 abbrev pub printed_value : Quantity → ℤ → Data
 printed_value quantity value = integer (printed quantity value)
 
-abbrev pub place_value : Place → Data
+abbrev pub place_value : PrintedPlace → Data
 place_value place = object (member (codes "column") (count place.column) (member (codes "line") (count place.line) no_members))
 
 abbrev pub beginning_name : Beginning → List ℕ
@@ -56,7 +56,7 @@ abbrev pub put_where : List ℕ → Option Data → Members → Members
 put_where key None members = members
 put_where key (Some value) members = put key value members
 
-abbrev pub stop_byte : Stop → Data
+abbrev pub stop_byte : JsonStop → Data
 stop_byte stop = count stop.byte
 
 -- the greatest number of bytes of a map
@@ -69,7 +69,7 @@ with_not_json facts members =
     (put (codes "beginsAs") (string (beginning_name facts.begins_as)) members)
 
 -- what stands in the place of another value
-abbrev pub with_found : Found → Members → Members
+abbrev pub with_found : FoundValue → Members → Members
 with_found found members = put (codes "found") (string (found_text found)) members
 
 abbrev pub with_key : KeyFacts → Members → Members

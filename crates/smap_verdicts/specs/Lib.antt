@@ -4,6 +4,6 @@ pub mod Segment
 pub mod Explanation
 pub mod Keys
 pub mod Facts
-pub mod Nearest
+pub mod NearestLines
 pub mod Refusal
 pub mod Private

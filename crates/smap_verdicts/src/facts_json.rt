@@ -11,8 +11,8 @@ use crate::facts_text::found_text;
 use crate::measure_text::{printed, quantity_name};
 use serde_json::{Map, Value, put};
 use smap_explain::{
-    Beginning, BuildFacts, Explanation, Found, KeyFacts, Measure, NotJsonFacts, Place, Quantity,
-    SegmentFacts,
+    Beginning, BuildFacts, Explanation, FoundValue, KeyFacts, Measure, NotJsonFacts, PrintedPlace,
+    Quantity, SegmentFacts,
 };
 use std::alloc::{AllocError, Global};
 
@@ -66,7 +66,7 @@ fn put_not_json(
 fn put_found(
     members: &mut Map<String, Value>,
     alloc: Global,
-    found: &Found,
+    found: &FoundValue,
 ) -> Result<(), AllocError>
     ensures { OnOk result (members_view members.new.entries
         ≡ with_found found.now (members_view members.old.entries)) }
@@ -216,7 +216,7 @@ fn put_place(
     members: &mut Map<String, Value>,
     alloc: Global,
     key: &str,
-    place: Option<Place>,
+    place: Option<PrintedPlace>,
 ) -> Result<(), AllocError>
     ensures { OnOk result (members_view members.new.entries
         ≡ put_where key.now (option_map place_value place) (members_view members.old.entries)) }
@@ -230,7 +230,7 @@ fn put_place(
     }
 }
 
-fn place_value(alloc: Global, place: Place) -> Result<Value, AllocError>
+fn place_value(alloc: Global, place: PrintedPlace) -> Result<Value, AllocError>
     ensures { IfOk result (λ value. view value ≡ place_value place) }
 {
     let mut members = Map::new(alloc);

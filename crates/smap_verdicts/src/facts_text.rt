@@ -4,7 +4,7 @@ ghost use Rattle.smap_verdicts.specs.Explanation.{at_text, before_text, beginnin
 ghost use Rattle.smap_verdicts.specs.Explanation.{mapping_text, not_json_text, section_text};
 ghost use Rattle.smap_verdicts.specs.Explanation.{stop_place_text, stop_text};
 
-use smap_explain::{Beginning, BuildFacts, Found, NotJsonFacts, Place, Stop};
+use smap_explain::{Beginning, BuildFacts, FoundValue, JsonStop, NotJsonFacts, PrintedPlace};
 use smap_text::shown;
 use std::alloc::{AllocError, Global};
 
@@ -39,7 +39,7 @@ fn beginning_text(begins_as: Beginning) -> &'static str
 
 // Where reading stopped, with the text about it, where that is known.
 #[tactic(auto, unfolding(crate::specs::Explanation::stop_text))]
-fn stop_text(alloc: Global, stop: &Option<Stop>) -> Result<String, AllocError>
+fn stop_text(alloc: Global, stop: &Option<JsonStop>) -> Result<String, AllocError>
     ensures { IfOk result (λ text. string_bytes text ≡ stop_text stop.now) }
 {
     match stop {
@@ -67,7 +67,7 @@ fn cut_text(is_cut: bool) -> &'static str
 
 // The byte, the line and the column at which reading stopped.
 #[tactic(auto, unfolding(crate::specs::Explanation::stop_place_text))]
-fn stop_place_text(alloc: Global, stop: &Stop) -> Result<String, AllocError>
+fn stop_place_text(alloc: Global, stop: &JsonStop) -> Result<String, AllocError>
     ensures { IfOk result (λ text. string_bytes text ≡ stop_place_text stop.now) }
 {
     let (byte, line, column) = (stop.byte, stop.line, stop.column);
@@ -76,26 +76,26 @@ fn stop_place_text(alloc: Global, stop: &Stop) -> Result<String, AllocError>
 
 /// What stands at a place, with no LF.
 #[tactic(auto, unfolding(crate::specs::Explanation::found_text))]
-pub fn found_text(alloc: Global, found: &Found) -> Result<String, AllocError>
+pub fn found_text(alloc: Global, found: &FoundValue) -> Result<String, AllocError>
     ensures { IfOk result (λ text. string_bytes text ≡ found_text found.now) }
 {
     match found {
-        Found::Nothing => format!(in alloc; "missing"),
-        Found::Null => format!(in alloc; "null"),
-        Found::Boolean(true) => format!(in alloc; "true"),
-        Found::Boolean(false) => format!(in alloc; "false"),
-        Found::Whole(number) => format!(in alloc; "the number {number}"),
-        Found::Number => {
+        FoundValue::Nothing => format!(in alloc; "missing"),
+        FoundValue::Null => format!(in alloc; "null"),
+        FoundValue::Boolean(true) => format!(in alloc; "true"),
+        FoundValue::Boolean(false) => format!(in alloc; "false"),
+        FoundValue::Whole(number) => format!(in alloc; "the number {number}"),
+        FoundValue::Number => {
             format!(in alloc;
                 "a number that is not written as a whole one from 0 to 18446744073709551615"
             )
         }
-        Found::Text(text) => {
+        FoundValue::Text(text) => {
             let text = shown(alloc, text)?;
             format!(in alloc; "the text \"{text}\"")
         }
-        Found::List(count) => format!(in alloc; "a list, of which the length is {count}"),
-        Found::Object => format!(in alloc; "an object"),
+        FoundValue::List(count) => format!(in alloc; "a list, of which the length is {count}"),
+        FoundValue::Object => format!(in alloc; "an object"),
     }
 }
 
@@ -121,7 +121,7 @@ fn section_text(alloc: Global, facts: BuildFacts) -> Result<String, AllocError>
 
 // Where the section before it begins, where that is what is wrong.
 #[tactic(auto, unfolding(crate::specs::Explanation::before_text))]
-fn before_text(alloc: Global, place: Option<Place>) -> Result<String, AllocError>
+fn before_text(alloc: Global, place: Option<PrintedPlace>) -> Result<String, AllocError>
     ensures { IfOk result (λ text. string_bytes text ≡ before_text place) }
 {
     match place {
@@ -135,7 +135,7 @@ fn before_text(alloc: Global, place: Option<Place>) -> Result<String, AllocError
 
 // The mapping that is at fault, where that is what is wrong.
 #[tactic(auto, unfolding(crate::specs::Explanation::mapping_text))]
-fn mapping_text(alloc: Global, place: Option<Place>) -> Result<String, AllocError>
+fn mapping_text(alloc: Global, place: Option<PrintedPlace>) -> Result<String, AllocError>
     ensures { IfOk result (λ text. string_bytes text ≡ mapping_text place) }
 {
     match place {
@@ -149,9 +149,9 @@ fn mapping_text(alloc: Global, place: Option<Place>) -> Result<String, AllocErro
 
 /// A line and a column.
 #[tactic(auto, unfolding(crate::specs::Explanation::at_text))]
-pub fn at_text(alloc: Global, place: Place) -> Result<String, AllocError>
+pub fn at_text(alloc: Global, place: PrintedPlace) -> Result<String, AllocError>
     ensures { IfOk result (λ text. string_bytes text ≡ at_text place) }
 {
-    let Place { line, column } = place;
+    let PrintedPlace { line, column } = place;
     format!(in alloc; "line {line}, column {column}")
 }

@@ -2,16 +2,16 @@
 ghost use Rattle.std.specs.Prelude.{◌≡◌, false, string_bytes, IfOk};
 ghost use Rattle.std.specs.Option.{option_map_or};
 ghost use Rattle.smap_explain.specs.Build.{place_of};
-ghost use Rattle.smap_verdicts.specs.Nearest.{has_line, is_on, line_text, mapping_text, nearest_text, origin_text};
+ghost use Rattle.smap_verdicts.specs.NearestLines.{has_line, is_on, line_text, mapping_text, nearest_text, origin_text};
 
 use crate::facts_text::at_text;
-use smap_explain::Place;
+use smap_explain::PrintedPlace;
 use smap_record::{Mapping, Neighbours, Origin};
 use std::alloc::{AllocError, Global};
 
 /// Where the mappings nearest to a position on this line, from 0, stand, in whole sentences: lines that begin with two
 /// blanks and end with an LF. Lines and columns print from 1.
-#[tactic(auto, unfolding(crate::specs::Nearest::nearest_text))]
+#[tactic(auto, unfolding(crate::specs::NearestLines::nearest_text))]
 pub fn nearest_text(alloc: Global, about: Neighbours, line: u32) -> Result<String, AllocError>
     ensures { IfOk result (λ text. string_bytes text ≡ nearest_text line about) }
 {
@@ -32,7 +32,7 @@ pub fn nearest_text(alloc: Global, about: Neighbours, line: u32) -> Result<Strin
 }
 
 // That the line has no mapping.
-#[tactic(auto, unfolding(crate::specs::Nearest::line_text))]
+#[tactic(auto, unfolding(crate::specs::NearestLines::line_text))]
 fn line_text(alloc: Global, line: u32, about: Neighbours) -> Result<String, AllocError>
     ensures { IfOk result (λ text. string_bytes text ≡ line_text line about) }
 {
@@ -59,7 +59,7 @@ fn is_on_where(line: u32, mapping: Option<Mapping>) -> bool
 }
 
 // Where a mapping stands, where there is one.
-#[tactic(auto, unfolding(crate::specs::Nearest::mapping_text))]
+#[tactic(auto, unfolding(crate::specs::NearestLines::mapping_text))]
 fn mapping_text(
     alloc: Global,
     words: &str,
@@ -79,10 +79,10 @@ fn mapping_text(
 }
 
 // Where a mapping stands, from 1.
-fn place_of(mapping: Mapping) -> Place
+fn place_of(mapping: Mapping) -> PrintedPlace
     ensures { result ≡ place_of mapping }
 {
-    Place {
+    PrintedPlace {
         line: u64::from(mapping.line) + 1,
         column: u64::from(mapping.column) + 1,
     }

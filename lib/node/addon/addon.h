@@ -59,17 +59,20 @@ struct held;
 /* What stands at a place: something that is held, or nothing, and then the next place is free too. */
 struct place { struct held *held; uint32_t next; };
 
-/* The addon in one environment of node. The room is what one look-up is asked and answers, in a Uint32Array of twelve in
+/* The addon in one environment of node. The room is what one look-up is asked and answers, in a Uint32Array of thirteen in
  * shared memory: the line, the column, 1 for the other direction, the seven numbers of the answer, the place of the map, and
- * whether the source is ignored, which is said where WITH_IGNORED stands in place of the 1. There is one room, so that a
+ * whether the source is ignored and the last column for which the answer holds, or TO_THE_END, which are said where WHOLE_PLACE
+ * stands in place of the 1. There is one room, so that a
  * look-up hands over no argument and makes no value, and is one function for all maps. Where OF_ORIGINAL and a direction stand
  * there, an original place is asked for, whose source stands behind; and the answer is whether it has generated places, their
  * original column, and the first and the last of them. */
 #define OF_ORIGINAL 2
-#define WITH_IGNORED 4
+#define WHOLE_PLACE 4
+#define TO_THE_END UINT32_MAX
 #define ROOM_MAP 10
 #define ROOM_IGNORED 11
-#define ROOM (ROOM_IGNORED + 1)
+#define ROOM_LAST 12
+#define ROOM (ROOM_LAST + 1)
 struct addon {
     uint32_t *room;
     napi_ref texts; /* an Array for the name of what a look-up by URL finds */

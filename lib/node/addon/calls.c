@@ -141,6 +141,23 @@ static napi_value checked_generated(napi_env env, napi_callback_info info) {
     return generated(env, map, source, line, column, direction);
 }
 
+static napi_value checked_generatedSpans(napi_env env, napi_callback_info info) {
+    napi_value words[WORDS];
+    struct held *map;
+    uint32_t source;
+    uint32_t line;
+    uint32_t column;
+    uint32_t direction;
+    if (!words_of(env, info, 5, words) ||
+        !(map = held_of(env, words[0], MAP)) ||
+        !number_of(env, words[1], &source) ||
+        !number_of(env, words[2], &line) ||
+        !number_of(env, words[3], &column) ||
+        !number_of(env, words[4], &direction))
+        return NULL;
+    return generated_spans(env, map, source, line, column, direction);
+}
+
 static napi_value checked_mappings(napi_env env, napi_callback_info info) {
     napi_value words[WORDS];
     struct held *map;
@@ -153,10 +170,14 @@ static napi_value checked_mappings(napi_env env, napi_callback_info info) {
 static napi_value checked_listMappings(napi_env env, napi_callback_info info) {
     napi_value words[WORDS];
     struct held *map;
-    if (!words_of(env, info, 1, words) ||
-        !(map = held_of(env, words[0], MAP)))
+    struct numbers given;
+    double *last;
+    if (!words_of(env, info, 3, words) ||
+        !(map = held_of(env, words[0], MAP)) ||
+        !numbers_of(env, words[1], &given) ||
+        !(last = doubles_of(env, words[2], 1)))
         return NULL;
-    return list_mappings(env, map);
+    return list_mappings(env, map, given, last);
 }
 
 static napi_value checked_nextMappings(napi_env env, napi_callback_info info) {
@@ -252,6 +273,21 @@ static napi_value checked_usePaths(napi_env env, napi_callback_info info) {
         !bytes_of(env, words[1], &url))
         return NULL;
     return use_paths(env, map, url);
+}
+
+static napi_value checked_standAt(napi_env env, napi_callback_info info) {
+    napi_value words[WORDS];
+    struct held *map;
+    smap_text path;
+    uint64_t most_names;
+    double *refusal;
+    if (!words_of(env, info, 4, words) ||
+        !(map = held_of(env, words[0], MAP)) ||
+        !bytes_of(env, words[1], &path) ||
+        !count_of(env, words[2], &most_names) ||
+        !(refusal = doubles_of(env, words[3], 6)))
+        return NULL;
+    return stand_at(env, map, path, most_names, refusal);
 }
 
 static napi_value checked_sourceName(napi_env env, napi_callback_info info) {
@@ -622,6 +658,15 @@ static napi_value checked_folderPath(napi_env env, napi_callback_info info) {
     return folder_path(env, prefix, folder, url);
 }
 
+static napi_value checked_isPath(napi_env env, napi_callback_info info) {
+    napi_value words[WORDS];
+    smap_text url;
+    if (!words_of(env, info, 1, words) ||
+        !bytes_of(env, words[0], &url))
+        return NULL;
+    return is_path(env, url);
+}
+
 const struct call calls[CALLS] = {
     {"read", checked_read},
     {"readLater", checked_readLater},
@@ -634,6 +679,7 @@ const struct call calls[CALLS] = {
     {"lookUp", look_up},
     {"lookUpMany", checked_lookUpMany},
     {"generated", checked_generated},
+    {"generatedSpans", checked_generatedSpans},
     {"mappings", checked_mappings},
     {"listMappings", checked_listMappings},
     {"nextMappings", checked_nextMappings},
@@ -645,6 +691,7 @@ const struct call calls[CALLS] = {
     {"counts", checked_counts},
     {"size", checked_size},
     {"usePaths", checked_usePaths},
+    {"standAt", checked_standAt},
     {"sourceName", checked_sourceName},
     {"sourceContent", checked_sourceContent},
     {"isIgnored", checked_isIgnored},
@@ -676,4 +723,5 @@ const struct call calls[CALLS] = {
     {"stripped", checked_stripped},
     {"locations", checked_locations},
     {"folderPath", checked_folderPath},
+    {"isPath", checked_isPath},
 };

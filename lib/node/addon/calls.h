@@ -13,8 +13,9 @@ napi_value close_held(napi_env env, struct held *inners);
 napi_value look_up(napi_env env, napi_callback_info info);
 napi_value look_up_many(napi_env env, struct held *map, struct numbers positions, struct numbers found);
 napi_value generated(napi_env env, struct held *map, uint32_t source, uint32_t line, uint32_t column, uint32_t direction);
+napi_value generated_spans(napi_env env, struct held *map, uint32_t source, uint32_t line, uint32_t column, uint32_t direction);
 napi_value mappings(napi_env env, struct held *map);
-napi_value list_mappings(napi_env env, struct held *map);
+napi_value list_mappings(napi_env env, struct held *map, struct numbers given, double *last);
 napi_value next_mappings(napi_env env, struct numbers given);
 napi_value encode(napi_env env, struct numbers mappings, double *refusal);
 napi_value bytes_by_source(napi_env env, struct held *map, smap_text generated);
@@ -24,6 +25,7 @@ napi_value outline(napi_env env, smap_text text, double *kept);
 napi_value counts(napi_env env, struct held *map);
 napi_value size(napi_env env, struct held *map);
 napi_value use_paths(napi_env env, struct held *map, smap_text url);
+napi_value stand_at(napi_env env, struct held *map, smap_text path, uint64_t most_names, double *refusal);
 napi_value source_name(napi_env env, struct held *map, uint32_t index);
 napi_value source_content(napi_env env, struct held *map, uint32_t index);
 napi_value is_ignored(napi_env env, struct held *map, uint32_t index);
@@ -55,10 +57,11 @@ napi_value take_text(napi_env env, struct held *rewriting);
 napi_value stripped(napi_env env, smap_text text);
 napi_value locations(napi_env env, smap_text text, bool anywhere);
 napi_value folder_path(napi_env env, smap_text prefix, smap_text folder, smap_text url);
+napi_value is_path(napi_env env, smap_text url);
 
 /* The calls by their names, with what checks their arguments. */
 struct call { const char *name; napi_callback call; };
-#define CALLS 53
+#define CALLS 56
 extern const struct call calls[CALLS];
 
 #endif

@@ -3,7 +3,9 @@
 #include <stdlib.h>
 #include <string.h>
 
-/* The generated places of an original one, once the map has the index for them; or false, which is an error. */
+/* The generated places of an original one or, where the direction is OF_LINE, of all of its line, once the map has the index for them; or
+ * false, which is an error. */
+#define OF_LINE 2
 static bool places_of(napi_env env, struct held *held, uint32_t source, uint32_t line, uint32_t column, uint32_t direction,
                       smap_generated_places *places) {
     if (!held->originals.at) {
@@ -12,7 +14,8 @@ static bool places_of(napi_env env, struct held *held, uint32_t source, uint32_t
         if (smap_originals_new(&held->map, &held->originals) != SMAP_DONE) return refuse(env, "out of memory"), false;
         report_size(env, held, held->size + (int64_t)(16 * count.segments + 24 * count.sources));
     }
-    smap_generated(&held->originals, source, line, column, direction, places);
+    if (direction == OF_LINE) smap_generated_on_line(&held->originals, source, line, places);
+    else smap_generated(&held->originals, source, line, column, direction, places);
     return true;
 }
 
@@ -35,6 +38,12 @@ static void look_up_original(napi_env env, struct held *held, uint32_t *room) {
     }
 }
 
+/* The last column of its line for which holds what answers at this place: that before the next mapping, of which there may be none. */
+static uint32_t last_column(const struct held *held, uint32_t line, uint32_t column) {
+    uint32_t next = 0;
+    return smap_next_column(&held->map, line, column, &next) == SMAP_DONE ? next - 1 : TO_THE_END;
+}
+
 /* lookUp(): what the room asks for, of the map whose place stands in it. */
 napi_value look_up(napi_env env, napi_callback_info info) {
     (void)info;
@@ -45,12 +54,14 @@ napi_value look_up(napi_env env, napi_callback_info info) {
     uint32_t *room = addon->room;
     struct held *held = place < addon->count ? addon->places[place].held : NULL;
     if (!held || held->kind != MAP || !held->full) return refuse(env, "the map is closed");
-    if (how < OF_ORIGINAL || how == WITH_IGNORED) {
+    if (how < OF_ORIGINAL || how == WHOLE_PLACE) {
+        const uint32_t line = room[0], column = room[1];
         smap_source_text source = SMAP_SOURCE;
-        (how == 1 ? smap_look_up_from : smap_look_up)(&held->map, room[0], room[1], (smap_found *)(room + 3));
-        if (how == WITH_IGNORED && room[3] == 2) {
+        (how == 1 ? smap_look_up_from : smap_look_up)(&held->map, line, column, (smap_found *)(room + 3));
+        if (how == WHOLE_PLACE && room[3] == 2) {
             smap_source(&held->map, room[5], &source);
             room[ROOM_IGNORED] = source.ignored;
+            room[ROOM_LAST] = last_column(held, line, column);
         }
         return NULL;
     }
@@ -93,6 +104,27 @@ napi_value generated(napi_env env, struct held *held, uint32_t source, uint32_t 
         napi_create_typedarray(env, napi_uint32_array, bytes / sizeof(uint32_t), buffer, 0, &array) != napi_ok)
         return refuse(env, "out of memory");
     if (bytes) memcpy(place, places.places, bytes);
+    return array;
+}
+
+/* generatedSpans(map, source, line, column, direction): the same places or, where the direction is OF_LINE, those of all of its line, by their
+ * original columns, as a Uint32Array of four numbers each: the line, the column, the last column for which the mapping there holds, or
+ * TO_THE_END, and the column of the original. */
+napi_value generated_spans(napi_env env, struct held *held, uint32_t source, uint32_t line, uint32_t column, uint32_t direction) {
+    napi_value array, buffer;
+    void *room;
+    smap_source_text text = SMAP_SOURCE;
+    smap_generated_places places = SMAP_PLACES;
+    if (smap_source(&held->map, source, &text) != SMAP_DONE) return refuse_range(env, "no such source");
+    if (!places_of(env, held, source, line, column, direction, &places)) return NULL;
+    if (napi_create_arraybuffer(env, places.count * 4 * sizeof(uint32_t), &room, &buffer) != napi_ok ||
+        napi_create_typedarray(env, napi_uint32_array, places.count * 4, buffer, 0, &array) != napi_ok)
+        return refuse(env, "out of memory");
+    for (size_t i = 0; i < places.count; i++) {
+        const smap_generated_place *at = places.places + i;
+        const uint32_t span[] = {at->line, at->column, last_column(held, at->line, at->column), at->original_column};
+        memcpy((uint32_t *)room + 4 * i, span, sizeof span);
+    }
     return array;
 }
 

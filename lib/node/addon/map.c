@@ -70,6 +70,17 @@ napi_value use_paths(napi_env env, struct held *held, smap_text url) {
     return napi_get_boolean(env, status == SMAP_DONE, &alone) == napi_ok ? alone : NULL;
 }
 
+/* standAt(map, path, mostNames, refusal): names the sources by the path at which the map stands; or false, with the numbers of the
+ * refusal. No other holds the map. */
+napi_value stand_at(napi_env env, struct held *held, smap_text path, uint64_t most, double *numbers) {
+    napi_value done;
+    smap_refusal refusal = {0};
+    uint32_t status = smap_map_stand_at(&held->map, path.bytes, path.length, most, &refusal);
+    if (status == SMAP_NO_MEMORY) return refuse(env, "out of memory");
+    if (status == SMAP_REFUSED) put_refusal(&refusal, numbers);
+    return napi_get_boolean(env, status == SMAP_DONE, &done) == napi_ok ? done : NULL;
+}
+
 /* The source of this number. */
 static bool source_of(napi_env env, struct held *held, uint32_t index, smap_source_text *source) {
     if (smap_source(&held->map, index, source) == SMAP_DONE) return true;

@@ -22,32 +22,39 @@ void end_list(struct addon *addon) {
     addon->listed.at = NULL;
 }
 
-/* listMappings(map): begins to hand out the mappings of the map piece by piece. Gives the line of the last one, or -1 where there is none. */
-napi_value list_mappings(napi_env env, struct held *held) {
+/* Puts the next ones into a room, and gives how many numbers those are. Once all were put, nothing is kept of them. */
+static size_t put_next(struct addon *addon, struct numbers given) {
+    smap_text text = SMAP_TEXT;
+    if (!addon->listed.at) return 0;
+    smap_bytes_text(&addon->listed, &text);
+    size_t left = text.length - addon->handed, size = given.count * sizeof *given.at;
+    size -= size % sizeof(smap_mapping);
+    if (size > left) size = left;
+    memcpy(given.at, text.bytes + addon->handed, size);
+    addon->handed += size;
+    if (!size || size == left) end_list(addon);
+    return size / sizeof *given.at;
+}
+
+/* listMappings(map, numbers, last): begins to hand out the mappings of the map piece by piece, as nextMappings does. In a Float64Array the
+ * line of the last one of all stands then, or -1 where there is none. */
+napi_value list_mappings(napi_env env, struct held *held, struct numbers given, double *last) {
     struct addon *addon = addon_of(env);
     smap_bytes bytes = {0};
     smap_text text = SMAP_TEXT;
     end_list(addon);
     if (smap_map_mappings(&held->map, &bytes) != SMAP_DONE) return refuse(env, "out of memory");
     smap_bytes_text(&bytes, &text);
-    addon->listed = bytes, addon->handed = 0;
     const smap_mapping *end = (const smap_mapping *)(text.bytes + text.length);
-    return number(env, text.length ? (double)end[-1].line : -1);
+    last[0] = text.length ? (double)end[-1].line : -1;
+    addon->listed = bytes, addon->handed = 0;
+    return number(env, (double)put_next(addon, given));
 }
 
-/* nextMappings(numbers): puts the next ones into a Uint32Array, as `mappings` has them, and gives how many numbers those are. Where that is 0,
- * nothing is kept of them any more. */
+/* nextMappings(numbers): puts the next ones into a Uint32Array, as `mappings` has them, and gives how many numbers those are. Where it has no
+ * room, no more are kept. */
 napi_value next_mappings(napi_env env, struct numbers given) {
-    smap_text text = SMAP_TEXT;
-    struct addon *addon = addon_of(env);
-    if (addon->listed.at) smap_bytes_text(&addon->listed, &text);
-    size_t left = addon->listed.at ? text.length - addon->handed : 0, size = given.count * sizeof *given.at;
-    size -= size % sizeof(smap_mapping);
-    if (size > left) size = left;
-    memcpy(given.at, text.bytes + (size ? addon->handed : 0), size);
-    addon->handed += size;
-    if (!size) end_list(addon);
-    return number(env, (double)(size / sizeof *given.at));
+    return number(env, (double)put_next(addon_of(env), given));
 }
 
 /* encode(mappings, refusal): the text of mappings in a Uint32Array, as `mappings` has them, as a Buffer; or null, with the

@@ -151,21 +151,26 @@ napi_value table_counts(napi_env env, struct held *table, napi_value array, doub
     return array;
 }
 
-/* URLs are looked up in the table with or without query and fragment. */
-static const smap_table_options cut = {.after = false, .cut = true};
-
 /* What a look-up is answered: what was found, its source and its name. */
 struct answer { smap_found found; smap_source_text source; smap_text name; };
 
-/* Looks a place up in the table, or else in the store, where that is a use of its map or not. */
-static uint32_t answer_of(struct held *table, const struct url *url, uint32_t line, uint32_t column, bool is_use, struct answer *answer) {
+/* Looks a place up in the table, with or without query and fragment, or else in the store, where that is a use of its map or not. */
+static uint32_t answer_of(struct held *table, const struct url *url, uint32_t line, uint32_t column, bool after, bool is_use, struct answer *answer) {
+    const smap_table_options how = {.after = after, .cut = true};
     uint32_t why = 0;
     *answer = (struct answer){{0}, SMAP_SOURCE, SMAP_TEXT};
-    if (table->given && smap_table_look_up(&table->table, url->bytes, url->length, line, column, &cut, &answer->found, &answer->source, &answer->name) == SMAP_DONE)
+    if (table->given && smap_table_look_up(&table->table, url->bytes, url->length, line, column, &how, &answer->found, &answer->source, &answer->name) == SMAP_DONE)
         return SMAP_DONE;
     const uint64_t time = time_now();
     if (is_use && smap_store_ask(&table->store, url->bytes, url->length, time, &why) != SMAP_DONE) why = 0;
-    return smap_store_look_up(&table->store, url->bytes, url->length, time, line, column, false, &answer->found, &answer->source, &answer->name, &why);
+    return smap_store_look_up(&table->store, url->bytes, url->length, time, line, column, after, &answer->found, &answer->source, &answer->name, &why);
+}
+
+/* The last column of its line for which holds what answers at this place, or TO_THE_END. */
+static uint32_t last_column_of(struct held *table, const struct url *url, uint32_t line, uint32_t column) {
+    struct answer next = {0};
+    const bool is = column < UINT32_MAX && answer_of(table, url, line, column + 1, true, false, &next) == SMAP_DONE;
+    return is && next.found.kind ? next.found.generated_column - 1 : TO_THE_END;
 }
 
 /* Whether a map may be asked for under this URL without its query and its fragment. */
@@ -182,12 +187,13 @@ napi_value find_place(napi_env env, struct held *table, napi_value text, const s
     napi_value texts, name;
     struct answer answer;
     struct addon *addon = table->addon;
-    uint32_t *room = addon->room, status = answer_of(table, url, room[0], room[1], true, &answer);
+    uint32_t *room = addon->room, line = room[0], column = room[1], status = answer_of(table, url, line, column, false, true, &answer);
     if (status == SMAP_WANTED && is_location(url)) return undefined(env);
     if (status != SMAP_DONE) answer.found.kind = 0;
     memcpy(room + 3, &answer.found, sizeof answer.found);
     room[ROOM_IGNORED] = answer.source.ignored;
     if (answer.found.kind != 2) return null(env);
+    room[ROOM_LAST] = last_column_of(table, url, line, column);
     if (answer.found.named && (!(name = string(env, answer.name)) || napi_get_reference_value(env, addon->texts, &texts) != napi_ok ||
                                napi_set_element(env, texts, 0, name) != napi_ok))
         return NULL;
@@ -198,7 +204,7 @@ napi_value find_place(napi_env env, struct held *table, napi_value text, const s
  * stands in the room: 0, 1, or 2 where that is not known. */
 napi_value wanted(napi_env env, struct held *table, napi_value text, const struct url *url) {
     struct answer answer;
-    uint32_t status = table->addon->room[3] = answer_of(table, url, 0, 0, false, &answer);
+    uint32_t status = table->addon->room[3] = answer_of(table, url, 0, 0, false, false, &answer);
     return status == SMAP_WANTED && is_location(url) ? key_of(env, table, text, url) : null(env);
 }
 

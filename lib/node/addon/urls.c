@@ -79,6 +79,12 @@ napi_value locations(napi_env env, smap_text text, bool anywhere) {
     return whole ? result : refuse(env, "out of memory");
 }
 
+/* isPath(url): whether a URL is a path from a root. */
+napi_value is_path(napi_env env, smap_text url) {
+    napi_value is;
+    return napi_get_boolean(env, smap_is_path(url.bytes, url.length) == SMAP_DONE, &is) == napi_ok ? is : NULL;
+}
+
 /* folderPath(prefix, folder, url): the path of the map that a folder has for a URL, or null. */
 napi_value folder_path(napi_env env, smap_text prefix, smap_text folder, smap_text url) {
     smap_bytes path = {0};

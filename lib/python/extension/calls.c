@@ -96,6 +96,18 @@ PyObject *checked_map_use_paths(PyObject *self, PyObject *words) {
     return map_use_paths(held, url);
 }
 
+PyObject *checked_map_stand_at(PyObject *self, PyObject *words) {
+    struct held *held = (struct held *)self;
+    PyObject *words0;
+    struct given path;
+    unsigned long long most_names;
+    if (!PyArg_ParseTuple(words, "OK", &words0, &most_names) ||
+        !bytes_of(words0, &path) ||
+        !ready((struct held *[]){held}, 1))
+        return NULL;
+    return map_stand_at(held, path, most_names);
+}
+
 PyObject *checked_store_key(PyObject *self, PyObject *words) {
     struct held *held = (struct held *)self;
     struct given url;
@@ -201,6 +213,16 @@ PyObject *checked_folder_path(PyObject *self, PyObject *words) {
     if (!PyArg_ParseTuple(words, "OO", &words0, &words1)) return NULL;
     if ((prefix_bytes = url_of(words0, &prefix)) && (url_bytes = url_of(words1, &url))) result = folder_path(prefix, url);
     Py_XDECREF(prefix_bytes);
+    Py_XDECREF(url_bytes);
+    return result;
+}
+
+PyObject *checked_is_path(PyObject *self, PyObject *words) {
+    (void)self;
+    struct given url;
+    PyObject *url_bytes = NULL;
+    PyObject *result = NULL;
+    if ((url_bytes = url_of(words, &url))) result = is_path(url);
     Py_XDECREF(url_bytes);
     return result;
 }

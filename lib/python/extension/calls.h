@@ -11,6 +11,7 @@ PyObject *map_written(struct held *held);
 PyObject *map_bytes_by_source(struct held *held, struct given generated);
 PyObject *map_fit(struct held *held, struct given generated);
 PyObject *map_use_paths(struct held *held, struct given url);
+PyObject *map_stand_at(struct held *held, struct given path, uint64_t most_names);
 PyObject *store_key(struct held *held, struct given url);
 PyObject *store_put(struct held *held, PyObject *url_value, struct given url, struct held *source_map, bool is_named);
 PyObject *store_put_none(struct held *held, struct given url, bool has_failed, uint64_t until);
@@ -21,6 +22,7 @@ PyObject *rewriting_take(struct held *held);
 PyObject *rewriting_counts(struct held *held);
 PyObject *frame_urls(struct given trace, bool anywhere);
 PyObject *folder_path(struct given prefix, struct given url);
+PyObject *is_path(struct given url);
 PyObject *url_refusal(struct given url, struct held *source_map);
 PyObject *compose(struct held *outer, uint32_t source, struct held *inner);
 PyObject *encode(struct given mappings);
@@ -45,6 +47,8 @@ PyObject *checked_map_fit(PyObject *self, PyObject *words);
 #define CHECKED_map_fit {"_fit", checked_map_fit, METH_O, NULL}
 PyObject *checked_map_use_paths(PyObject *self, PyObject *words);
 #define CHECKED_map_use_paths {"_use_paths", checked_map_use_paths, METH_O, NULL}
+PyObject *checked_map_stand_at(PyObject *self, PyObject *words);
+#define CHECKED_map_stand_at {"_stand_at", checked_map_stand_at, METH_VARARGS, NULL}
 PyObject *checked_store_key(PyObject *self, PyObject *words);
 #define CHECKED_store_key {"_key", checked_store_key, METH_O, NULL}
 PyObject *checked_store_put(PyObject *self, PyObject *words);
@@ -65,6 +69,8 @@ PyObject *checked_frame_urls(PyObject *self, PyObject *words);
 #define CHECKED_frame_urls {"frame_urls", checked_frame_urls, METH_VARARGS, NULL}
 PyObject *checked_folder_path(PyObject *self, PyObject *words);
 #define CHECKED_folder_path {"folder_path", checked_folder_path, METH_VARARGS, NULL}
+PyObject *checked_is_path(PyObject *self, PyObject *words);
+#define CHECKED_is_path {"is_path", checked_is_path, METH_O, NULL}
 PyObject *checked_url_refusal(PyObject *self, PyObject *words);
 #define CHECKED_url_refusal {"url_refusal", checked_url_refusal, METH_VARARGS, NULL}
 PyObject *checked_compose(PyObject *self, PyObject *words);
@@ -77,6 +83,7 @@ PyObject *checked_code_text(PyObject *self, PyObject *words);
 /* The functions of the module. */
 #define CHECKED_FUNCTIONS CHECKED_frame_urls, \
     CHECKED_folder_path, \
+    CHECKED_is_path, \
     CHECKED_url_refusal, \
     CHECKED_compose, \
     CHECKED_encode, \

@@ -16,35 +16,17 @@ static bool indexed(struct held *held) {
 }
 
 /* Generated places that were copied. */
-struct places { smap_generated_place *at; size_t count, room; };
+struct places { smap_generated_place *at; size_t count; };
 
-/* Copies those that are lent behind the others. */
-static bool put_places(struct places *places, const smap_generated_places *lent) {
-    size_t count = places->count + lent->count;
-    if (count > places->room) {
-        size_t room = count > 2 * places->room ? count : 2 * places->room;
-        smap_generated_place *at = realloc(places->at, room * sizeof *at);
-        if (!at) {
-            PyErr_NoMemory();
-            return false;
-        }
-        *places = (struct places){at, places->count, room};
-    }
-    if (lent->count) memcpy(places->at + places->count, lent->places, lent->count * sizeof *lent->places);
-    places->count = count;
-    return true;
-}
-
-/* Copies the generated places of an original one or, of a whole line, those of each original column. */
-static bool copy_places(const struct held *held, uint32_t source, uint32_t line, uint32_t column, bool whole, bool after, struct places *places) {
-    smap_generated_places lent;
-    do {
-        lent = (smap_generated_places)SMAP_PLACES;
-        smap_generated(&held->originals, source, line, column, whole || after ? SMAP_AT_OR_AFTER : SMAP_AT_OR_BEFORE, &lent);
-        if (!put_places(places, &lent)) return false;
-        if (lent.count) column = lent.places[0].original_column + 1;
-    } while (whole && lent.count);
-    return true;
+/* Copies the generated places of an original one or, where there is no column, of a whole line. */
+static bool copy_places(const struct held *held, uint32_t source, uint32_t line, const uint32_t *column, bool after, struct places *places) {
+    smap_generated_places lent = SMAP_PLACES;
+    if (column) smap_generated(&held->originals, source, line, *column, after ? SMAP_AT_OR_AFTER : SMAP_AT_OR_BEFORE, &lent);
+    else smap_generated_on_line(&held->originals, source, line, &lent);
+    *places = (struct places){malloc(lent.count * sizeof *lent.places + 1), lent.count};
+    if (places->at) memcpy(places->at, lent.places, lent.count * sizeof *lent.places);
+    else PyErr_NoMemory();
+    return places->at;
 }
 
 /* The code that a tuple may run finds no list with places that are not filled yet. */
@@ -73,8 +55,8 @@ PyObject *map_generated(PyObject *self, PyObject *words) {
     if ((!whole && !place_of(given_column, "column", &column)) || !ready(&held, 1)) return NULL;
     smap_source_text text = SMAP_SOURCE;
     if (!has_source(held, source, given_source, &text) || !indexed(held)) return NULL;
-    struct places places = {NULL, 0, 0};
-    PyObject *list = copy_places(held, source, line, column, whole, after, &places) ? list_of_places(&places) : NULL;
+    struct places places = {NULL, 0};
+    PyObject *list = copy_places(held, source, line, whole ? NULL : &column, after, &places) ? list_of_places(&places) : NULL;
     free(places.at);
     return list;
 }

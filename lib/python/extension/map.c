@@ -101,6 +101,17 @@ PyObject *place_found(const smap_found *found, const smap_source_text *source, s
     return tuple_of(place_class, 6, items);
 }
 
+static PyObject *map_next_column(PyObject *self, PyObject *const *given, Py_ssize_t count, PyObject *named) {
+    static char *names[] = {"line", "column", NULL};
+    struct held *held = (struct held *)self;
+    PyObject *words[2];
+    uint32_t line, column, next = 0;
+    if (!words_of(given, count, named, "OO:next_column", names, words)) return NULL;
+    if (!place_of(words[0], "line", &line) || !place_of(words[1], "column", &column) || !ready(&held, 1)) return NULL;
+    bool is = smap_next_column(&held->map, line, column, &next) == SMAP_DONE;
+    return number_if(is, next);
+}
+
 static PyObject *map_place(PyObject *self, PyObject *const *given, Py_ssize_t count, PyObject *named) {
     struct held *held = (struct held *)self;
     smap_found found = {0};
@@ -309,6 +320,14 @@ PyObject *map_use_paths(struct held *held, struct given url) {
     return smap_map_use_paths(&held->map, url.bytes, url.length) == SMAP_DONE ? none() : PyErr_NoMemory();
 }
 
+/* Names the sources by the path at which the map stands, or gives why not. Nothing else holds the map. */
+PyObject *map_stand_at(struct held *held, struct given path, uint64_t most_names) {
+    smap_refusal refusal = {0};
+    uint32_t status = smap_map_stand_at(&held->map, path.bytes, path.length, most_names, &refusal);
+    if (status == SMAP_REFUSED) return refusal_of(&refusal);
+    return status == SMAP_DONE ? none() : PyErr_NoMemory();
+}
+
 static PyMethodDef map_methods[] = {
     {"close", map_close, METH_NOARGS, "close($self)\n--\n\nFrees the map. It answers nothing any more."},
     {"look_up", WITH_NAMES(map_look_up),
@@ -317,6 +336,9 @@ static PyMethodDef map_methods[] = {
      "look_up_from($self, line, column)\n--\n\nThe first mapping on the line at the position or after it, or None."},
     {"place", WITH_NAMES(map_place),
      "place($self, line, column)\n--\n\nWhere a generated position comes from, or None where no mapping answers that has an original."},
+    {"next_column", WITH_NAMES(map_next_column),
+     "next_column($self, line, column)\n--\n\nThe column of the first mapping on the line behind this one, up to which `look_up` answers "
+     "the same, or None."},
     {"mappings", map_mappings, METH_NOARGS,
      "mappings($self)\n--\n\nAn iterator over all mappings, in their order. It holds 32 bytes of memory for each."},
     {"source", WITH_NAMES(map_source),
@@ -333,7 +355,7 @@ static PyMethodDef map_methods[] = {
     {"_read", map_read, METH_VARARGS, NULL},
     {"_look_up_many", map_look_up_many, METH_VARARGS, NULL},
     {"_generated", map_generated, METH_VARARGS, NULL},
-    CHECKED_map_lines, CHECKED_map_written, CHECKED_map_bytes_by_source, CHECKED_map_fit, CHECKED_map_use_paths,
+    CHECKED_map_lines, CHECKED_map_written, CHECKED_map_bytes_by_source, CHECKED_map_fit, CHECKED_map_use_paths, CHECKED_map_stand_at,
     {"_shared", map_shared, METH_NOARGS, NULL},
     {NULL, NULL, 0, NULL},
 };

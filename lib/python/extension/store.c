@@ -230,6 +230,11 @@ PyObject *store_counted(struct held *held) {
     return Py_BuildValue("KK", (unsigned long long)counts.count, (unsigned long long)(counts.bytes + counts.none_bytes));
 }
 
+/* Whether a URL is a path from a root. */
+PyObject *is_path(struct given url) {
+    return PyBool_FromLong(smap_is_path(url.bytes, url.length) == SMAP_DONE);
+}
+
 /* The path in a folder of the map of a URL that begins with a prefix, or None. */
 PyObject *folder_path(struct given prefix, struct given url) {
     smap_bytes path = {0};

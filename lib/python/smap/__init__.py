@@ -6,7 +6,7 @@
             print(source_map.source(answer.source).name, answer.line + 1, answer.column + 1)
 
 Lines, columns, sources and names count from 0, columns in UTF-16 code units. The library is within the package. `python -m
-smap` prints its version and where it lies.
+smap` is the program, where the package has it.
 """
 
 from ._answers import Answer, Context, Counts, Fit, Generated, Mapping, Place, Source

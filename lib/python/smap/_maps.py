@@ -1,7 +1,6 @@
 """Maps: read, looked up, written and composed."""
 
 import os
-import re
 from array import array
 from pathlib import Path
 from threading import Lock
@@ -9,11 +8,8 @@ from typing import Callable, Iterable, List, Optional, Tuple, Type, TypeVar, Uni
 
 from . import _given, _smap
 from ._answers import Context, Fit, Generated, Mapping, Source
-from ._paths import placed
 from ._reported import Refused, refused_as, refused_base, refused_encoding, refused_map
 
-# How an absolute path begins.
-_PATH = re.compile(r"/|[A-Za-z]:[/\\]")
 # Of the answers of a look-up among many: seven numbers of 32 bits each.
 _ANSWER_BYTES = 7 * 4
 
@@ -57,11 +53,10 @@ class SourceMap(_smap.Map):
         url = None if isinstance(base, os.PathLike) else base
         name, hint = _given.file_name(data) or path or url, _given.path_hint(data)
         self._take(held, url, number, most_names, name, url, hint)
-        if path is not None:
-            # No call of the library takes a path, so the names of the sources are put into the map.
-            text = placed(held, [self.source_name(index) for index in range(self.counts.sources)], path)
+        refusal = None if path is None else self._stand_at(path.encode(), most_names)
+        if refusal is not None:
             self.close()
-            self._take(text, None, number, most_names, name, None)
+            raise refused_map(held, refusal, name, "")
 
     @classmethod
     def from_file(cls: Type[_Map], path: Union[str, "os.PathLike[str]"], base: Optional[Base] = None,
@@ -74,7 +69,7 @@ class SourceMap(_smap.Map):
                most_names: int = _given.NAME_BYTES) -> "SourceMap":
         # The map that is given, or that of these bytes, which stands at the URL, or at none where that is no URL. With `paths` one
         # whose URL is an absolute path stands at none, and has its sources named by that.
-        by_path = paths and _PATH.match(url) is not None
+        by_path = paths and _smap.is_path(url)
         if not isinstance(given, SourceMap):
             source_map, held = cls.__new__(cls), _given.file_bytes(given, "a map")
             source_map._take(held, None if by_path else url, 64, most_names, url, url, or_at_none=True)

@@ -24,6 +24,18 @@ class Refused(ValueError):
     has None.
     """
 
+    code: str
+    cause: Optional[str]
+    section: Optional[int]
+    line: Optional[int]
+    byte: Optional[int]
+    url: Optional[str]
+    lines: Optional[int]
+    value: Optional[int]
+    limit: Optional[int]
+    column: Optional[int]
+    explanation: str
+
     def __init__(self, text: str, code: str, cause: Optional[str] = None, section: Optional[int] = None,
                  line: Optional[int] = None, byte: Optional[int] = None, url: Optional[str] = None,
                  why: Optional["Why"] = None, lines: Optional[int] = None) -> None:

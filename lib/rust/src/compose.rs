@@ -1,7 +1,7 @@
 //! A map composed with those of its sources.
 
 use crate::error::Error;
-use crate::library::{Inners, Map, Reading};
+use crate::library::{is_path, Inners, Map, Reading};
 use crate::map::SourceMap;
 use std::collections::HashMap;
 use std::io;
@@ -65,8 +65,13 @@ impl SourceMap {
     }
 }
 
-/// The map of these bytes, which stands at a name where that is a URL.
+/// The map of these bytes, which stands at a name where that is a URL, or has its sources named by it.
 pub(crate) fn standing_at(name: &str, bytes: &[u8], how: Reading) -> Result<Map, Error> {
+    if how.by_paths && is_path(name) {
+        let mut map = Map::read(bytes, None, how).map_err(|error| error.of(name))?;
+        map.use_paths(name)?;
+        return Ok(map);
+    }
     let at_name = Map::read(bytes, Some(name), how);
     let map = match at_name {
         Err(Error::Refused(refused)) if refused.is_no_url() => Map::read(bytes, None, how),

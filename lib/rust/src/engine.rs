@@ -3,6 +3,8 @@
 use crate::compose::standing_at;
 use crate::error::{Error, Refused};
 use crate::library::{self, Known, Reading, Rewriting, Stop};
+use crate::maps::Found;
+use crate::rewriting::RewriteOptions;
 use crate::sys;
 use crate::table::TraceCounts;
 use crate::urls::read_in;
@@ -28,16 +30,6 @@ const MOST_REFUSALS: usize = 100;
 
 pub(crate) type Loader =
     Box<dyn FnMut(&str, Reading) -> Result<Option<library::Map>, Error> + Send>;
-
-/// What is rewritten.
-#[derive(Clone, Copy, PartialEq, Eq)]
-pub(crate) enum What {
-    Frames,
-    /// Frames, where lines of those from ignored sources are left out.
-    VisibleFrames,
-    /// Places anywhere in a line.
-    Places,
-}
 
 /// The maps that were put into a table, which stay, and beside it a store of those that a loader gave.
 pub(crate) struct Engine {
@@ -112,14 +104,14 @@ impl Engine {
     /// fit are written.
     pub(crate) fn rewrite<R: Read, W: Write>(
         &mut self,
-        what: What,
+        options: RewriteOptions,
         mut reader: R,
         mut writer: W,
     ) -> Result<TraceCounts, Error> {
         let mut text = Rewriting::new(&sys::smap_rewriting_options {
-            hide_ignored: what == What::VisibleFrames,
-            anywhere: what == What::Places,
-            strip_ansi: false,
+            hide_ignored: options.hide_ignored && !options.anywhere,
+            anywhere: options.anywhere,
+            strip_ansi: options.strip_ansi,
             asks: self.load.is_some(),
             most: u64::MAX,
             most_output: self.most_output,
@@ -164,8 +156,19 @@ impl Engine {
         }
     }
 
+    /// The same, if a mapping answers.
+    pub(crate) fn found(
+        &mut self,
+        url: &str,
+        position: (u32, u32),
+        is_after: bool,
+    ) -> Result<Option<Found>, Error> {
+        let found = self.look_up(url.as_bytes(), position, is_after)?;
+        Ok(found.and_then(|found| Found::of(position.0, found)))
+    }
+
     /// What answers at a position in the map of a URL.
-    pub(crate) fn look_up(
+    fn look_up(
         &mut self,
         url: &[u8],
         position: (u32, u32),

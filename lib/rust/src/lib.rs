@@ -14,12 +14,15 @@
 //! have the names of those of the crate `sourcemap` that mean the same; docs/LIBRARY.md of the
 //! repository says what differs. The library is proved, and this crate is not.
 //!
-//! The library is linked statically, or with the feature `dynamic` as a shared one. It is that
-//! below the folder that `SMAP_DIR` names, or else that of this version which pkg-config knows, or
-//! that of the package for the target in `dist/` of the repository that this crate lies in.
+//! The library is linked statically, or with the feature `dynamic` as a shared one; there are no
+//! default features. It is that below the folder that `SMAP_DIR` names, or else that of this version
+//! which pkg-config knows, or that which was packed into this crate, or that of the package for the
+//! target in `dist/` of the repository that this crate lies in.
 #![deny(missing_docs, unsafe_code)]
 
 mod compose;
+mod context;
+mod encoding;
 mod engine;
 mod error;
 #[allow(unsafe_code)]
@@ -28,6 +31,7 @@ mod map;
 mod maps;
 mod originals;
 mod reading;
+mod rewriting;
 #[allow(unsafe_code)]
 mod sys;
 mod table;
@@ -35,11 +39,14 @@ mod token;
 mod urls;
 
 pub use compose::ComposeOptions;
+pub use context::Context;
+pub use encoding::{encode, Mapping, Original};
 pub use error::{Error, Reason, Refused};
 pub use map::{BytesBySource, Fit, SourceMap};
 pub use maps::{Found, Maps, MapsCounts};
 pub use originals::{Generated, Originals};
 pub use reading::ReadOptions;
+pub use rewriting::RewriteOptions;
 pub use table::{Table, TraceCounts};
 pub use token::{Mappings, Token};
 

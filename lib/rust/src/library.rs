@@ -17,11 +17,11 @@ mod texts;
 
 pub(crate) use bytes::Bytes;
 pub(crate) use inners::Inners;
-pub(crate) use map::{Map, Reading, Source};
+pub(crate) use map::{encoded, Map, Reading, Source};
 pub(crate) use originals::Originals;
 pub(crate) use rewriting::{Rewriting, Stop};
 pub(crate) use store::{Found, Known, Store};
-pub(crate) use table::{cut, is_location, path_below, Table};
+pub(crate) use table::{cut, is_location, is_path, path_below, Table};
 pub(crate) use texts::{code_text, reason, version};
 
 use crate::error::Error;

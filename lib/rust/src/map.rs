@@ -11,7 +11,8 @@ use std::sync::Arc;
 /// A source map that was read, a regular one or an index map.
 ///
 /// A thread that has one may hand it to another. For several that look up at once, give each its
-/// own by [`share`](SourceMap::share): one call at a time may use it, so it is not `Sync`:
+/// own by [`share`](SourceMap::share). It is `Send`, and not `Sync`: the library takes a handle for
+/// itself in each call, also in those that only read, so two threads may not call it at once:
 ///
 /// ```compile_fail
 /// fn shared<T: Sync>() {}
@@ -98,6 +99,18 @@ impl SourceMap {
     /// ```
     pub fn lookup_after(&self, line: u32, column: u32) -> Option<Token<'_>> {
         Token::found(self, line, &self.map.look_up_from(line, column))
+    }
+
+    /// The column of the first mapping on the line behind this column: up to there
+    /// [`lookup`](SourceMap::lookup) answers the same. `None` where it does to the line's end.
+    ///
+    /// ```
+    /// # let map = smap::SourceMap::from_slice(br#"{"version":3,"sources":["a.ts"],"mappings":"EAAA,IAEC"}"#)?;
+    /// assert_eq!((map.next_column(0, 2), map.next_column(0, 6)), (Some(6), None));
+    /// # Ok::<(), smap::Error>(())
+    /// ```
+    pub fn next_column(&self, line: u32, column: u32) -> Option<u32> {
+        self.map.next_column(line, column)
     }
 
     /// All mappings in their order. The iterator holds 32 bytes of memory for each.
@@ -221,6 +234,17 @@ impl SourceMap {
     /// ```
     pub fn get_file(&self) -> Option<&str> {
         self.texts.file.as_deref()
+    }
+
+    /// About how many bytes of memory the library takes for the map.
+    ///
+    /// ```
+    /// # let map = smap::SourceMap::from_slice(br#"{"version":3,"sources":["a.ts"],"mappings":"EAAA,IAEC"}"#)?;
+    /// assert!(map.nbytes() > 160);
+    /// # Ok::<(), smap::Error>(())
+    /// ```
+    pub fn nbytes(&self) -> u64 {
+        self.map.size()
     }
 
     /// The text of one regular map that states the same.

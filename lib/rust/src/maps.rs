@@ -6,9 +6,10 @@ mod found;
 pub use counts::MapsCounts;
 pub use found::Found;
 
-use crate::engine::{folder_of, reading, Engine, Loader, What};
+use crate::engine::{folder_of, reading, Engine, Loader};
 use crate::error::Error;
 use crate::map::SourceMap;
+use crate::rewriting::RewriteOptions;
 use crate::table::TraceCounts;
 use std::fmt;
 use std::io::{self, Read, Write};
@@ -135,6 +136,19 @@ impl Maps {
         self.engine.how.most_names = bytes;
     }
 
+    /// Whether the sources of a map that the loader gives for an absolute path are named by that, as
+    /// [`Table::set_paths`](crate::Table::set_paths) has it.
+    ///
+    /// ```
+    /// let mut maps = smap::Maps::with_loader(1 << 20, |_| Ok(Some(r#"{"version":3,"sources":["../a.ts"],"mappings":"AAEA"}"#)))?;
+    /// maps.set_paths(true);
+    /// assert_eq!(maps.lookup("/srv/dist/a.js", 0, 6)?.unwrap().get_source(), Some("/srv/a.ts"));
+    /// # Ok::<(), smap::Error>(())
+    /// ```
+    pub fn set_paths(&mut self, is_so: bool) {
+        self.engine.how.by_paths = is_so;
+    }
+
     /// Puts the map of this very URL, in the place of what was known under it. Both share it. One that
     /// begins with `*` is a pattern, as [`Table::insert`](crate::Table::insert) has it: its map counts
     /// for nothing, stays, and is put once.
@@ -233,10 +247,7 @@ impl Maps {
         line: u32,
         column: u32,
     ) -> Result<Option<Found>, Error> {
-        let found = self
-            .engine
-            .look_up(url.as_ref().as_bytes(), (line, column), false)?;
-        Ok(found.and_then(|found| Found::of(line, found)))
+        self.engine.found(url.as_ref(), (line, column), false)
     }
 
     /// The same in the other direction, as [`SourceMap::lookup_after`] has it.
@@ -252,10 +263,7 @@ impl Maps {
         line: u32,
         column: u32,
     ) -> Result<Option<Found>, Error> {
-        let found = self
-            .engine
-            .look_up(url.as_ref().as_bytes(), (line, column), true)?;
-        Ok(found.and_then(|found| Found::of(line, found)))
+        self.engine.found(url.as_ref(), (line, column), true)
     }
 
     /// The map of a URL, where it has one. It stays when this one drops it.
@@ -288,7 +296,7 @@ impl Maps {
         reader: R,
         writer: W,
     ) -> Result<TraceCounts, Error> {
-        self.engine.rewrite(What::Frames, reader, writer)
+        self.rewrite_with(RewriteOptions::new(), reader, writer)
     }
 
     /// The same, and lines of frames from sources that the map ignores are left out.
@@ -307,7 +315,11 @@ impl Maps {
         reader: R,
         writer: W,
     ) -> Result<TraceCounts, Error> {
-        self.engine.rewrite(What::VisibleFrames, reader, writer)
+        self.rewrite_with(
+            RewriteOptions::new().with_hide_ignored(true),
+            reader,
+            writer,
+        )
     }
 
     /// Rewrites each place URL:line:column, wherever it stands in a line, as
@@ -327,7 +339,27 @@ impl Maps {
         reader: R,
         writer: W,
     ) -> Result<TraceCounts, Error> {
-        self.engine.rewrite(What::Places, reader, writer)
+        self.rewrite_with(RewriteOptions::new().with_anywhere(true), reader, writer)
+    }
+
+    /// Rewrites a text as these options say, as [`Table::rewrite_with`](crate::Table::rewrite_with) does.
+    ///
+    /// ```
+    /// let mut maps = smap::Maps::with_loader(1 << 20, |_| {
+    ///     Ok(Some(r#"{"version":3,"sources":["a.ts"],"mappings":"AAEA"}"#))
+    /// })?;
+    /// let options = smap::RewriteOptions::new().with_strip_ansi(true);
+    /// let counts = maps.rewrite_with(options, "f@\x1b[36ma.js\x1b[39m:1:7\n".as_bytes(), std::io::sink())?;
+    /// assert_eq!(counts.mapped, 1);
+    /// # Ok::<(), smap::Error>(())
+    /// ```
+    pub fn rewrite_with<R: Read, W: Write>(
+        &mut self,
+        options: RewriteOptions,
+        reader: R,
+        writer: W,
+    ) -> Result<TraceCounts, Error> {
+        self.engine.rewrite(options, reader, writer)
     }
 
     /// How many bytes one call writes at most, as

@@ -79,6 +79,20 @@ impl Originals {
         self.originals.at_or_after(source, line, column)
     }
 
+    /// All generated places whose originals stand on a line of a source, from 0: by original columns, and
+    /// those of one in their order. A breakpoint on the line stops there.
+    ///
+    /// ```
+    /// # let map = smap::SourceMap::from_slice(br#"{"version":3,"sources":["a.ts"],"mappings":"AAAE,EAAF,EAEA"}"#)?;
+    /// let originals = map.originals()?;
+    /// let columns: Vec<_> = originals.on_line(0, 0).map(|place| place.column).collect();
+    /// assert_eq!(columns, [2, 0]);
+    /// # Ok::<(), smap::Error>(())
+    /// ```
+    pub fn on_line(&self, source: u32, line: u32) -> impl ExactSizeIterator<Item = Generated> + '_ {
+        self.originals.on_line(source, line)
+    }
+
     pub(crate) fn of(originals: library::Originals) -> Originals {
         Originals { originals }
     }

@@ -18,6 +18,7 @@ use crate::map::SourceMap;
 pub struct ReadOptions {
     base: Option<String>,
     path: Option<String>,
+    map_path: Option<String>,
     how: Reading,
 }
 
@@ -32,6 +33,7 @@ impl ReadOptions {
         ReadOptions {
             base: None,
             path: None,
+            map_path: None,
             how: Reading::USUAL,
         }
     }
@@ -59,6 +61,20 @@ impl ReadOptions {
     /// ```
     pub fn with_path(mut self, path: impl Into<String>) -> ReadOptions {
         self.path = Some(path.into());
+        self
+    }
+
+    /// The path of the map file, which need not be absolute: sources that the map names by paths go on
+    /// from its folder; with a base none do.
+    ///
+    /// ```
+    /// let options = smap::ReadOptions::new().with_map_path("dist/app.js.map");
+    /// let map = options.read(br#"{"version":3,"sources":["../src/x.ts"],"mappings":""}"#)?;
+    /// assert_eq!(map.get_source(0), Some("src/x.ts"));
+    /// # Ok::<(), smap::Error>(())
+    /// ```
+    pub fn with_map_path(mut self, path: impl Into<String>) -> ReadOptions {
+        self.map_path = Some(path.into());
         self
     }
 
@@ -101,6 +117,9 @@ impl ReadOptions {
         let mut map = Map::read(map, self.base.as_deref(), self.how)?;
         if let Some(path) = &self.path {
             map.use_paths(path)?;
+        }
+        if let Some(path) = &self.map_path {
+            map.stand_at(path, self.how.most_names)?;
         }
         Ok(SourceMap::of(map))
     }

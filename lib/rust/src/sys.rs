@@ -350,6 +350,14 @@ extern "C" {
         refusal: *mut smap_refusal,
     ) -> u32;
     pub fn smap_map_use_paths(map: *mut smap_map, url: *const u8, length: usize) -> u32;
+    pub fn smap_is_path(url: *const u8, length: usize) -> u32;
+    pub fn smap_map_stand_at(
+        map: *mut smap_map,
+        path: *const u8,
+        length: usize,
+        most_names: u64,
+        refusal: *mut smap_refusal,
+    ) -> u32;
     pub fn smap_map_share(map: *mut smap_map, other: *mut smap_map) -> u32;
     pub fn smap_map_free(map: *mut smap_map);
     pub fn smap_code_text(code: smap_code, text: *mut smap_text) -> u32;
@@ -379,6 +387,7 @@ extern "C" {
         found: *mut smap_found,
         places: usize,
     ) -> u32;
+    pub fn smap_next_column(map: *const smap_map, line: u32, column: u32, next: *mut u32) -> u32;
     pub fn smap_originals_new(map: *const smap_map, originals: *mut smap_originals) -> u32;
     pub fn smap_generated(
         originals: *const smap_originals,
@@ -386,6 +395,12 @@ extern "C" {
         line: u32,
         column: u32,
         direction: u32,
+        places: *mut smap_generated_places,
+    ) -> u32;
+    pub fn smap_generated_on_line(
+        originals: *const smap_originals,
+        source: u32,
+        line: u32,
         places: *mut smap_generated_places,
     ) -> u32;
     pub fn smap_originals_free(originals: *mut smap_originals);

@@ -4,9 +4,11 @@ mod counts;
 
 pub use counts::TraceCounts;
 
-use crate::engine::{folder_of, reading, Engine, Loader, What};
+use crate::engine::{folder_of, reading, Engine, Loader};
 use crate::error::Error;
 use crate::map::SourceMap;
+use crate::maps::Found;
+use crate::rewriting::RewriteOptions;
 use std::fmt;
 use std::io::{self, Read, Write};
 use std::path::PathBuf;
@@ -150,6 +152,22 @@ impl Table {
         self.engine.how.most_names = bytes;
     }
 
+    /// Whether the sources of a map that the loader gives for an absolute path are named by that, as node
+    /// prints them: relative ones go on from its folder, as
+    /// [`ReadOptions::with_path`](crate::ReadOptions::with_path) has it.
+    ///
+    /// ```
+    /// let mut table = smap::Table::with_loader(|_| Ok(Some(r#"{"version":3,"sources":["../a.ts"],"mappings":"AAEA"}"#)))?;
+    /// table.set_paths(true);
+    /// let mut rewritten = Vec::new();
+    /// table.rewrite("    at f (/srv/dist/a.js:1:7)\n".as_bytes(), &mut rewritten)?;
+    /// assert_eq!(rewritten, b"    at f (/srv/a.ts:3:1)\n");
+    /// # Ok::<(), smap::Error>(())
+    /// ```
+    pub fn set_paths(&mut self, is_so: bool) {
+        self.engine.how.by_paths = is_so;
+    }
+
     /// The URLs whose maps the loader could not give, or whose maps were refused, and why: the first
     /// 100 of them.
     ///
@@ -188,7 +206,7 @@ impl Table {
         reader: R,
         writer: W,
     ) -> Result<TraceCounts, Error> {
-        self.engine.rewrite(What::Frames, reader, writer)
+        self.rewrite_with(RewriteOptions::new(), reader, writer)
     }
 
     /// The same, and lines of frames from sources that the map ignores are left out.
@@ -208,7 +226,11 @@ impl Table {
         reader: R,
         writer: W,
     ) -> Result<TraceCounts, Error> {
-        self.engine.rewrite(What::VisibleFrames, reader, writer)
+        self.rewrite_with(
+            RewriteOptions::new().with_hide_ignored(true),
+            reader,
+            writer,
+        )
     }
 
     /// Rewrites each place URL:line:column, wherever it stands in a line. A loader is asked for what
@@ -229,7 +251,64 @@ impl Table {
         reader: R,
         writer: W,
     ) -> Result<TraceCounts, Error> {
-        self.engine.rewrite(What::Places, reader, writer)
+        self.rewrite_with(RewriteOptions::new().with_anywhere(true), reader, writer)
+    }
+
+    /// Rewrites a text as these options say.
+    ///
+    /// ```
+    /// # use smap::{RewriteOptions, SourceMap, Table};
+    /// # let map = SourceMap::from_slice(br#"{"version":3,"sources":["a.ts"],"mappings":"AAEA"}"#)?;
+    /// # let mut table = Table::new()?;
+    /// # table.insert("a.js", map)?;
+    /// let options = RewriteOptions::new().with_strip_ansi(true);
+    /// let mut rewritten = Vec::new();
+    /// table.rewrite_with(options, "f@\x1b[36ma.js\x1b[39m:1:7\n".as_bytes(), &mut rewritten)?;
+    /// assert_eq!(rewritten, b"f@a.ts:3:1\n");
+    /// # Ok::<(), smap::Error>(())
+    /// ```
+    pub fn rewrite_with<R: Read, W: Write>(
+        &mut self,
+        options: RewriteOptions,
+        reader: R,
+        writer: W,
+    ) -> Result<TraceCounts, Error> {
+        self.engine.rewrite(options, reader, writer)
+    }
+
+    /// The original of a generated position in the map that frames of this URL have, all from 0, columns
+    /// in UTF-16 code units, as [`SourceMap::lookup`] has it. `None` where the URL has no map, or no
+    /// mapping of it answers.
+    ///
+    /// ```
+    /// let mut table = smap::Table::with_folder("https://example.test/", "../../examples")?;
+    /// let found = table.lookup("https://example.test/receipt.min.js", 1, 4471)?.unwrap();
+    /// assert_eq!(found.get_src(), Some((10, 46)));
+    /// # Ok::<(), smap::Error>(())
+    /// ```
+    pub fn lookup(
+        &mut self,
+        url: impl AsRef<str>,
+        line: u32,
+        column: u32,
+    ) -> Result<Option<Found>, Error> {
+        self.engine.found(url.as_ref(), (line, column), false)
+    }
+
+    /// The same in the other direction, as [`SourceMap::lookup_after`] has it.
+    ///
+    /// ```
+    /// let mut table = smap::Table::with_folder("https://example.test/", "../../examples")?;
+    /// assert!(table.lookup_after("https://example.test/receipt.min.js", 1, 4470)?.is_some());
+    /// # Ok::<(), smap::Error>(())
+    /// ```
+    pub fn lookup_after(
+        &mut self,
+        url: impl AsRef<str>,
+        line: u32,
+        column: u32,
+    ) -> Result<Option<Found>, Error> {
+        self.engine.found(url.as_ref(), (line, column), true)
     }
 }
 

@@ -1,13 +1,15 @@
 //! Mappings, and what they lead to.
 
+use crate::encoding::Original;
 use crate::library::Bytes;
 use crate::map::SourceMap;
 use crate::sys;
 use std::fmt;
 use std::iter::FusedIterator;
 
-/// The kind of an answer that leads to an original, and of none.
+/// The kind of an answer that leads to an original, of one that leads to none, and of no answer.
 pub(crate) const MAPPED: u32 = 2;
+pub(crate) const UNMAPPED: u32 = 1;
 pub(crate) const NONE: u32 = 0;
 
 /// A mapping: a generated position, and the original one where it has one. All lines, columns and
@@ -30,14 +32,6 @@ pub struct Token<'a> {
     original: Option<Original>,
 }
 
-#[derive(Clone, Copy)]
-struct Original {
-    source: u32,
-    line: u32,
-    column: u32,
-    name: Option<u32>,
-}
-
 impl<'a> Token<'a> {
     /// What a look-up on this line answers.
     pub(crate) fn found(
@@ -56,6 +50,10 @@ impl<'a> Token<'a> {
                 name: (found.named != 0).then_some(found.name),
             }),
         })
+    }
+
+    pub(crate) fn original(&self) -> Option<Original> {
+        self.original
     }
 
     /// The generated line.

@@ -2,7 +2,10 @@
 ghost use Rattle.std.specs.Prelude.{IfOk, IsSome};
 
 use crate::handles::{MapHandle, OriginalsHandle};
-use crate::originals::{GeneratedPlaces, smap_generated, smap_originals_free, smap_originals_new};
+use crate::originals::{
+    GeneratedPlaces, smap_generated, smap_generated_on_line, smap_originals_free,
+    smap_originals_new,
+};
 use crate::status::{DONE, REFUSED};
 use crate::tests::read_map;
 use smap_originals::Originals;
@@ -55,6 +58,17 @@ fn places_at_the_column_behind_are_lent(rt: HostRuntime) -> Result<(), Fail> {
     let status = smap_generated(rt.alloc(), &mut originals, 0, 0, 5, 1, &mut found);
     assert!(&rt; status == DONE && found.places.len() == 1);
     assert!(&rt; found.places[0].line == 1 && found.places[0].original_column == 6);
+    Ok(())
+}
+
+#[test]
+fn places_of_a_whole_line_are_lent(rt: HostRuntime) -> Result<(), Fail> {
+    let mut originals = originals_of_map(&rt, rt.alloc())?;
+    let mut found = GeneratedPlaces { places: &[] };
+    let status = smap_generated_on_line(rt.alloc(), &mut originals, 0, 0, &mut found);
+    assert!(&rt; status == DONE && found.places.len() == 3);
+    assert!(&rt; found.places[1].column == 4 && found.places[1].original_column == 2);
+    assert!(&rt; found.places[2].line == 1 && found.places[2].original_column == 6);
     Ok(())
 }
 

@@ -6,7 +6,7 @@ use super::{assert_bytes, assert_done, assert_refused, assert_text, no_bytes, no
 use crate::frames::smap_cut_url;
 use crate::handles::TableHandle;
 use crate::lines::{LineBytes, LineRange, smap_source_lines};
-use crate::look_up::Found;
+use crate::look_up::FoundNumbers;
 use crate::size::smap_map_size;
 use crate::status::REFUSED;
 use crate::table_look_up::{TableOptions, smap_table_look_up};
@@ -35,8 +35,8 @@ pub(super) fn table_of(rt: &impl Abort, alloc: Global, url: &str) -> Result<Tabl
     Ok(table)
 }
 
-fn nothing_found() -> Found {
-    Found {
+fn nothing_found() -> FoundNumbers {
+    FoundNumbers {
         kind: 9,
         generated_column: 9,
         source: 9,

@@ -4,7 +4,7 @@ ghost use Rattle.std.specs.Prelude.{◌≡◌, IfOk, IsSome};
 use super::{assert_done, assert_refused, assert_text, no_bytes, no_map, no_table, read_map};
 use crate::asking::{smap_folder_path, smap_is_location};
 use crate::handles::{RewritingHandle, StoreHandle};
-use crate::look_up::Found;
+use crate::look_up::FoundNumbers;
 use crate::piecewise::{
     RewritingOptions, smap_rewriting_allow, smap_rewriting_clear, smap_rewriting_count,
     smap_rewriting_end, smap_rewriting_free, smap_rewriting_give, smap_rewriting_new,
@@ -101,7 +101,7 @@ fn a_store_answers_what_was_put(rt: HostRuntime) -> Result<(), Fail> {
 fn a_store_lends_the_source_that_answers(rt: HostRuntime) -> Result<(), Fail> {
     let alloc = rt.alloc();
     let mut store = new_store(&rt, alloc)?;
-    let mut found = Found {
+    let mut found = FoundNumbers {
         kind: 9,
         generated_column: 9,
         source: 9,

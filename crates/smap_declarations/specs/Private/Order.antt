@@ -7,9 +7,9 @@ use Rattle.std.specs.declared.cmp.Ordering.{Ordering}
 use Rattle.std.specs.declared.cmp.Ordering.TheVariants.{Less, Equal, Greater}
 use Rattle.smap_declarations.specs.Declarations.{Named}
 use Rattle.smap_declarations.specs.Walk.{is_at_or_before}
-use Rattle.smap_declarations.specs.declared.walk.Place.{Place}
+use Rattle.smap_declarations.specs.declared.walk.DeclarationPlace.{DeclarationPlace}
 
-abbrev pub place_cmp : Place → Place → Ordering
+abbrev pub place_cmp : DeclarationPlace → DeclarationPlace → Ordering
 place_cmp = then_cmp (on (λ place. place.line) nat_cmp) (on (λ place. place.column) nat_cmp)
 
 abbrev pub named_cmp : Named → Named → Ordering
@@ -25,5 +25,5 @@ by_name Equal by_place = by_place
 by_name Greater by_place = false
 
 -- a declaration stands before this name at this place, or is of it and not behind the place
-abbrev pub is_up_to : (name : List ℕ) → Place → Named → Bool
+abbrev pub is_up_to : (name : List ℕ) → DeclarationPlace → Named → Bool
 is_up_to name place named = by_name (slice_cmp nat_cmp named.name name) (is_at_or_before named.place place)

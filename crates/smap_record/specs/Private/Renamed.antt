@@ -1,18 +1,26 @@
 -- The new names of sources.
 use Rattle.std.specs.Prelude.{ℕ, List, [], ◌∷◌, Option, Some, None}
+use Rattle.smap_resolve.specs.Beside.{name_beside}
 use Rattle.smap_resolve.specs.ByPath.{name_by_path}
+use Rattle.smap_record.specs.declared.named_sources.StandsAt.{StandsAt}
+use Rattle.smap_record.specs.declared.named_sources.StandsAt.TheVariants.{Path, Url}
 use Rattle.smap_record.specs.Sources.{StatedSource, with_name, with_name_at}
 use Rattle.smap_resolve.specs.SourceName.{Name}
 use Rattle.smap_resolve.specs.SourceName.Name.{resolved, kept}
 
--- the text that a source is called by instead, where there is one
-abbrev pub text_of_name : (url : List ℕ) → Option Name → Option (List ℕ)
-text_of_name url None = None
-text_of_name url (Some (resolved other)) = None
-text_of_name url (Some (kept text)) = name_by_path url text
+-- what another text is called by instead, where the map stands at this place
+abbrev pub name_at : StandsAt → (place name : List ℕ) → Option (List ℕ)
+name_at Url place name = name_by_path place name
+name_at Path place name = name_beside place name
 
-abbrev pub text_of_source : (url : List ℕ) → StatedSource → Option (List ℕ)
-text_of_source url source = text_of_name url source.name
+-- the text that a source is called by instead, where there is one
+abbrev pub text_of_name : (instead : List ℕ → Option (List ℕ)) → Option Name → Option (List ℕ)
+text_of_name instead None = None
+text_of_name instead (Some (resolved other)) = None
+text_of_name instead (Some (kept text)) = instead text
+
+abbrev pub text_of_source : (instead : List ℕ → Option (List ℕ)) → StatedSource → Option (List ℕ)
+text_of_source instead source = text_of_name instead source.name
 
 -- a source that is called by this text, where there is one
 abbrev pub with_text : Option (List ℕ) → StatedSource → StatedSource

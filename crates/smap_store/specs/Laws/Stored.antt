@@ -47,7 +47,7 @@ module _ {L : Type 0} (Loads : LoadsStep L) where
 
   -- which one it is where the map of a URL was looked for
   pub found_moves : (old : StoredSeen L) (url : List ℕ) (new : StoredSeen L) → FindsIn Loads old url new → Moves old (key_for old.locations url) new
-  found_moves old url new finds = moved old (key_for old.locations url) new (known_of old.words old.locations url) finds.steps
+  found_moves old url new finds = moved old (key_for old.locations url) new (known_of old.exact old.locations url) finds.steps
 
 module _ {L : Type 0} (MayLoad : LoadsMay L) where
   none_may : (loader : L) (url : List ℕ) (path : Option (List ℕ)) (found : Option MapRecord) → found ≡ None → MayCome MayLoad loader url path found
@@ -61,7 +61,7 @@ module _ {L : Type 0} (MayLoad : LoadsMay L) where
   some_for maps url path (Some known) = (known, refl)
 
   pub some_in : (maps : StoredSeen L) (url : List ℕ) → (found : Option MapRecord) × GivesIn MayLoad maps url found
-  some_in maps url = some_for maps url (path_for maps.locations url) (known_of maps.words maps.locations url)
+  some_in maps url = some_for maps url (path_for maps.locations url) (known_of maps.exact maps.locations url)
 
   module _ (Loads : LoadsStep L)
       (given : (loader after : L) (url path : List ℕ) (came : Came) → Loads loader url path came after
@@ -111,9 +111,9 @@ module _ {L : Type 0} (MayLoad : LoadsMay L) where
 
     pub given_in : (old new : StoredSeen L) (url : List ℕ) → FindsIn Loads old url new → GivesIn MayLoad old url (found_in new url)
     given_in old new url finds =
-        let is : found_in new url ≡ or_other (known_of old.words old.locations url) (map_in (kept_under (key_for old.locations url) new.cache)) =
-        λ i. or_other (known_of (finds.words i) (finds.locations i) url) (map_in (kept_under (key_for (finds.locations i) url) new.cache)) in
-        given_for old new url (found_in new url) (known_of old.words old.locations url)
+        let is : found_in new url ≡ or_other (known_of old.exact old.locations url) (map_in (kept_under (key_for old.locations url) new.cache)) =
+        λ i. or_other (known_of (finds.exact i) (finds.locations i) url) (map_in (kept_under (key_for (finds.locations i) url) new.cache)) in
+        given_for old new url (found_in new url) (known_of old.exact old.locations url)
         (found_moves Loads old url new finds) is
 
     module _ (same : (loader after : L) (url path other other_path : List ℕ) (came : Came) (more : Option MapRecord)
@@ -158,8 +158,8 @@ module _ {L : Type 0} (MayLoad : LoadsMay L) where
       pub same_in : (old new : StoredSeen L) (url other : List ℕ) (more : Option MapRecord) → FindsIn Loads old url new
           → GivesIn MayLoad new other more → GivesIn MayLoad old other more
       same_in old new url other more finds gives =
-          let P : List (List ℕ × MapRecord) × LocationsSeen → Type 0 = λ (words, locations).
-          MatchOption (known_of words locations other) (ByCache new (key_for locations other) (path_for locations other) more) (λ known. more ≡ known) in
-          let both : _ ≡ _ = λ i. (finds.words i, finds.locations i) in
-          gives_before old new (key_for old.locations url) other more (known_of old.words old.locations other)
+          let P : List (List ℕ × MapRecord) × LocationsSeen → Type 0 = λ (exact, locations).
+          MatchOption (known_of exact locations other) (ByCache new (key_for locations other) (path_for locations other) more) (λ known. more ≡ known) in
+          let both : _ ≡ _ = λ i. (finds.exact i, finds.locations i) in
+          gives_before old new (key_for old.locations url) other more (known_of old.exact old.locations other)
           (found_moves Loads old url new finds) (subst P both gives)

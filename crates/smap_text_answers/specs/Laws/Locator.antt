@@ -6,10 +6,10 @@ use Rattle.std.proofs.Common.{arith, subst, sym}
 use Rattle.smap_lines.specs.Lines.{Line}
 use Rattle.smap_locations.specs.Locations.{key_for}
 use Rattle.smap_text_answers.specs.Locating.{Locates, MayLocate, located_line}
-use Rattle.smap_text_answers.specs.Place.{Place, place_of}
+use Rattle.smap_text_answers.specs.UrlPlace.{UrlPlace, place_of}
 use Rattle.smap_text_answers.specs.Private.Locator.{LocatorBecomes, LocatorReaches, LocatorSteps, no_limit}
 use Rattle.smap_text_answers.specs.declared.locator.Locator.{Locator}
-use Rattle.smap_positions.specs.Places.{bad_place_line}
+use Rattle.smap_printing.specs.Places.{bad_place_line}
 use Rattle.smap_command.specs.declared.options.AnswerOptions.{AnswerOptions}
 use Rattle.smap_record.specs.Record.{MapRecord}
 use Rattle.smap_store.specs.Cache.{kept_under}
@@ -29,15 +29,15 @@ known_found (Some None) kept = refl
 known_found (Some (Some stated)) kept = refl
 
 outcome_found : {L : Type 0} (maps : StoredSeen L) (url : List ℕ) → result_ok (outcome_at maps url) ≡ found_in maps url
-outcome_found maps url = known_found (known_of maps.words maps.locations url) (kept_under (key_for maps.locations url) maps.cache)
+outcome_found maps url = known_found (known_of maps.exact maps.locations url) (kept_under (key_for maps.locations url) maps.cache)
 
 module _ {L : Type 0} (MayLoad : LoadsMay L) where
-  some_of : (options : AnswerOptions) (maps : StoredSeen L) (place : Place) (found : Option MapRecord) → GivesIn MayLoad maps place.url found
+  some_of : (options : AnswerOptions) (maps : StoredSeen L) (place : UrlPlace) (found : Option MapRecord) → GivesIn MayLoad maps place.url found
       → (text : List ℕ) × MayLocate (GivesIn MayLoad maps) options (Some place) text
   some_of options maps place None gives = (located_line options place (Err Unnamed), (Err Unnamed, gives, refl))
   some_of options maps place (Some stated) gives = (located_line options place (Ok stated), (Ok stated, gives, refl))
 
-  some_at : (options : AnswerOptions) (maps : StoredSeen L) (place : Option Place) → (text : List ℕ) × MayLocate (GivesIn MayLoad maps) options place text
+  some_at : (options : AnswerOptions) (maps : StoredSeen L) (place : Option UrlPlace) → (text : List ℕ) × MayLocate (GivesIn MayLoad maps) options place text
   some_at options maps None = (bad_place_line options.form, refl)
   some_at options maps (Some place) = let one = some_in MayLoad maps place.url in some_of options maps place one.0 one.1
 
@@ -47,7 +47,7 @@ module _ {L : Type 0} (MayLoad : LoadsMay L) where
   module _ (Loads : LoadsStep L)
       (given : (loader after : L) (url path : List ℕ) (came : Came) → Loads loader url path came after
       → MayLoad loader url path (record_in came)) where
-    pub became_at : (options : AnswerOptions) (old new : StoredSeen L) (place : Option Place) (text : List ℕ) → Locates (FindsIn Loads) options old place text new
+    pub became_at : (options : AnswerOptions) (old new : StoredSeen L) (place : Option UrlPlace) (text : List ℕ) → Locates (FindsIn Loads) options old place text new
         → MayLocate (GivesIn MayLoad old) options place text
     became_at options old new None text is = is.0
     became_at options old new (Some place) text is = (
@@ -63,7 +63,7 @@ module _ {L : Type 0} (MayLoad : LoadsMay L) where
 
     module _ (same : (loader after : L) (url path other other_path : List ℕ) (came : Came) (more : Option MapRecord)
         → Loads loader url path came after → MayLoad after other other_path more → MayLoad loader other other_path more) where
-      gives_before : (options : AnswerOptions) (old new : StoredSeen L) (place : Option Place) (text : List ℕ)
+      gives_before : (options : AnswerOptions) (old new : StoredSeen L) (place : Option UrlPlace) (text : List ℕ)
           → Locates (FindsIn Loads) options old place text new
           → (other : List ℕ) (found : Option MapRecord) → GivesIn MayLoad new other found → GivesIn MayLoad old other found
       gives_before options old new None text is other found gives = subst (λ m. GivesIn MayLoad m other found) is.1 gives
@@ -72,7 +72,7 @@ module _ {L : Type 0} (MayLoad : LoadsMay L) where
 
       before_at : (options : AnswerOptions) (old new : StoredSeen L)
           → ((other : List ℕ) (found : Option MapRecord) → GivesIn MayLoad new other found → GivesIn MayLoad old other found)
-          → (place : Option Place) (text : List ℕ) → MayLocate (GivesIn MayLoad new) options place text → MayLocate (GivesIn MayLoad old) options place text
+          → (place : Option UrlPlace) (text : List ℕ) → MayLocate (GivesIn MayLoad new) options place text → MayLocate (GivesIn MayLoad old) options place text
       before_at options old new before None text may = may
       before_at options old new before (Some place) text may = (may.0, before place.url _ may.1, may.2)
 

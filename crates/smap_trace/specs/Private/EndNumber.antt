@@ -1,7 +1,7 @@
 -- Of private contracts only: the number that a text ends in.
 use Rattle.std.specs.Prelude.{ℕ, List, Option, Some, None, option_map}
 use Rattle.smap_lines.specs.Numbers.{decimal_number}
-use Rattle.smap_trace.specs.Cuts.{cut_at_last}
+use Rattle.smap_trace.specs.Cuts.{cut_at_last_byte}
 
 abbrev pub with_front : List ℕ → ℕ → List ℕ × ℕ
 with_front front n = (front, n)
@@ -13,4 +13,4 @@ with_number (Some (front, digits)) = option_map (with_front front) (decimal_numb
 
 -- what stands before the last `:`, and the number behind it
 abbrev pub cut_at_number : List ℕ → Option (List ℕ × ℕ)
-cut_at_number text = with_number (cut_at_last 58 text)
+cut_at_number text = with_number (cut_at_last_byte 58 text)

@@ -4,14 +4,15 @@ use Rattle.smap_lines.specs.Lines.{Line}
 use Rattle.smap_record.specs.Record.{MapRecord}
 use Rattle.smap_trace.specs.Frame.{FrameParts}
 use Rattle.smap_trace.specs.FrameOf.{frame_of}
+use Rattle.smap_trace.specs.FunctionNames.{FunctionNames}
 use Rattle.smap_trace.specs.Hiding.{hiding_seen}
 use Rattle.smap_trace.specs.Noted.{AreNotesOf}
 use Rattle.smap_trace.specs.NotesSeen.{notes_seen}
 use Rattle.smap_trace.specs.Passed.{PlaceCount, passed_in}
 use Rattle.smap_trace.specs.Private.Passing.{passed_after}
 use Rattle.smap_trace.specs.Private.Remembered.{is_right}
-use Rattle.smap_trace.specs.Rewriting.{BecomesFrame, Looked, RewriteAsked, asked_seen}
-use Rattle.smap_trace.specs.Rewritten.{Fate, FateStep, is_frame_line, is_hidden, is_mapped, line_after}
+use Rattle.smap_trace.specs.Rewriting.{BecomesNamed, Looked, RewriteAsked, asked_seen}
+use Rattle.smap_trace.specs.Rewritten.{Fate, NamedStep, is_frame_line, is_hidden, is_mapped, line_after}
 use Rattle.smap_trace.specs.UrlNotes.{NamingSeen, NotesSeen, naming_in}
 use Rattle.smap_trace.specs.declared.frame_rewriter.FrameRewriter.{FrameRewriter}
 
@@ -26,8 +27,11 @@ IsLineNoted asked found (Some parts) old new = IsNotedIf asked.is_noted (naming_
 
 module _ {M P : Type 0} where
   -- what a line may become
-  abbrev pub RewriterBecomes : (Gives : M → (url : List ℕ) → Option MapRecord → Type 0) → FrameRewriter M P → Line → (text : List ℕ) → Type 0
-  RewriterBecomes Gives rewriter = BecomesFrame (Gives rewriter.maps.now) (hiding_seen rewriter.options.now.hiding)
+  abbrev pub RewriterBecomes : (Gives : M → (url : List ℕ) → Option MapRecord → Type 0)
+      → (GivesNames : M → (url : List ℕ) → Option MapRecord → Option FunctionNames → Type 0) → (names_any : Bool) → FrameRewriter M P → Line → (text : List ℕ)
+      → Type 0
+  RewriterBecomes Gives GivesNames names_any rewriter =
+      BecomesNamed (Gives rewriter.maps.now) (GivesNames rewriter.maps.now) names_any (hiding_seen rewriter.options.now.hiding)
 
   -- what it remembers is what the maps answer that are found
   abbrev pub is_sound : (found : M → (url : List ℕ) → Option MapRecord) → FrameRewriter M P → Bool
@@ -39,10 +43,11 @@ module _ {M P : Type 0} where
       (new.maps.ghost_name ≡ old.maps.ghost_name) × (new.notes.ghost_name ≡ old.notes.ghost_name) × (new.places.ghost_name ≡ old.places.ghost_name)
 
   -- what it became, and the editor after it
-  pub record RewriterSteps (Finds : M → (url : List ℕ) → M → Type 0) (found : M → (url : List ℕ) → Option MapRecord) (count : P → PlaceCount)
-      (old : FrameRewriter M P) (line : Line) (text : List ℕ) (new : FrameRewriter M P) : Type 0 where
+  pub record RewriterSteps (Finds : M → (url : List ℕ) → M → Type 0) (found : M → (url : List ℕ) → Option MapRecord)
+      (names : M → (url : List ℕ) → Option FunctionNames) (count : P → PlaceCount) (old : FrameRewriter M P) (line : Line) (text : List ℕ)
+      (new : FrameRewriter M P) : Type 0 where
     pub met : Fate
-    pub step : FateStep Finds found (hiding_seen old.options.now.hiding) old.maps.now (frame_of line.bytes) met new.maps.now
+    pub step : NamedStep Finds found names (hiding_seen old.options.now.hiding) old.maps.now (frame_of line.bytes) met new.maps.now
     pub text_is : text ≡ line_after line met
     pub frames : new.frames ≡ old.frames + cond (is_frame_line line) 1 0
     pub mapped : new.mapped ≡ old.mapped + cond (is_mapped met) 1 0

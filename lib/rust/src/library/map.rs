@@ -14,12 +14,15 @@ pub(crate) struct Reading {
     pub interval: u32,
     /// Of how many bytes the names of all sources may be made together.
     pub most_names: u64,
+    /// Whether the sources of one whose URL is an absolute path are named by that.
+    pub by_paths: bool,
 }
 
 impl Reading {
     pub(crate) const USUAL: Reading = Reading {
         interval: 64,
         most_names: 268_435_456,
+        by_paths: false,
     };
 }
 
@@ -84,6 +87,16 @@ impl Map {
         done(status, Refused::nothing)
     }
 
+    /// Names the sources by the path at which the map stands.
+    pub(crate) fn stand_at(&mut self, path: &str, most_names: u64) -> Result<(), Error> {
+        let mut refusal = sys::smap_refusal::default();
+        let status = unsafe {
+            let (bytes, length) = (path.as_ptr(), path.len());
+            sys::smap_map_stand_at(self.handle(), bytes, length, most_names, &mut refusal)
+        };
+        done(status, || Refused::map(refusal, None))
+    }
+
     pub(super) fn full(handle: sys::smap_map) -> Map {
         Map {
             handle: UnsafeCell::new(handle),
@@ -111,6 +124,57 @@ impl Map {
         let mut found = sys::smap_found::default();
         unsafe { sys::smap_look_up_from(self.handle(), line, column, &mut found) };
         found
+    }
+
+    /// Where what answers at this place ends, if it does not hold to the line's end.
+    pub(crate) fn next_column(&self, line: u32, column: u32) -> Option<u32> {
+        let mut next = 0;
+        let status = unsafe { sys::smap_next_column(self.handle(), line, column, &mut next) };
+        (status == sys::SMAP_DONE).then_some(next)
+    }
+
+    /// Lines of the content of a source around one of them, and the number of the first of them.
+    pub(crate) fn lines(
+        &self,
+        source: u32,
+        line: u32,
+        before: u16,
+        after: u16,
+    ) -> Option<(u32, Vec<String>)> {
+        let content = self.content(source)?;
+        let places = usize::from(before) + 1 + usize::from(after);
+        let mut lines = vec![sys::smap_line_bytes::default(); places];
+        let mut range = sys::smap_line_range::default();
+        let status = unsafe {
+            let (rows, found) = (lines.as_mut_ptr(), &mut range);
+            let (before, after) = (before.into(), after.into());
+            sys::smap_source_lines(
+                self.handle(),
+                source,
+                line,
+                before,
+                after,
+                rows,
+                places,
+                found,
+            )
+        };
+        let text_of = |of: &sys::smap_line_bytes| {
+            let bytes = content.as_bytes().get(of.start..)?.get(..of.length)?;
+            Some(String::from_utf8_lossy(bytes).into_owned())
+        };
+        let texts = lines.iter().take(range.count).map(text_of);
+        (status == sys::SMAP_DONE)
+            .then(|| texts.collect())
+            .flatten()
+            .map(|texts| (range.first, texts))
+    }
+
+    /// For how many bytes of memory the map counts.
+    pub(crate) fn size(&self) -> u64 {
+        let mut bytes = 0;
+        unsafe { sys::smap_map_size(self.handle(), &mut bytes) };
+        bytes
     }
 
     pub(crate) fn counts(&self) -> sys::smap_count {
@@ -219,4 +283,14 @@ impl Drop for Map {
     fn drop(&mut self) {
         unsafe { sys::smap_map_free(self.handle.get_mut()) }
     }
+}
+
+/// The text of these mappings.
+pub(crate) fn encoded(mappings: &[sys::smap_mapping]) -> Result<String, Error> {
+    let refusal = Cell::new(sys::smap_encode_refusal::default());
+    let call = |bytes| unsafe {
+        // A pointer to none is not null either.
+        sys::smap_encode(mappings.as_ptr(), mappings.len(), bytes, refusal.as_ptr())
+    };
+    Ok(Bytes::of(call, || Refused::new(refusal.get().code))?.to_text())
 }

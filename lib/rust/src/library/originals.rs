@@ -43,6 +43,15 @@ impl Originals {
         self.generated(source, line, column, sys::SMAP_AT_OR_AFTER)
     }
 
+    pub(crate) fn on_line(
+        &self,
+        source: u32,
+        line: u32,
+    ) -> impl ExactSizeIterator<Item = Generated> + '_ {
+        let call = |lent| unsafe { sys::smap_generated_on_line(&self.handle, source, line, lent) };
+        self.lent(call).iter().map(generated)
+    }
+
     fn generated(
         &self,
         source: u32,
@@ -50,22 +59,34 @@ impl Originals {
         column: u32,
         direction: u32,
     ) -> impl ExactSizeIterator<Item = Generated> + '_ {
+        let call = |lent| unsafe {
+            sys::smap_generated(&self.handle, source, line, column, direction, lent)
+        };
+        self.lent(call).iter().map(generated)
+    }
+
+    /// The places that a call with the handle lends.
+    fn lent(
+        &self,
+        call: impl FnOnce(*mut sys::smap_generated_places) -> u32,
+    ) -> &[sys::smap_generated_place] {
         let nothing = ptr::NonNull::<sys::smap_generated_place>::dangling();
         let mut lent = sys::smap_generated_places {
             places: nothing.as_ptr(),
             count: 0,
         };
+        call(&mut lent);
         // The places stay until the index is freed, which this borrow forbids.
-        let places = unsafe {
-            sys::smap_generated(&self.handle, source, line, column, direction, &mut lent);
-            slice::from_raw_parts(lent.places, lent.count)
-        };
-        places.iter().map(|place| Generated {
-            line: place.line,
-            column: place.column,
-            original_line: place.original_line,
-            original_column: place.original_column,
-        })
+        unsafe { slice::from_raw_parts(lent.places, lent.count) }
+    }
+}
+
+fn generated(place: &sys::smap_generated_place) -> Generated {
+    Generated {
+        line: place.line,
+        column: place.column,
+        original_line: place.original_line,
+        original_column: place.original_column,
     }
 }
 

@@ -69,12 +69,9 @@ impl Store {
 
     /// Puts the map of a URL, which the store holds with it.
     pub(crate) fn put(&mut self, url: &[u8], map: &Map) -> Result<(), Error> {
-        let mut bytes = 0;
-        let status = unsafe {
-            sys::smap_map_size(map.handle(), &mut bytes);
-            let store = &mut self.handle;
-            sys::smap_store_put(store, url.as_ptr(), url.len(), map.handle(), bytes)
-        };
+        let (store, bytes) = (&mut self.handle, map.size());
+        let status =
+            unsafe { sys::smap_store_put(store, url.as_ptr(), url.len(), map.handle(), bytes) };
         done(status, Refused::nothing)
     }
 

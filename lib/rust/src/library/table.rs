@@ -116,6 +116,11 @@ pub(crate) fn cut(url: &[u8]) -> &[u8] {
     &url[..length.min(url.len())]
 }
 
+/// Whether a URL is a path from a root.
+pub(crate) fn is_path(url: &str) -> bool {
+    unsafe { sys::smap_is_path(url.as_ptr(), url.len()) == sys::SMAP_DONE }
+}
+
 /// Whether a map may be asked for under this one, which is cut.
 pub(crate) fn is_location(url: &[u8]) -> bool {
     unsafe { sys::smap_is_location(url.as_ptr(), url.len()) == sys::SMAP_DONE }

@@ -22,7 +22,7 @@ pub struct Found {
 
 impl Found {
     /// What a look-up on this line answers.
-    pub(super) fn of(line: u32, found: library::Found) -> Option<Found> {
+    pub(crate) fn of(line: u32, found: library::Found) -> Option<Found> {
         let answer = &found.found;
         (answer.kind != NONE).then(|| Found {
             generated: (line, answer.generated_column),

@@ -7,8 +7,8 @@ pub returns : goal.returns
 returns g c =
     let options = c.args.options.now in
     let result = c.rewrite_anywhere.result in
-    let over = rw (c.in-Ok.ensures, c.words.ensures, c.locations.ensures) at c.rewrite_anywhere.ensures.ends.whole in
-    let front = rw (c.in-Ok.ensures, c.words.ensures, c.locations.ensures) at c.rewrite_anywhere.ensures.ends.front in
+    let over = rw (c.in-Ok.ensures, c.exact.ensures, c.locations.ensures) at c.rewrite_anywhere.ensures.ends.whole in
+    let front = rw (c.in-Ok.ensures, c.exact.ensures, c.locations.ensures) at c.rewrite_anywhere.ensures.ends.front in
     if_read _ _ (λ read at_first.
     places_end options c.args.table.now read c.rewrite_anywhere.new.output.bytes.items _ _ at_first (ap Some c.requires.empty.0) refl result
     c.requires.anywhere (IfOk-weaker result _ _ (λ summary is. places_table c.args.table.now true _ _ _ _ summary _ _ (refl, refl) is) over) front)

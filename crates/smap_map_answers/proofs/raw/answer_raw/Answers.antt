@@ -12,8 +12,8 @@ returns-in-Ok g c output =
       input = read.0;
       is_input = read.1;
       unwritten = refl;
-      is_report = raw_of_input c.args.line c.args.column read.0 _ (report_of c.answer_bytes.result) (c.in-Ok.ensures.no_failure ∙ c.requires.input_works)
-          (rw (← read.2) c.answer_bytes.ensures);
+      is_report = raw_of_input c.args.line c.args.column read.0 _ (report_of c.answer_mappings_text.result) (c.in-Ok.ensures.no_failure ∙ c.requires.input_works)
+          (rw (← read.2) c.answer_mappings_text.ensures);
     }
 
 pub returns-in-Err-Device : goal.returns-in-Err-Device

@@ -2,7 +2,7 @@ use Rattle.std.proofs.Common.{◌≡◌, sym, ap, subst, ◌∙◌, arith}
 use Rattle.std.proofs.lemmas.Option.{slice_get_within}
 use Rattle.smap_originals.specs.Originals.{order_of, original_order}
 use Rattle.smap_originals.specs.Private.Run.{AreFound, IsSplitAt}
-use Rattle.smap_originals.specs.declared.asked.Direction.TheVariants.{AtOrAfter}
+use Rattle.smap_originals.specs.declared.asked.OriginalDirection.TheVariants.{AtOrAfter}
 use Rattle.smap_originals.proofs.FoundLaws.{found_from, none_from_end, none_from_line}
 use Rattle.smap_originals.proofs.OrderLaws.{no_next, read}
 use Rattle.smap_originals.proofs.run.run_from.Goals as goal

@@ -1,7 +1,7 @@
 use Rattle.std.proofs.Common.{◌≡◌, ◌+◌, ◌-◌, get_or, sym, ap, subst, ◌∙◌, arith}
 use Rattle.smap_originals.specs.Originals.{order_of, original_order}
 use Rattle.smap_originals.specs.Private.Run.{AreFound, IsSplitAt}
-use Rattle.smap_originals.specs.declared.asked.Direction.TheVariants.{AtOrBefore}
+use Rattle.smap_originals.specs.declared.asked.OriginalDirection.TheVariants.{AtOrBefore}
 use Rattle.smap_originals.proofs.FoundLaws.{found_up_to, none_up_to_line, none_up_to_start}
 use Rattle.smap_originals.proofs.OrderLaws.{last_there, no_last, read}
 use Rattle.smap_originals.proofs.run.run_up_to.Goals as goal

@@ -8,5 +8,5 @@ pub returns-in-Ok-Some-clause-refused : goal.returns-in-Ok-Some-clause-refused
 returns-in-Ok-Some-clause-refused c =
     let entry : line_entry c.args.line.now ≡ Ok (Some (c.in-Ok-Some.url.now, c.in-Ok-Some.path.now)) =
     sym (rw c.in-Ok-Some.field-0-is at c.in-Ok-Some.ensures) in
-    rule_refused c.args.words.now c.args.locations.now c.args.line.now c.in-Ok-Some.url.now c.in-Ok-Some.path.now c.add_rule.result entry
+    rule_refused c.args.exact.now c.args.locations.now c.args.line.now c.in-Ok-Some.url.now c.in-Ok-Some.path.now c.add_rule.result entry
     (sym c.is_rule.ensures ∙ c.if-is_rule.true) c.add_rule.ensures.refused

@@ -11,7 +11,7 @@ pub returns-in-Err : goal.returns-in-Err
 returns-in-Err c =
     let turn = YieldsList-turn (YieldsList-from_lines c.args.text.now cc) c.loop-line.yielded _ c.loop-line.yielded_by _ _ c.in-Some.line c.in-Some.is
     c.next.ensures.steps in
-    refused_here c.args.words.now (lines c.args.text.now) (length c.loop-line.yielded) c.in-Some.line.now c.args.locations.now c.loop-line.locations
+    refused_here c.args.exact.now (lines c.args.text.now) (length c.loop-line.yielded) c.in-Some.line.now c.args.locations.now c.loop-line.locations
     c.add_line.new.locations turn c.loop-line.invariant.taken c.in-Err.fault c.loop-line.number c.loop-line.invariant.number c.in-Err.ensures.kept
     c.in-Err.ensures.refused
 
@@ -20,8 +20,8 @@ loop-line-preserved c =
     let turn = YieldsList-turn (YieldsList-from_lines c.args.text.now cc) c.loop-line.yielded _ c.loop-line.yielded_by _ _ c.in-Some.line c.in-Some.is
     c.next.ensures.steps in
     let longer = length_push c.loop-line.yielded c.in-Some.line in
-    let P : ℕ → Type 0 = λ n. AreTaken c.args.words.now (take n (lines c.args.text.now)) c.args.locations.now c.add_line.new.locations in
-    let more = more_taken c.args.words.now (lines c.args.text.now) (length c.loop-line.yielded) c.in-Some.line.now c.args.locations.now c.loop-line.locations
+    let P : ℕ → Type 0 = λ n. AreTaken c.args.exact.now (take n (lines c.args.text.now)) c.args.locations.now c.add_line.new.locations in
+    let more = more_taken c.args.exact.now (lines c.args.text.now) (length c.loop-line.yielded) c.in-Some.line.now c.args.locations.now c.loop-line.locations
     c.add_line.new.locations turn c.loop-line.invariant.taken in
     record {
       number = omega (arith, longer, c.loop-line.invariant.number);
@@ -31,4 +31,4 @@ loop-line-preserved c =
 pub returns : goal.returns
 returns c =
     let end = YieldsList-end (YieldsList-from_lines c.args.text.now cc) c.loop-line.yielded _ c.loop-line.yielded_by _ _ c.in-None.is c.next.ensures.steps in
-    all_taken c.args.words.now (lines c.args.text.now) (length c.loop-line.yielded) c.args.locations.now c.loop-line.locations end.1 c.loop-line.invariant.taken
+    all_taken c.args.exact.now (lines c.args.text.now) (length c.loop-line.yielded) c.args.locations.now c.loop-line.locations end.1 c.loop-line.invariant.taken

@@ -7,5 +7,5 @@ use Rattle.smap_store.proofs.list.add_list.Given as goal
 abbrev pub invariant-loop-line : goal.invariant-loop-line
 invariant-loop-line l = record {
   number : l.number ≡ length l.yielded;
-  taken : AreTaken l.words (take (length l.yielded) (lines l.text)) l.initial.locations l.locations;
+  taken : AreTaken l.exact (take (length l.yielded) (lines l.text)) l.initial.locations l.locations;
 }

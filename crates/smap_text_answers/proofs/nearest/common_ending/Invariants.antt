@@ -1,6 +1,6 @@
 use Rattle.std.proofs.Common.{◌≡◌, ◌+◌, ◌-◌, ◌≤◌, drop, length, nat_eq, reverse}
 use Rattle.std.specs.List.{common_prefix_len}
-use Rattle.smap_text_answers.specs.Nearest.{common_ending}
+use Rattle.smap_text_answers.specs.NearestUrl.{common_ending}
 use Rattle.smap_text_answers.proofs.nearest.common_ending.Given as goal
 
 abbrev pub invariant-loop-count : goal.invariant-loop-count

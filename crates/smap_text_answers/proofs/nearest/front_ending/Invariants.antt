@@ -1,5 +1,5 @@
 use Rattle.std.proofs.Common.{◌≡◌, ◌-◌, ◌≤◌}
-use Rattle.smap_text_answers.specs.Nearest.{front_ending}
+use Rattle.smap_text_answers.specs.NearestUrl.{front_ending}
 use Rattle.smap_text_answers.proofs.nearest.front_ending.Given as goal
 
 abbrev pub invariant-loop-count : goal.invariant-loop-count

@@ -2,8 +2,8 @@ use Rattle.std.proofs.Common.{◌≡◌, ◌==◌, ◌∙◌, ℕ, List, Some, N
 use Rattle.std.proofs.lemmas.Bool.{cond-false, cond-true, false_from_ne_true}
 use Rattle.std.proofs.lemmas.Str.{IsUtf8-from_is_utf8, is_utf8-from_IsUtf8}
 use Rattle.std.specs.Str.{IsUtf8, is_utf8}
-use Rattle.smap_text_answers.specs.Place.{place_with}
-use Rattle.smap_positions.specs.declared.printed_position.PrintedPosition.{PrintedPosition}
+use Rattle.smap_text_answers.specs.UrlPlace.{place_with}
+use Rattle.smap_printing.specs.declared.printed_position.PrintedPosition.{PrintedPosition}
 use Rattle.smap_text_answers.proofs.place.place_at.Goals as goal
 
 text_place : (url text : List ℕ) (position : PrintedPosition) → (length url == 0) ≡ false → text ≡ url → IsUtf8 url

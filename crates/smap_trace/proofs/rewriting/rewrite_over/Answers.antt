@@ -7,7 +7,7 @@ use Rattle.smap_trace.proofs.rewriting.rewrite_over.Goals as goal
 pub returns-clause-ends : goal.returns-clause-ends
 returns-clause-ends g c =
     let asked = asked_seen (g.P.PlaceCounter.count c.args.beside.now.places.now) c.args.options.now in
-    let over = rewrites_kept g.M.Maps.Finds g.M.Maps.found g.P.PlaceCounter.count asked _ _ _ c.edit_lines.new.editor _
+    let over = rewrites_kept g.M.Maps.Finds g.M.Maps.found g.M.Maps.names g.P.PlaceCounter.count asked _ _ _ c.edit_lines.new.editor _
     (record {
       asks = refl;
       maps = refl;

@@ -2,7 +2,7 @@ use Rattle.std.proofs.Common.{◌≡◌, [], map, refl, sym, ap, subst, ◌∙�
 use Rattle.smap_originals.specs.Generated.{generated_next}
 use Rattle.smap_originals.specs.Originals.{of_source, place_of}
 use Rattle.smap_originals.specs.Private.Run.{IsInOrder}
-use Rattle.smap_originals.specs.declared.asked.Direction.TheVariants.{AtOrAfter, AtOrBefore}
+use Rattle.smap_originals.specs.declared.asked.OriginalDirection.TheVariants.{AtOrAfter, AtOrBefore}
 use Rattle.smap_originals.proofs.AnsweredLaws.{found_in}
 use Rattle.smap_originals.proofs.originals.Originals.generated.Goals as goal
 

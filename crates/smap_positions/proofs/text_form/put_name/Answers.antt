@@ -1,4 +1,0 @@
-use Rattle.smap_positions.proofs.text_form.put_name.Goals as goal
-
-pub returns-in-Some : goal.returns-in-Some
-returns-in-Some g c = rw c.in-Some.is (g.met.O.Output.puts_both _ _ _ _ _ c.put.ensures c.put_shown.ensures)
