@@ -12,8 +12,8 @@ use smap_record::MapRefusal;
 use std::alloc::Global;
 
 /// Names the sources of a map by the path at which its file stands: each whose name is kept as it stands in the map, and a
-/// path, gets the one that goes on from the folder of the file. All names together may be made of at most so many bytes: each
-/// of those of the path and its own (M18). A map that something else holds, too, is refused (`refused`).
+/// path, gets the one that goes on from the folder of the file. All names together may be made of at most so many bytes:
+/// each of those of the path and its own (M18). A map that something else holds, too, is refused (`refused`).
 #[unsafe(no_mangle)]
 pub extern "C" fn smap_map_stand_at(
     alloc: Global,

@@ -152,7 +152,8 @@ pub struct FurtherOptions {
     /// How many bytes the files may have whose maps are kept for when the text names them again: 0 to `MOST_OPTION_BYTES`,
     /// and `USUAL_CACHE_BYTES` where nothing else is asked for.
     pub cache_bytes: Option<u64>,
-    /// How many bytes of the text are taken: 1 to `MOST_OPTION_BYTES`, and `USUAL_LIMIT_BYTES` where nothing else is asked for.
+    /// How many bytes of the text are taken: 1 to `MOST_OPTION_BYTES`, and `USUAL_LIMIT_BYTES` where nothing else is asked
+    /// for.
     pub limit_bytes: Option<u64>,
     /// Whether counts are reported at the end.
     pub summary: bool,

@@ -21,7 +21,7 @@ pub fn what_is_found_answers()
 
 /// Each mapping with an original is found from its original place, in either direction.
 pub fn what_has_an_original_is_found()
-    ensures { (direction : OriginalDirection) (list : List Mapping) (mapping : Mapping) (origin : Origin) →
-        Contains list mapping → mapping.origin ≡ Some origin →
+    ensures { (direction : OriginalDirection) (list : List Mapping) (mapping : Mapping)
+        (origin : Origin) → Contains list mapping → mapping.origin ≡ Some origin →
         Contains (generated_next direction list origin.source origin.line origin.column) mapping }
 {}

@@ -11,9 +11,10 @@ use crate::named_sources::{StandsAt, new_names, rename};
 use crate::refusal::MapRefusal;
 use std::alloc::Global;
 
-/// Names the sources of a map by the path at which its file stands: each whose name is kept as it stands in the map, and a path,
-/// by the one that goes on from the folder of the file, or from the root behind its host. All names together may be made of at
-/// most so many bytes: each of those of the path and its own. Where they are more, or memory runs out, nothing is changed.
+/// Names the sources of a map by the path at which its file stands: each whose name is kept as it stands in the map, and a
+/// path, by the one that goes on from the folder of the file, or from the root behind its host. All names together may be
+/// made of at most so many bytes: each of those of the path and its own. Where they are more, or memory runs out, nothing is
+/// changed.
 pub fn name_sources_beside(
     alloc: Global,
     map_file: &mut MapFile,

@@ -136,8 +136,8 @@ impl ReadyMap {
         name_sources_by_path(alloc, &mut self.map, url)
     }
 
-    /// Names the sources by the path at which the file of the map stands, as `name_sources_beside` does, with the same bound.
-    /// Where it is refused nothing is changed.
+    /// Names the sources by the path at which the file of the map stands, as `name_sources_beside` does, with the same
+    /// bound. Where it is refused nothing is changed.
     pub fn name_sources_beside(
         &mut self,
         alloc: Global,

@@ -21,7 +21,8 @@ pub fn name_beside(alloc: Global, path: &[u8], name: &str) -> Result<Option<Stri
 
 // The same beside a file, whose path has no query.
 fn name_beside_file(alloc: Global, file: &str, name: &str) -> Result<Option<String>, AllocError>
-    ensures { IfOk result (λ made. option_map string_bytes made ≡ name_beside_file file.now name.now) }
+    ensures { IfOk result (λ made. option_map string_bytes made ≡
+        name_beside_file file.now name.now) }
 {
     let (text, query) = cut_at_query(name);
     if has_scheme(name) || begins_with_host(name) || text.is_empty() {

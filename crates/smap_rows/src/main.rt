@@ -109,7 +109,7 @@ fn answered_at(rt: &HostRuntime, line: &str, interval: u32) -> Result<Vec<u8>, R
 fn answer_row(row: &Row<'_>, answer: &mut Answer) -> Result<(), RowFault> {
     match row.field(0)? {
         "parse" => parsed::answer(row, answer),
-        "mistake_lines" => parsed::mistake_lines(row, answer),
+        "mistake" => parsed::mistake_lines(row, answer),
         "run" => runs::over_sound(row, answer),
         "run_over" => runs::over(row, answer),
         "run_terminal" => runs::over_terminal(row, answer),

@@ -14,7 +14,7 @@ pub fn answer(row: &Row<'_>, answer: &mut Answer) -> Result<(), RowFault> {
             answer.put_text(&text)
         }
         Err(Usage::Words(text)) => {
-            answer.put_text("mistake_lines")?;
+            answer.put_text("mistake")?;
             answer.put_text(&text)
         }
         Err(Usage::Memory) => Err(RowFault::Memory),
@@ -33,6 +33,6 @@ pub fn mistake_lines(row: &Row<'_>, answer: &mut Answer) -> Result<(), RowFault>
             let is_ended = text.ends_with("\n") && !text.ends_with("\n\n");
             answer.put_text(if is_ended { "ended" } else { "not ended" })
         }
-        _ => answer.put_text("no mistake_lines"),
+        _ => answer.put_text("no mistake"),
     }
 }

@@ -39,7 +39,8 @@ fn nearer<'a>(
 
 // How much a URL shares with the nearest so far.
 fn shared_so_far(url: &[u8], nearest: Option<&(String, String)>) -> usize
-    ensures { result ≡ shared_so_far url.now (option_map argument_of (option_copied nearest.entry)) }
+    ensures { result ≡
+        shared_so_far url.now (option_map argument_of (option_copied nearest.entry)) }
 {
     match nearest {
         Some(nearest) => shared(url, nearest),

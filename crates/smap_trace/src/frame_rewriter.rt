@@ -124,8 +124,8 @@ fn find_map<M: Maps>(maps: &mut M, remembered: &mut Remembered, url: &[u8])
     }
 }
 
-// Whether the URL of a frame has a map, what the frame is, and what stands before its URL then, over maps of which that of the
-// URL was looked for.
+// Whether the URL of a frame has a map, what the frame is, and what stands before its URL then, over maps of which that of
+// the URL was looked for.
 fn look_named<'a, M: Maps>(
     alloc: Global,
     maps: &'a M,

@@ -15,8 +15,8 @@ pub struct HeadCut<'a> {
 }
 
 /// The name of the function of a frame, of which this stands before the URL: as V8 prints it, behind `at ` and before ` (`,
-/// perhaps behind `async ` and `new `; or as Firefox and Safari do, before `@`. `None` where it is no name, or not one alone,
-/// as `TYPE.method`, `<anonymous>`, `f/<` or what has `[as x]`. The call takes no memory.
+/// perhaps behind `async ` and `new `; or as Firefox and Safari do, before `@`. `None` where it is no name, or not one
+/// alone, as `TYPE.method`, `<anonymous>`, `f/<` or what has `[as x]`. The call takes no memory.
 #[tactic(auto, unfolding(crate::specs::FunctionNames::head_cut))]
 pub fn head_cut(head: &[u8]) -> Option<HeadCut<'_>>
     ensures { option_map cut_seen result ≡ head_cut head.now }
