@@ -1,6 +1,7 @@
 #!/usr/bin/env bash
 # Measures the services of examples/service/ over smap in Python and node, and that in node over @jridgewell/trace-mapping: how many events of
-# ten frames they answer in a second to CLIENTS, 8 if it is not given, and the peak of their memory, where maps may count for BOUND MB,
+# ten frames they answer to CLIENTS, 8 if it is not given, in a second and in a second of a processor's work, which other work on the machine
+# does not change much, and the peak of their memory, where maps may count for BOUND MB,
 # 300 if it is not given.
 #
 #   bench/scripts/service.sh [MAP..]
@@ -31,6 +32,8 @@ printf '%s maps, %s bytes\n' "${RELEASES:-200}" "$(du -sb "$folder/releases" | c
 
 service=
 trap 'if [ -n "$service" ]; then kill "$service" 2>/dev/null || true; fi; rm -rf -- "$folder"' EXIT
+# How long the service has been at work, in ticks of a processor.
+ticks() { awk '{ print $14 + $15 }' "/proc/$service/stat"; }
 measure() {
     local what=$1 port
     shift
@@ -42,9 +45,11 @@ measure() {
         kill -0 "$service" || exit 1
         sleep 0.05
     done
-    local answer
+    local answer before
+    before=$(ticks)
     answer=$(node "$root/bench/service/load.js" "$port" https://example.test/ "$folder/releases" "${CLIENTS:-8}" "${EVENTS:-10000}")
-    printf '%-28s %6s events in a second, peak %4d MB, %s frames found\n' "$what" "${answer% *}" \
+    printf '%-28s %6s events in a second, %6d in one of its processors, peak %4d MB, %s frames found\n' "$what" "${answer% *}" \
+        "$((${EVENTS:-10000} * $(getconf CLK_TCK) / ($(ticks) - before)))" \
         "$(($(sed -n 's/^VmHWM:[[:space:]]*\([0-9]*\) kB/\1/p' "/proc/$service/status") * 1024 / 1000000))" "${answer#* }"
     kill "$service"
     wait "$service" 2>/dev/null || true
