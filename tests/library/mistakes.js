@@ -187,7 +187,7 @@ function paths() {
     ['//e.test/js/o.map', 'src', '/b.ts', '//e.test/js/src/b.ts'],
     ['//e.test/js/o.map', undefined, '/x/../b.ts', '//e.test/b.ts'],
     ['//e.test', undefined, 'b.ts', '//e.test/b.ts'],
-    ['///js/o.map', undefined, 'b.ts', '/js/b.ts'],
+    ['///js/o.map', undefined, 'b.ts', '///js/b.ts'],
     ['dist/o.map?v=/2/3', undefined, 'b.ts', 'dist/b.ts'],
     ['dist/o.map#/', undefined, '../b.ts?/x', 'b.ts?/x'],
     ['//e.test?/o.map', undefined, 'b.ts', '//e.test/b.ts'],
