@@ -220,11 +220,12 @@ uint32_t smap_map_read(const uint8_t *bytes, size_t length, const uint8_t *base,
 uint32_t smap_map_read_within(const uint8_t *bytes, size_t length, const uint8_t *base, size_t base_length, uint32_t interval,
                               uint64_t most_names, smap_map *map, smap_refusal *refusal);
 
-/* Names the sources of a map by the URL at which it stands, where that is a path: without its query and its fragment it begins with
- * `/`, or with a letter, `:` and `/` or `\`. Each source whose name is a relative path, as the map gives it, gets the path that
- * goes on from the folder of the URL, and no `..` leads above its root: at "/srv/app/dist/util/x.js" "../../src/x.ts" becomes
- * "/srv/app/src/x.ts", as node prints it. Behind a drive's `:\` its pieces stand between `\`. Other names, and all names at other
- * URLs, stay. For it a map is read without a base. Returns 1 where another handle, a table or a place holds the map, too. */
+/* Names the sources of a map by the URL at which it stands, where that is a path: without its query and its fragment it begins
+ * with `/`, or with a letter, `:` and `/` or `\`, or is a relative path with a `/` in it. Each source whose name is a relative
+ * path, as the map gives it, gets the path that goes on from the folder of the URL, and no `..` leads above its root: at
+ * "/srv/app/dist/util/x.js" "../../src/x.ts" becomes "/srv/app/src/x.ts", as node prints it. Behind a drive's `:\` its pieces
+ * stand between `\`. Other names, and all names at other URLs, stay. For it a map is read without a base. Returns 1 where
+ * another handle, a table or a place holds the map, too. */
 uint32_t smap_map_use_paths(smap_map *map, const uint8_t *url, size_t length);
 
 /* Returns 0 where a URL is such a path, its query and its fragment aside, and else 1. */

@@ -329,7 +329,7 @@ export interface TableOptions extends NamesOption, TimeOptions {
   load?: (url: string) => Given | null | undefined;
   /** Is told of each map that is not read for an error. */
   refused?: (url: string, error: unknown) => void;
-  /** Relative sources go on from the folder of a URL that is an absolute path, as node prints them. */
+  /** Relative sources go on from the folder of a URL that is a path with a folder, as node prints them. */
   paths?: boolean;
 }
 

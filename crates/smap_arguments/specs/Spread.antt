@@ -1,5 +1,5 @@
 -- A position of `lookup` that is one word, as traces print it: LINE, `:` and COLUMN, also behind a URL.
-use Rattle.std.specs.Prelude.{◌≡◌, ◌++◌, ℕ, ◌==◌, ◌&&◌, Bool, true, false, not, List, [], ◌∷◌, Option, Some, None, if◌then◌else◌, length}
+use Rattle.std.specs.Prelude.{◌≡◌, ◌++◌, ℕ, ◌==◌, ◌&&◌, ◌||◌, Bool, true, false, not, List, [], ◌∷◌, Option, Some, None, if◌then◌else◌, length}
 use Rattle.std.specs.Char.{is_ascii_digit}
 use Rattle.std.specs.List.{after_first, before_first, list_all, position_or_len}
 use Rattle.clap.specs.Faults.{fault_of}
@@ -34,10 +34,15 @@ unfoldable pub numbers_behind : Text → Option (Text × Text)
 numbers_behind [] = None
 numbers_behind (byte ∷ text) = if is_colon byte then or_numbers (numbers_of text) (numbers_behind text) else numbers_behind text
 
--- the line and the column that a word is or, but with `--generated`, ends with, as `https://ex.test/app.js:2:4472`
+-- a text begins with a number and a `:`, or is a number
+abbrev pub begins_with_number : Text → Bool
+begins_with_number text = are_digits (before_first is_colon text)
+
+-- the line and the column that a word is or, but with `--generated`, ends with, as `https://ex.test/app.js:2:4472`; more than two
+-- numbers, as `1:2:3`, are none
 abbrev pub position_of : (is_generated : Bool) → Text → Option (Text × Text)
-position_of true word = numbers_of word
-position_of false word = or_numbers (numbers_of word) (numbers_behind word)
+position_of is_generated word =
+    if is_generated || begins_with_number word then numbers_of word else or_numbers (numbers_of word) (numbers_behind word)
 
 -- the words, with the first of them that is a position as two
 abbrev pub spread_at : Option (Text × Text) → (word : Text) → (words spread : List Text) → List Text

@@ -3,7 +3,7 @@ ghost use Rattle.std.specs.Prelude.{◌≡◌, ◌∷◌, IfOk, option_map};
 ghost use Rattle.std.specs.Char.{is_ascii_digit};
 ghost use Rattle.std.specs.List.{before_first, list_all};
 ghost use Rattle.smap_arguments.specs.Arguments.{texts};
-ghost use Rattle.smap_arguments.specs.Spread.{IsPushed, are_digits, behind_colon, is_bracket, numbers_behind, numbers_of, or_numbers};
+ghost use Rattle.smap_arguments.specs.Spread.{IsPushed, are_digits, begins_with_number, behind_colon, is_bracket, numbers_behind, numbers_of, or_numbers};
 ghost use Rattle.smap_arguments.specs.Spread.{position_of, spread, spread_words};
 
 use crate::generated::asks_generated;
@@ -64,15 +64,25 @@ fn push_word(
     Ok(true)
 }
 
-// The line and the column that a word is or, but with `--generated`, ends with.
+// The line and the column that a word is or, but with `--generated` or behind another number, ends with.
 fn position_of(word: &str, is_generated: bool) -> Option<(&str, &str)>
     ensures { option_map (λ position. (position.0.now, position.1.now)) result
         ≡ position_of is_generated word.now }
 {
-    if is_generated {
+    if is_generated || begins_with_number(word) {
         numbers_of(word)
     } else {
         last_numbers(word)
+    }
+}
+
+// Whether a text begins with a number and a `:`, or is a number.
+fn begins_with_number(text: &str) -> bool
+    ensures { result ≡ begins_with_number text.now }
+{
+    match text.split_once(':') {
+        Some((first, _)) => are_digits(first),
+        None => are_digits(text),
     }
 }
 

@@ -69,8 +69,15 @@ a_name_from_the_root_of_the_drive = refl
 at_no_path : going_on_from (codes "https://a.test/x.js") (codes "../src/x.ts") ≡ None
 at_no_path = refl
 
-at_a_relative_path : going_on_from (codes "dist/x.js") (codes "../src/x.ts") ≡ None
+at_a_file_of_no_folder : going_on_from (codes "x.js") (codes "../src/x.ts") ≡ None
+at_a_file_of_no_folder = refl
+
+-- a relative path that leads through a folder goes on from that
+at_a_relative_path : going_on_from (codes "dist/x.js") (codes "../src/x.ts") ≡ Some (codes "src/x.ts")
 at_a_relative_path = refl
+
+out_of_its_folders : going_on_from (codes "dist/x.js") (codes "../../src/x.ts") ≡ Some (codes "../src/x.ts")
+out_of_its_folders = refl
 
 -- the query and the fragment are no part of the path, which is UTF-8
 behind_a_query : name_by_path (codes "/a/x.js?v=1/2#3/4") (codes "y.ts") ≡ Some (codes "/a/y.ts")
@@ -83,6 +90,12 @@ no_text = refl
 
 a_drive_is_a_path : is_path (codes "c:\\x.js") ≡ true
 a_drive_is_a_path = refl
+
+a_folder_is_a_path : is_path (codes "dist/x.js?v") ≡ true
+a_folder_is_a_path = refl
+
+a_name_alone_is_none : is_path (codes "x.js?v=a/b") ≡ false
+a_name_alone_is_none = refl
 
 a_scheme_is_none : is_path (codes "cc:/x.js") ≡ false
 a_scheme_is_none = refl

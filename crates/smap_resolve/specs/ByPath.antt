@@ -3,7 +3,7 @@
 use Rattle.std.specs.Prelude.{ℕ, ◌-◌, ◌==◌, ◌||◌, ◌&&◌, Bool, true, false, nat_eq, not, List, [], ◌∷◌, ◌++◌, Option, Some, None, codes, drop, get_or, length, map, take}
 use Rattle.std.specs.Prelude.{if◌then◌else◌, option_map, unwrap_or}
 use Rattle.std.specs.Char.{is_ascii_alphabetic}
-use Rattle.std.specs.List.{fold, starts_with}
+use Rattle.std.specs.List.{fold, list_any, starts_with}
 use Rattle.std.specs.Str.{is_utf8}
 use Rattle.smap_locations.specs.Paths.{without_query}
 use Rattle.smap_resolve.specs.Paths.{is_relative, is_rooted, joined_pieces, one_further, path_from, pieces_of_path}
@@ -21,9 +21,13 @@ is_on_drive root (letter ∷ path) = is_ascii_alphabetic letter && starts_with n
 abbrev pub is_absolute : (path : List ℕ) → Bool
 is_absolute path = is_rooted path || is_on_drive (codes ":/") path || is_on_drive (codes ":\\") path
 
--- a URL that is a path from a root, its query and its fragment aside
+-- a relative path that leads through a folder
+abbrev pub leads_through_folder : (path : List ℕ) → Bool
+leads_through_folder path = is_relative path && list_any (λ byte. byte == 47) path
+
+-- a URL that is a path from a root, or leads through a folder, its query and its fragment aside
 abbrev pub is_path : (url : List ℕ) → Bool
-is_path url = is_absolute (without_query url)
+is_path url = is_absolute (without_query url) || leads_through_folder (without_query url)
 
 -- ---- a path that goes on from a file on a drive
 
@@ -41,11 +45,12 @@ path_on_drive file text = get_or (pieces_of_path file) 0 [] ++ codes "/" ++ join
 
 -- ---- by a path
 
--- the path that a name goes on to from the folder of a file, where it is relative and the file's path is from a root
+-- the path that a name goes on to from the folder of a file, where it is relative and the file's path is from a root or leads
+-- through a folder
 abbrev pub going_on : (path name : List ℕ) → Option (List ℕ)
 going_on path name =
     if not (is_relative name) then None
-    else (if is_rooted path then Some (path_from path name)
+    else (if is_rooted path || leads_through_folder path then Some (path_from path name)
     else (if is_on_drive (codes ":/") path then Some (path_on_drive path name) else None))
 
 -- a text with one byte in the place of each of another

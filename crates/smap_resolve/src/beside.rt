@@ -25,7 +25,7 @@ fn name_beside_file(alloc: Global, file: &str, name: &str) -> Result<Option<Stri
         name_beside_file file.now name.now) }
 {
     let (text, query) = cut_at_query(name);
-    if has_scheme(name) || begins_with_host(name) || text.is_empty() {
+    if has_scheme(name.as_bytes()) || begins_with_host(name) || text.is_empty() {
         return Ok(None);
     }
     let found = reached_or_dot(alloc, file, text)?;

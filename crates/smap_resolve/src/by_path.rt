@@ -1,7 +1,7 @@
 //! What a source is called by the path that is its map's URL.
 ghost use Rattle.std.specs.Prelude.{◌≡◌, true, map, option_map, string_bytes, IfOk, OnOk};
 ghost use Rattle.std.specs.List.{fold};
-ghost use Rattle.smap_resolve.specs.ByPath.{folder_on_drive, going_on, going_on_from, is_on_drive, is_path, name_by_path, path_on_drive, replaced};
+ghost use Rattle.smap_resolve.specs.ByPath.{folder_on_drive, going_on, going_on_from, is_on_drive, is_path, leads_through_folder, name_by_path, path_on_drive, replaced};
 ghost use Rattle.smap_resolve.specs.Paths.{one_further, pieces_of_path};
 
 use crate::paths::{go_on, is_relative, is_rooted, joined_path, path_from, pieces_of_path};
@@ -9,12 +9,15 @@ use smap_locations::without_query;
 use std::alloc::{AllocError, Global};
 
 /// Whether a URL is the path of a file from a root, its query and its fragment aside: it begins with `/`, or with a drive's
-/// letter, `:` and `/` or `\`.
+/// letter, `:` and `/` or `\`; or a relative path with a `/` in it.
 pub fn is_path(url: &[u8]) -> bool
     ensures { result ≡ is_path url.now }
 {
     let path = without_query(url);
-    is_rooted(path) || is_on_drive(b":/", path) || is_on_drive(b":\\", path)
+    is_rooted(path)
+        || is_on_drive(b":/", path)
+        || is_on_drive(b":\\", path)
+        || leads_through_folder(path)
 }
 
 /// What `name_sources_by_path` calls a source of this name, where it names that anew.
@@ -41,20 +44,28 @@ fn going_on_from(alloc: Global, path: &str, name: &str) -> Result<Option<String>
     }
 }
 
-// The path that a name goes on to from the folder of a file, where that is a path from a root and the name a relative one.
+// The path that a name goes on to from the folder of a file, where that is a path from a root, or leads through a folder,
+// and the name is a relative one.
 fn going_on(alloc: Global, path: &str, name: &str) -> Result<Option<String>, AllocError>
     ensures { IfOk result (λ made. option_map string_bytes made ≡ going_on path.now name.now) }
 {
-    if !is_relative(name) {
+    if !is_relative(name.as_bytes()) {
         return Ok(None);
     }
-    if is_rooted(path.as_bytes()) {
+    if is_rooted(path.as_bytes()) || leads_through_folder(path.as_bytes()) {
         return Ok(Some(path_from(alloc, path, name)?));
     }
     if is_on_drive(b":/", path.as_bytes()) {
         return Ok(Some(path_on_drive(alloc, path, name)?));
     }
     Ok(None)
+}
+
+// Whether a path is a relative one that leads through a folder.
+fn leads_through_folder(path: &[u8]) -> bool
+    ensures { result ≡ leads_through_folder path.now }
+{
+    is_relative(path) && path.contains(&b'/')
 }
 
 // Whether a path is one from the root of a drive: its letter, and then this.

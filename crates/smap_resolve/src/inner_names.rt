@@ -19,7 +19,7 @@ pub fn name_from_outer(
 {
     match (outer, name) {
         (Some(SourceName::Kept(file)), SourceName::Kept(text))
-            if is_relative(text) && !has_scheme(file) => {
+            if is_relative(text.as_bytes()) && !has_scheme(file.as_bytes()) => {
             Ok(SourceName::Kept(path_from(alloc, file, text)?))
         }
         _ => name.copied(),

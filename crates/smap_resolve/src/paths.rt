@@ -7,10 +7,10 @@ ghost use Rattle.smap_resolve.specs.Paths.{behind_slashes, host_pieces, joined_p
 use std::alloc::{AllocError, Global};
 
 /// Whether a text is a path that goes on from a folder.
-pub fn is_relative(text: &str) -> bool
+pub fn is_relative(text: &[u8]) -> bool
     ensures { result ≡ is_relative text.now }
 {
-    !text.is_empty() && !is_rooted(text.as_bytes()) && !has_scheme(text)
+    !text.is_empty() && !is_rooted(text) && !has_scheme(text)
 }
 
 /// Whether a path begins at the root of the folders.
@@ -28,10 +28,10 @@ pub fn begins_with_host(path: &str) -> bool
 }
 
 /// Whether a text begins with the scheme of a URL, or a drive's letter, and `:`.
-pub fn has_scheme(text: &str) -> bool
+pub fn has_scheme(text: &[u8]) -> bool
     ensures { result ≡ has_scheme text.now }
 {
-    let Some((first, rest)) = text.as_bytes().split_first() else {
+    let Some((first, rest)) = text.split_first() else {
         return false;
     };
     first.is_ascii_alphabetic() && scheme_ends(rest)

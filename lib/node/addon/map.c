@@ -62,7 +62,7 @@ napi_value size(napi_env env, struct held *held) {
     return number(env, (double)bytes);
 }
 
-/* usePaths(map, url): names the sources by the URL, where that is an absolute path; whether no other holds the map. */
+/* usePaths(map, url): names the sources by the URL, where that is a path with a folder; whether no other holds the map. */
 napi_value use_paths(napi_env env, struct held *held, smap_text url) {
     napi_value alone;
     uint32_t status = smap_map_use_paths(&held->map, url.bytes, url.length);

@@ -315,7 +315,7 @@ static PyObject *map_shared(PyObject *self, PyObject *unused) {
     return PyErr_NoMemory();
 }
 
-/* Names the sources by the URL, where that is an absolute path. Nothing else holds the map. */
+/* Names the sources by the URL, where that is a path with a folder. Nothing else holds the map. */
 PyObject *map_use_paths(struct held *held, struct given url) {
     return smap_map_use_paths(&held->map, url.bytes, url.length) == SMAP_DONE ? none() : PyErr_NoMemory();
 }

@@ -68,7 +68,7 @@ class SourceMap(_smap.Map):
     def _under(cls, url: str, given: "Union[_given.FileData, SourceMap]", paths: bool = False,
                most_names: int = _given.NAME_BYTES) -> "SourceMap":
         # The map that is given, or that of these bytes, which stands at the URL, or at none where that is no URL. With `paths` one
-        # whose URL is an absolute path stands at none, and has its sources named by that.
+        # whose URL is a path with a folder stands at none, and has its sources named by that.
         by_path = paths and _smap.is_path(url)
         if not isinstance(given, SourceMap):
             source_map, held = cls.__new__(cls), _given.file_bytes(given, "a map")

@@ -46,7 +46,7 @@ class Rewriter(Blocking):
         A URL that begins with `*` is a pattern: its map is that of each URL that ends with the text behind it, where a piece of
         the URL begins, with or without query and fragment, if no map is under the URL; of several the longest text decides.
 
-        With `paths` relative sources go on from the folder of a URL that is an absolute path, as node prints them. Of each map the
+        With `paths` relative sources go on from the folder of a URL that is a path with a folder, as node prints them. Of each map the
         names of all sources together are made of at most `max_names` bytes."""
         if not isinstance(maps, AnyMapping):
             raise TypeError(f"maps are a dict of URLs and maps, not {type(maps).__name__}")

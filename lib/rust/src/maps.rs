@@ -136,7 +136,7 @@ impl Maps {
         self.engine.how.most_names = bytes;
     }
 
-    /// Whether the sources of a map that the loader gives for an absolute path are named by that, as
+    /// Whether the sources of a map that the loader gives for a path with a folder are named by that, as
     /// [`Table::set_paths`](crate::Table::set_paths) has it.
     ///
     /// ```

@@ -152,7 +152,7 @@ impl Table {
         self.engine.how.most_names = bytes;
     }
 
-    /// Whether the sources of a map that the loader gives for an absolute path are named by that, as node
+    /// Whether the sources of a map that the loader gives for a path with a folder are named by that, as node
     /// prints them: relative ones go on from its folder, as
     /// [`ReadOptions::with_path`](crate::ReadOptions::with_path) has it.
     ///
