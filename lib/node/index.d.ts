@@ -144,6 +144,8 @@ export class TraceMap implements SourceMapV3 {
   /** The names of the sources. That of a source without one is null, though the type, which is trace-mapping's, does not say so. */
   resolvedSources: string[];
   readonly sourceEntries: SourceEntry[];
+  /** The debug id, which the generated file names too: the text at `debugId`, or at `debug_id` where that is none. */
+  readonly debugId: string | undefined;
   /** About how many bytes of memory the map takes. */
   readonly nbytes: number;
   /** Where a generated position comes from, or null where no mapping answers that has an original. */
@@ -156,8 +158,8 @@ export class TraceMap implements SourceMapV3 {
   fit(generated: string | Uint8Array): Fit;
   /** The text of one regular map that states the same. */
   write(): Buffer;
-  /** What `encodedMap` gives. */
-  toJSON(): EncodedSourceMap;
+  /** What `encodedMap` gives; with `debugId` with the debug id. The name under which JSON has the map is passed over. */
+  toJSON(options?: { debugId?: boolean } | string): EncodedSourceMap & { debugId?: string | undefined };
   close(): void;
   [Symbol.dispose](): void;
 }

@@ -167,7 +167,7 @@ function withMappings(map, mappings) {
   return { version, file, names, sourceRoot, sources, sourcesContent, mappings, ignoreList };
 }
 
-// What the JSON of a regular map has by this key.
+// What the JSON of a map has by this key.
 function json(map, key) {
   return once(map, key, () => map.inner.outline.value(key));
 }
@@ -268,6 +268,11 @@ class TraceMap {
     return true;
   }
 
+  // The debug id, which the generated file names too: the text at `debugId`, or at `debug_id` where that is none.
+  get debugId() {
+    return json(this, 'debugId');
+  }
+
   // What the calls of this library alone use.
   get inner() {
     return this.#inner;
@@ -355,9 +360,11 @@ class TraceMap {
     return text;
   }
 
-  // The map as an object, of which JSON is made.
-  toJSON() {
-    return withMappings(this, encodedMappings(this));
+  // The map as an object, of which JSON is made; with `debugId` with its debug id. JSON.stringify gives the name that a map stands under.
+  toJSON(options = undefined) {
+    const { debugId = false } = typeof options === 'string' ? {} : given.options(options, 'debugId');
+    const map = withMappings(this, encodedMappings(this));
+    return given.boolean(debugId, 'debugId') ? { ...map, debugId: this.debugId } : map;
   }
 
   close() {

@@ -30,6 +30,7 @@ const first: (string | null)[] = [sourceName(map, 0), sourceContent(map, 0)];
 map.sourceRoot = undefined;
 map.sources = first;
 const saved: EncodedSourceMap = map.toJSON();
+const debugId: string | undefined = map.toJSON({ debugId: true }).debugId || map.debugId;
 const { sources, unmapped } = map.bytesBySource('x');
 const { fits, past, inside, same }: Fit = map.fit('x');
 const generated: number | null = generatedPositionFor(map, { source: 'a', line: 1, column: 0 }).column;
