@@ -24,15 +24,15 @@ const DISPOSE = Symbol.dispose || Symbol.for('nodejs.dispose');
 // How a map is read where nothing is said.
 const USUALLY = given.reading();
 
-// The bytes of no base, and the numbers of a refusal, which are told at once.
-const NO_BASE = Buffer.alloc(0);
+// The bytes of no base or id, and the numbers of a refusal, which are told at once.
+const NO_BYTES = Buffer.alloc(0);
 const refusal = new Float64Array(6);
 
 // The map of these bytes, which is so read, as a handle; at none, where that may be, if the base is no URL. `url` is that which a refusal
 // names.
 function read(bytes, base, how, url, orAtNone = false) {
   const each = given.intervalOf(how, bytes.length);
-  const map = addon.read(bytes, base === '' ? NO_BASE : Buffer.from(base), orAtNone, each, how.maxNames, refusal);
+  const map = addon.read(bytes, base === '' ? NO_BYTES : Buffer.from(base), orAtNone, each, how.maxNames, refusal);
   if (map === null) throw refusedMap(bytes, refusal, base, url);
   return map;
 }
@@ -61,7 +61,7 @@ function standingUnder({ url, paths, how }, map) {
 // The map with its sources named by this URL, if that is one.
 function named(handle, url) {
   if (!url || addon.usePaths(handle, Buffer.from(url))) return handle;
-  return named(read(addon.write(handle), '', USUALLY), url);
+  return named(read(addon.write(handle, false, NO_BYTES), '', USUALLY), url);
 }
 
 function outlineIn(bytes, map) {
@@ -167,7 +167,13 @@ function withMappings(map, mappings) {
   return { version, file, names, sourceRoot, sources, sourcesContent, mappings, ignoreList };
 }
 
-// What the JSON of a regular map has by this key.
+// Whether a map's debug id is written, if it is asked for, and its bytes.
+function idOf(map, isAsked = false) {
+  const id = given.boolean(isAsked, 'debugId') ? map.debugId : undefined;
+  return [id !== undefined, id === undefined ? NO_BYTES : Buffer.from(id)];
+}
+
+// What the JSON of a map has by this key.
 function json(map, key) {
   return once(map, key, () => map.inner.outline.value(key));
 }
@@ -268,6 +274,11 @@ class TraceMap {
     return true;
   }
 
+  // The debug id, which the generated file names too: the text at `debugId`, or at `debug_id` where that is none.
+  get debugId() {
+    return json(this, 'debugId');
+  }
+
   // What the calls of this library alone use.
   get inner() {
     return this.#inner;
@@ -348,16 +359,18 @@ class TraceMap {
     return { fits: fits === 1, mappings, past, inside, compared, outside, same };
   }
 
-  // The text of one regular map that states the same, as a Buffer.
-  write() {
-    const text = addon.write(open(this));
+  // The text of one regular map that states the same, as a Buffer; with `debugId` with its debug id, as the last member.
+  write(options = undefined) {
+    const text = addon.write(open(this), ...idOf(this, given.options(options, 'debugId').debugId));
     if (text === null) throw refusedAs(addon.codes.O1);
     return text;
   }
 
-  // The map as an object, of which JSON is made.
-  toJSON() {
-    return withMappings(this, encodedMappings(this));
+  // The map as an object, of which JSON is made; with `debugId` with its debug id. JSON.stringify gives the name that a map stands under.
+  toJSON(options = undefined) {
+    const { debugId = false } = typeof options === 'string' ? {} : given.options(options, 'debugId');
+    const map = withMappings(this, encodedMappings(this));
+    return given.boolean(debugId, 'debugId') ? { ...map, debugId: this.debugId } : map;
   }
 
   close() {
@@ -392,12 +405,14 @@ module.exports = {
   ROOM_IGNORED,
   ROOM_LAST,
   TraceMap,
+  NO_BYTES,
   USUALLY,
   Under,
   ask,
   columnOf,
   empty,
   encodedMappings,
+  idOf,
   isPath,
   linesOf,
   named,

@@ -25,3 +25,4 @@ pub mod WrittenFields
 pub mod WrittenMappings
 pub mod WrittenSources
 pub mod RenamedLaws
+pub mod DebugIdLaws

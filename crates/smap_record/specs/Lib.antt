@@ -11,6 +11,7 @@ pub mod IndexMap
 pub mod NameBytes
 pub mod Outer
 pub mod Record
+pub mod DebugId
 pub mod Written
 pub mod ReadBack
 pub mod MapFile

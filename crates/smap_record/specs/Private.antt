@@ -3,3 +3,4 @@ pub mod PartWithin
 pub mod Marked
 pub mod Seen
 pub mod Renamed
+pub mod SameRecord

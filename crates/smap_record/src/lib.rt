@@ -14,6 +14,7 @@
 #![tactic(auto)]
 
 mod beside;
+mod debug_id;
 mod entry;
 mod fields;
 mod file_text;
@@ -35,6 +36,7 @@ mod sources;
 mod write;
 mod written;
 
+pub use debug_id::put_debug_id;
 pub use entry::{SourceEntry, copied_text, is_ignored, source_name};
 pub use file_text::{file_members, json_text, without_mark};
 pub use map_file::MapFile;

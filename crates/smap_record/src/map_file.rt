@@ -21,6 +21,7 @@ ghost use Rattle.smap_record.specs.declared.refusal.MapRefusal.TheVariants as re
 
 mod among;
 mod regular;
+mod with_id;
 
 use crate::entry::SourceEntry;
 use crate::file_text::file_members;

@@ -12,10 +12,11 @@ smap` is the program, where the package has it.
 from ._answers import Answer, Context, Counts, Fit, Generated, Mapping, Place, Source
 from ._composing import compose_all
 from ._maps import SourceMap, compose, encode
+from ._remapping import LoaderContext, Remapped, remapping
 from ._smap import version as __version__
 from ._reported import Refused
 from ._stores import AsyncMaps, Maps
 from ._traces import Rewriter, frame_urls
 
-__all__ = ["Answer", "AsyncMaps", "Context", "Counts", "Fit", "Generated", "Mapping", "Maps", "Place", "Refused", "Rewriter", "Source", "SourceMap",
-           "__version__", "compose", "compose_all", "encode", "frame_urls"]
+__all__ = ["Answer", "AsyncMaps", "Context", "Counts", "Fit", "Generated", "LoaderContext", "Mapping", "Maps", "Place", "Refused", "Remapped", "Rewriter",
+           "Source", "SourceMap", "__version__", "compose", "compose_all", "encode", "frame_urls", "remapping"]
