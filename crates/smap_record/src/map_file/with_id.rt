@@ -14,8 +14,8 @@ use std::alloc::Global;
 use url::Url;
 
 impl MapFile {
-    /// Reads a map file as `read_within` does, and its debug id with it: the text at `debugId` of its outer object, or at `debug_id`
-    /// where that is none. What is no text is as if it were absent, and no map is refused for it.
+    /// Reads a map file as `read_within` does, and its debug id with it: the text at `debugId` of its outer object, or at
+    /// `debug_id` where that is none. What is no text is as if it were absent, and no map is refused for it.
     #[tactic(auto, unfolding(crate::specs::Record::record_of_within))]
     pub fn read_with_id(
         alloc: Global,
