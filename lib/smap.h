@@ -220,6 +220,12 @@ uint32_t smap_map_read(const uint8_t *bytes, size_t length, const uint8_t *base,
 uint32_t smap_map_read_within(const uint8_t *bytes, size_t length, const uint8_t *base, size_t base_length, uint32_t interval,
                               uint64_t most_names, smap_map *map, smap_refusal *refusal);
 
+/* The same, and hands out the map's debug id, which its generated file names too: the text at `debugId` of its outer object, or at
+ * `debug_id` where that is no text, in UTF-8. `has_id` is then 1, and the bytes `id` are freed by smap_bytes_free. Where it has none, and no
+ * map is refused for it, `has_id` is 0, and `id` stays. The handle `map` does not keep it. */
+uint32_t smap_map_read_with_id(const uint8_t *bytes, size_t length, const uint8_t *base, size_t base_length, uint32_t interval,
+                               uint64_t most_names, smap_map *map, smap_bytes *id, uint32_t *has_id, smap_refusal *refusal);
+
 /* Names the sources of a map by the URL at which it stands, where that is a path: without its query and its fragment it begins
  * with `/`, or with a letter, `:` and `/` or `\`, or is a relative path with a `/` in it. Each source whose name is a relative
  * path, as the map gives it, gets the path that goes on from the folder of the URL, and no `..` leads above its root: at
@@ -325,6 +331,10 @@ uint32_t smap_source_lines(const smap_map *map, uint32_t source, uint32_t line, 
 /* Writes the map as the text of one regular map. Returns 1 where its mappings, as one text, would have more than
  * 67,108,864 bytes (O1). The bytes are freed by smap_bytes_free. */
 uint32_t smap_map_write(smap_map *map, smap_bytes *bytes);
+
+/* Writes a debug id, in UTF-8, into the text of a map that was handed out: `debugId`, as the last member of its object. Returns 1 where it
+ * is not UTF-8, or no byte was handed out. */
+uint32_t smap_bytes_put_debug_id(smap_bytes *bytes, const uint8_t *id, size_t length);
 
 /* Composes two maps, the inner one being of source `source` of the outer one, and writes the map that they come to. They are
  * two handles: to compose a map with itself, share it.

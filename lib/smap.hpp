@@ -117,6 +117,20 @@ using originals = owner<smap_originals, smap_originals_free>;
 using url_finder = owner<smap_url_finder, smap_url_finder_free>;
 using byte_text = owner<smap_bytes, smap_bytes_free>;
 
+/* Has smap_map_read_with_id fill `to`, and `id` where the map has a debug id, and gives its status. */
+inline uint32_t read_with_id(std::string_view text, std::string_view base, uint32_t interval, uint64_t most_names, map &to, byte_text &id,
+                             smap_refusal &why) {
+    return to.fill([&](smap_map *handle) {
+        uint32_t status = SMAP_DONE, has_id = 0;
+        id.fill([&](smap_bytes *handed_out) {
+            status = smap_map_read_with_id(bytes(text), text.size(), bytes(base), base.size(), interval, most_names, handle, handed_out,
+                                           &has_id, &why);
+            return has_id ? SMAP_DONE : SMAP_REFUSED;
+        });
+        return status;
+    });
+}
+
 /* What handed out bytes are, as long as their owner holds them. */
 inline std::string_view view(byte_text &handed_out) noexcept {
     smap_text text = SMAP_TEXT;

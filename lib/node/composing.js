@@ -2,26 +2,28 @@
 // Maps composed with the maps of their sources.
 const addon = require('./addon.js');
 const given = require('./given.js');
-const { TraceMap, USUALLY, namesOf, open, read, standingAt } = require('./map.js');
+const { TraceMap, NO_BYTES, USUALLY, idOf, namesOf, open, read, standingAt } = require('./map.js');
 const { refusedAs } = require('./refused.js');
 
 const { C1, C2, C4 } = addon.codes;
 
-// The text of the map that two maps come to, the inner one being of this source of the outer one, from 0; as a Buffer.
-function compose(outer, source, inner) {
+// The text of the map that two maps come to, the inner one being of this source of the outer one, from 0; as a Buffer. With `debugId` it has
+// that of the outer one.
+function compose(outer, source, inner, options = undefined) {
+  const { debugId } = given.options(options, 'debugId');
   const [first, second, index] = [open(outer), open(inner), given.source(source)];
-  if (first === second) return composedWithItself(outer, index);
-  return textOf(addon.compose(first, index, second));
+  if (first === second) return composedWithItself(outer, index, options);
+  return textOf(addon.compose(first, index, second, ...idOf(outer, debugId)));
 }
 
 // No call of the library takes one handle twice, so the map is written and read again.
-function composedWithItself(map, source) {
-  const text = addon.write(open(map));
+function composedWithItself(map, source, options) {
+  const text = addon.write(open(map), false, NO_BYTES);
   // Where it is too large to be written, so is what it would come to, which has the same generated positions.
   if (text === null) throw refusedAs(source < map.counts.sources ? C2 : C1);
   const copy = new TraceMap(text);
   try {
-    return compose(map, source, copy);
+    return compose(map, source, copy, options);
   } finally {
     copy.close();
   }
@@ -33,18 +35,18 @@ function composedWithItself(map, source) {
 // on; it gives null or undefined where there is none. It is asked once for each name. A source is not followed where it is
 // one of those that lead to it. What is read here stands at the name of its source where that is a URL. With `prune` sources
 // and names that no mapping has are left out, and of equal ones all but the first; with `noContent` the contents of the
-// sources. A TraceMap is copied, and stays open.
+// sources. With `debugId` that of the outer map stays. A TraceMap is copied, and stays open.
 function composeAll(outer, inners = {}, options = undefined) {
-  const { load, prune = false, noContent = false } = given.options(options, 'load', 'prune', 'noContent');
+  const { load, prune = false, noContent = false, debugId } = given.options(options, 'load', 'prune', 'noContent', 'debugId');
   const [handle, loader] = [open(outer), given.callable(load, 'load')];
-  const [isPruned, isBare] = [given.boolean(prune, 'prune'), given.boolean(noContent, 'noContent')];
+  const [isPruned, isBare, id] = [given.boolean(prune, 'prune'), given.boolean(noContent, 'noContent'), idOf(outer, debugId)];
   const names = namesOf(handle);
   const placed = byNumber(names, inners);
   const places = addon.newInners(handle);
   try {
     placed.forEach((map, number) => put(places, number, names[number], map));
     if (loader) ask(handle, places, loader);
-    return textOf(addon.composeAll(handle, places, isPruned, isBare));
+    return textOf(addon.composeAll(handle, places, isPruned, isBare, ...id));
   } finally {
     addon.closeInners(places);
   }

@@ -126,6 +126,11 @@ export interface ReadOptions extends NamesOption {
   interval?: number;
 }
 
+/** Whether the debug id is kept in what is written, of a composed map that of the outer one. */
+interface DebugIdOption {
+  debugId?: boolean;
+}
+
 /** A source map that was read. A TraceMap that is given is itself. */
 export class TraceMap implements SourceMapV3 {
   /** `mapUrl` is the URL or path at which the map stands; a number in place of options is the interval. The mappings of an
@@ -156,10 +161,10 @@ export class TraceMap implements SourceMapV3 {
   bytesBySource(generated: string | Uint8Array): BytesBySource;
   /** Whether the map can be that of the generated file. */
   fit(generated: string | Uint8Array): Fit;
-  /** The text of one regular map that states the same. */
-  write(): Buffer;
+  /** The text of one regular map that states the same; with `debugId` with its debug id, as the last member. */
+  write(options?: DebugIdOption): Buffer;
   /** What `encodedMap` gives; with `debugId` with the debug id. The name under which JSON has the map is passed over. */
-  toJSON(options?: { debugId?: boolean } | string): EncodedSourceMap & { debugId?: string | undefined };
+  toJSON(options?: DebugIdOption | string): EncodedSourceMap & { debugId?: string | undefined };
   close(): void;
   [Symbol.dispose](): void;
 }
@@ -240,14 +245,14 @@ export function sourceName(map: TraceMap, index: number): string | null;
 export function sourceContent(map: TraceMap, index: number): string | null;
 export function sourceContentFor(map: TraceMap, source: string): string | null;
 export function isIgnored(map: TraceMap, source: string): boolean;
-export function compose(outer: TraceMap, source: number, inner: TraceMap): Buffer;
+export function compose(outer: TraceMap, source: number, inner: TraceMap, options?: DebugIdOption): Buffer;
 
 type Given = string | Uint8Array | object | TraceMap;
 
 /** Maps, each under a name: an object or pairs. */
 type Named<Name> = readonly (readonly [Name, Given])[] | Iterable<readonly [Name, Given]> | Record<string, Given>;
 
-export interface ComposeAllOptions {
+export interface ComposeAllOptions extends DebugIdOption {
   /** Gives the map of a source by its name, or none. It is asked once for each name, for the sources of the outer map that
    * have no map among the inner ones, and for those of the maps that were found. */
   load?: (source: string) => Given | null | undefined;

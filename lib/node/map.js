@@ -24,15 +24,15 @@ const DISPOSE = Symbol.dispose || Symbol.for('nodejs.dispose');
 // How a map is read where nothing is said.
 const USUALLY = given.reading();
 
-// The bytes of no base, and the numbers of a refusal, which are told at once.
-const NO_BASE = Buffer.alloc(0);
+// The bytes of no base or id, and the numbers of a refusal, which are told at once.
+const NO_BYTES = Buffer.alloc(0);
 const refusal = new Float64Array(6);
 
 // The map of these bytes, which is so read, as a handle; at none, where that may be, if the base is no URL. `url` is that which a refusal
 // names.
 function read(bytes, base, how, url, orAtNone = false) {
   const each = given.intervalOf(how, bytes.length);
-  const map = addon.read(bytes, base === '' ? NO_BASE : Buffer.from(base), orAtNone, each, how.maxNames, refusal);
+  const map = addon.read(bytes, base === '' ? NO_BYTES : Buffer.from(base), orAtNone, each, how.maxNames, refusal);
   if (map === null) throw refusedMap(bytes, refusal, base, url);
   return map;
 }
@@ -61,7 +61,7 @@ function standingUnder({ url, paths, how }, map) {
 // The map with its sources named by this URL, if that is one.
 function named(handle, url) {
   if (!url || addon.usePaths(handle, Buffer.from(url))) return handle;
-  return named(read(addon.write(handle), '', USUALLY), url);
+  return named(read(addon.write(handle, false, NO_BYTES), '', USUALLY), url);
 }
 
 function outlineIn(bytes, map) {
@@ -165,6 +165,12 @@ function encodedMappings(map) {
 function withMappings(map, mappings) {
   const { version, file, names, sourceRoot, sources, sourcesContent, ignoreList } = map;
   return { version, file, names, sourceRoot, sources, sourcesContent, mappings, ignoreList };
+}
+
+// Whether a map's debug id is written, if it is asked for, and its bytes.
+function idOf(map, isAsked = false) {
+  const id = given.boolean(isAsked, 'debugId') ? map.debugId : undefined;
+  return [id !== undefined, id === undefined ? NO_BYTES : Buffer.from(id)];
 }
 
 // What the JSON of a map has by this key.
@@ -353,9 +359,9 @@ class TraceMap {
     return { fits: fits === 1, mappings, past, inside, compared, outside, same };
   }
 
-  // The text of one regular map that states the same, as a Buffer.
-  write() {
-    const text = addon.write(open(this));
+  // The text of one regular map that states the same, as a Buffer; with `debugId` with its debug id, as the last member.
+  write(options = undefined) {
+    const text = addon.write(open(this), ...idOf(this, given.options(options, 'debugId').debugId));
     if (text === null) throw refusedAs(addon.codes.O1);
     return text;
   }
@@ -399,12 +405,14 @@ module.exports = {
   ROOM_IGNORED,
   ROOM_LAST,
   TraceMap,
+  NO_BYTES,
   USUALLY,
   Under,
   ask,
   columnOf,
   empty,
   encodedMappings,
+  idOf,
   isPath,
   linesOf,
   named,

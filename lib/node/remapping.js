@@ -2,7 +2,7 @@
 // The call of @ampproject/remapping: a map whose mappings lead on through the maps of its sources, which a loader gives.
 const addon = require('./addon.js');
 const given = require('./given.js');
-const { TraceMap, USUALLY, namesOf, open, read, readAt } = require('./map.js');
+const { TraceMap, NO_BYTES, USUALLY, namesOf, open, read, readAt } = require('./map.js');
 const { refusedAs } = require('./refused.js');
 const { decodedMappings } = require('./tracing.js');
 
@@ -36,7 +36,7 @@ class Traced {
     try {
       for (const [index, handle] of this.inners) if (!addon.putInner(places, index, handle)) throw refusedAs(C1);
       this.inners.clear();
-      const text = addon.composeAll(this.handle, places, prune, noContent);
+      const text = addon.composeAll(this.handle, places, prune, noContent, false, NO_BYTES);
       if (typeof text === 'number') throw refusedAs(text);
       return text;
     } finally {
@@ -79,7 +79,7 @@ class Traced {
 
 // The text of a regular map that states the same.
 function textOf(handle) {
-  const text = addon.write(handle);
+  const text = addon.write(handle, false, NO_BYTES);
   if (text === null) throw refusedAs(C2);
   return text;
 }

@@ -39,17 +39,30 @@ same(new smap.TraceMap('{"debugId":"a","version":3,"sources":[],"mappings":"","d
 const map = new smap.TraceMap({ ...rest, debug_id: `"${ID}` });
 const plain = new smap.TraceMap(rest);
 const without = '{"mappings":"AAAA,IAEC","names":[],"sources":["a.ts"],"version":3}';
+const withId = (text, id) => text.replace(/}$/, `,"debugId":${JSON.stringify(id)}}`);
 same(map.write().toString(), without);
+same(map.write({ debugId: false }).toString(), without);
+same(map.write({ debugId: true }).toString(), withId(without, `"${ID}`));
+same(plain.write({ debugId: true }).toString(), without);
 same(map.toJSON().debugId, undefined);
 same('debugId' in map.toJSON(), false);
 same(map.toJSON({ debugId: true }), { ...map.toJSON(), debugId: `"${ID}` });
 same(JSON.parse(JSON.stringify({ debugId: map })).debugId.debugId, undefined);
-same(plain.toJSON({ debugId: true }).debugId, undefined);
-same(new smap.TraceMap(map.toJSON({ debugId: true })).debugId, `"${ID}`);
+same(new smap.TraceMap(map.write({ debugId: true })).debugId, `"${ID}`);
 for (const options of [{ debugId: 1 }, { debugid: true }, true, null]) {
-  assert.throws(() => map.toJSON(options), TypeError);
-  checks += 1;
+  for (const call of [() => map.write(options), () => map.toJSON(options), () => smap.compose(map, 0, plain, options)]) assert.throws(call, TypeError), (checks += 1);
 }
+
+// A composed map has that of the outer one.
+const inner = new smap.TraceMap({ ...rest, sources: ['b.ts'], debugId: OTHER });
+const composed = '{"mappings":"ACAA","names":[],"sources":["a.ts","b.ts"],"version":3}';
+const outer = new smap.TraceMap({ ...rest, mappings: 'AAAA', debugId: ID });
+same(smap.compose(outer, 0, inner).toString(), composed);
+same(smap.compose(outer, 0, inner, { debugId: true }).toString(), withId(composed, ID));
+same(smap.compose(plain, 0, inner, { debugId: true }).includes('debugId'), false);
+same(new smap.TraceMap(smap.compose(outer, 0, outer, { debugId: true })).debugId, ID);
+same(smap.composeAll(outer, { 'a.ts': inner }).toString(), composed);
+same(smap.composeAll(outer, { 'a.ts': inner }, { debugId: true }).toString(), withId(composed, ID));
 
 // What maps keep has its id; and one that was added under its id answers for it.
 const large = JSON.stringify({ ...rest, sourcesContent: ['x'.repeat(2 << 20)], debugId: ID });

@@ -102,7 +102,7 @@ function beneath() {
   refuses('TypeError', () => addon.lookUpMany(handle, new Uint32Array(2), new Uint32Array(6)), /lengths/);
   refuses('TypeError', () => addon.counts({}), /no map/);
   refuses('TypeError', () => addon.counts(), /arguments/);
-  refuses('TypeError', () => addon.compose(handle, 0, handle), /twice/);
+  refuses('TypeError', () => addon.compose(handle, 0, handle, false, Buffer.alloc(0)), /twice/);
   map.close();
   refuses('Error', () => addon.lookUp(), /closed/);
   // What is no map, and no place.
@@ -605,7 +605,7 @@ function composingAll() {
   for (const bad of [7, undefined, {}, map.inner.handle]) {
     refuses('TypeError', () => addon.putInner(bad, 0, second.inner.handle), other(bad, /no inner maps/));
     refuses('TypeError', () => addon.nextInner(map.inner.handle, bad), other(bad, /no inner maps/));
-    refuses('TypeError', () => addon.composeAll(map.inner.handle, bad, false, false), other(bad, /no inner maps/));
+    refuses('TypeError', () => addon.composeAll(map.inner.handle, bad, false, false, false, Buffer.alloc(0)), other(bad, /no inner maps/));
   }
   for (const bad of [7, undefined, {}, places]) {
     refuses('TypeError', () => addon.putInner(places, 0, bad), other(bad, /no map/));

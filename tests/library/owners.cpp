@@ -111,10 +111,26 @@ static void texts() {
     insist(inner.hand_over([&](smap_map *from) { return smap_inners_put(places.get(), 0, from); }) == SMAP_DONE && !inner, "a place");
 }
 
+static void ids() {
+    const std::string small = SMALL, with_id = small.substr(0, small.size() - 1) + R"(,"debugId":"7f"})";
+    smap::map map;
+    smap::byte_text id, text;
+    smap_refusal why{};
+    insist(smap::read_with_id(with_id, "", 64, 1 << 20, map, id, why) == SMAP_DONE && map && smap::view(id) == "7f", "a debug id");
+    text.fill([&](smap_bytes *to) { return smap_map_write(map.get(), to); });
+    const std::string before(smap::view(text)), other = "q\"";
+    insist(smap_bytes_put_debug_id(text.get(), smap::bytes(other), other.size()) == SMAP_DONE, "a debug id is written");
+    insist(smap::view(text) == before.substr(0, before.size() - 1) + R"(,"debugId":"q\""})", "what is written");
+    insist(smap_bytes_put_debug_id(text.get(), smap::bytes("\xff"), 1) == SMAP_REFUSED, "no UTF-8");
+    insist(smap::read_with_id(small, "", 64, 1 << 20, map, id, why) == SMAP_DONE && map && !id, "no debug id");
+    insist(smap::read_with_id("[]", "", 64, 1 << 20, map, id, why) == SMAP_REFUSED && !map && !id && why.code == SMAP_CODE_M3, "no map");
+}
+
 int main(int count, char **words) {
     if (count != 2) return 2;
     maps(words[1]);
     refusals();
     texts();
+    ids();
     std::printf("owners %d\n", checks);
 }

@@ -27,3 +27,4 @@ pub mod Tables
 pub mod Texts
 pub mod Trace
 pub mod Written
+pub mod DebugId

@@ -4,3 +4,4 @@ pub mod FirstLine
 pub mod Lending
 pub mod Places
 pub mod Rewriting
+pub mod Unread

@@ -21,6 +21,7 @@ mod bytes;
 mod codes;
 mod composing;
 mod counts;
+mod debug_id;
 mod devices;
 mod encoding;
 mod fit;

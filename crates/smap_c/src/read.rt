@@ -1,7 +1,9 @@
 //! Reading a map, and letting it go.
-ghost use Rattle.std.specs.Prelude.{◌≡◌, ◌≢◌, ◌⊎◌, None, Some, IsSome, IsSomeAnd, IfErr, IfOk, option_map};
+ghost use Rattle.std.specs.Prelude.{◌≡◌, ◌≢◌, ◌⊎◌, None, Some, IsSome, IsSomeAnd, IfErr, IfOk, option_map, string_bytes};
+ghost use Rattle.smap_record.specs.DebugId.{debug_id_of};
 ghost use Rattle.smap_c.specs.Read.{IsReadAs, IsReadWithin, IsRefusedAs, IsRefusedWithin, NamesBase};
 ghost use Rattle.smap_c.specs.Private.Base.{IsFaultOf};
+ghost use Rattle.smap_c.specs.Private.Unread.{IsWhyUnread};
 
 use crate::handles::MapHandle;
 use crate::refusal::{Refusal, coded, numbers_of};
@@ -74,31 +76,51 @@ fn read_within(
     ensures unreported { result ≢ 1 → refusal.new ≡ refusal.old }
     ensures status { (result ≡ 0) ⊎ (result ≡ 1) ⊎ (result ≡ 3) }
 {
-    let base = match base_named(alloc, base) {
-        Ok(base) => base,
-        Err(BaseFault::NoUrl) => {
-            *refusal = coded(Code::Usage);
-            return REFUSED;
-        }
-        Err(BaseFault::TooLong) => {
-            *refusal = coded(Code::U1);
-            return REFUSED;
-        }
-        Err(BaseFault::Memory) => return NO_MEMORY,
-    };
-    match MapFile::read_within(alloc, bytes, base.as_ref(), interval, most_names) {
-        Ok(file) => match MapHandle::new(alloc, file) {
+    match read_map(alloc, bytes, base, interval, most_names) {
+        Ok((read, _id)) => match MapHandle::new(alloc, read) {
             Ok(handle) => {
                 *map = handle;
                 DONE
             }
             Err(_) => NO_MEMORY,
         },
-        Err(MapRefusal::Memory) => NO_MEMORY,
-        Err(refused) => {
-            *refusal = numbers_of(refused);
+        Err(ReadFault::Memory) => NO_MEMORY,
+        Err(ReadFault::Refused(why)) => {
+            *refusal = why;
             REFUSED
         }
+    }
+}
+
+/// Why no map is read.
+pub(crate) enum ReadFault {
+    Refused(Refusal),
+    Memory,
+}
+
+/// A map within a bound, if there is one, with its debug id.
+pub(crate) fn read_map(
+    alloc: Global,
+    bytes: &[u8],
+    base: &[u8],
+    interval: u32,
+    most_names: Option<u64>,
+) -> Result<(MapFile, Option<String>), ReadFault>
+    ensures read { IfOk result (λ read.
+        IsReadWithin most_names bytes.now base.now interval read.0) }
+    ensures id { IfOk result (λ read. option_map string_bytes read.1 ≡ debug_id_of bytes.now) }
+    ensures refused { IfErr result (IsWhyUnread most_names bytes.now base.now interval) }
+{
+    let base = match base_named(alloc, base) {
+        Ok(base) => base,
+        Err(BaseFault::NoUrl) => return Err(ReadFault::Refused(coded(Code::Usage))),
+        Err(BaseFault::TooLong) => return Err(ReadFault::Refused(coded(Code::U1))),
+        Err(BaseFault::Memory) => return Err(ReadFault::Memory),
+    };
+    match MapFile::read_with_id(alloc, bytes, base.as_ref(), interval, most_names) {
+        Ok(read) => Ok(read),
+        Err(MapRefusal::Memory) => Err(ReadFault::Memory),
+        Err(refused) => Err(ReadFault::Refused(numbers_of(refused))),
     }
 }
 

@@ -4,6 +4,7 @@ ghost use Rattle.std.specs.Prelude.{◌≡◌, IfOk, IsSome};
 mod bounds;
 mod codes;
 mod composing;
+mod debug_id;
 mod encoding;
 mod explaining;
 mod fit;

@@ -3,6 +3,7 @@ use Rattle.std.specs.Prelude.{◌≡◌, ℕ, ◌==◌, Bool, List, ◌∷◌, O
 use Rattle.smap_explain.specs.Explain.{IsExplained}
 use Rattle.smap_explain.specs.declared.explanation.Explanation.{Explanation}
 use Rattle.smap_printing.specs.Json.{json_line}
+use Rattle.smap_record.specs.DebugId.{debug_id_of}
 use Rattle.smap_record.specs.Record.{record_of}
 use Rattle.smap_record.specs.declared.refusal.MapRefusal.{MapRefusal}
 use Rattle.smap_verdicts.specs.Counts.{counts_value, map_counts}
@@ -23,11 +24,11 @@ use Rattle.url.specs.Parts.{Parts}
 
 -- ---- a file
 
--- the line for the map at a path that is accepted: how much it holds
-abbrev pub accepted_line : (path : List ℕ) → FileForm → MapCounts → List ℕ
-accepted_line path Counts counts = counts_line counts
-accepted_line path Named counts = map_counts_line path counts
-accepted_line path Object counts = json_line (counts_value path counts)
+-- the line for the map at a path that is accepted: how much it holds, and in an object its debug id, if it has one
+abbrev pub accepted_line : (path : List ℕ) → FileForm → (id : Option (List ℕ)) → MapCounts → List ℕ
+accepted_line path Counts id counts = counts_line counts
+accepted_line path Named id counts = map_counts_line path counts
+accepted_line path Object id counts = json_line (counts_value path id counts)
 
 -- the line of an object that reports a refusal, and why the map is refused
 pub record IsWhyObject (bytes path : List ℕ) (refused : MapRefusal) (line : List ℕ) : Type 0 where
@@ -49,7 +50,7 @@ IsRefusedReported bytes path Named explain refused report = IsRefused bytes path
 abbrev pub ChecksBytes : Option Parts → (k : ℕ) → FileForm → (explain : Bool) → (path bytes : List ℕ) → Report → Type 0
 ChecksBytes base k form explain path bytes =
     ReportsRead (IsRefusedReported bytes path form explain) (record_of bytes base k)
-    (IsLine (λ stated. accepted_line path form (map_counts stated k)))
+    (IsLine (λ stated. accepted_line path form (debug_id_of bytes) (map_counts stated k)))
 
 -- the file of a path is reported: it can't be read, or its bytes decide
 abbrev pub ChecksFile : MayRead → Option Parts → (k : ℕ) → FileForm → (explain : Bool) → (number : ℕ) (path : List ℕ) → Report → Type 0

@@ -123,25 +123,31 @@ fn checked_file<F: FileReader>(
         maps.now.interval how.form how.explain number path.now) (report_of result) }
 {
     let bytes = file_bytes_explained(alloc, maps.files, number, path, how.explain)?;
-    match MapFile::read(alloc, &bytes, maps.base, maps.interval) {
-        Ok(map) => Ok(Reply::Text(accepted_line(alloc, path, map_counts(&map), how.form)?)),
+    match MapFile::read_with_id(alloc, &bytes, maps.base, maps.interval, None) {
+        Ok((map, id)) => {
+            let counts = map_counts(&map);
+            let line = accepted_line(alloc, path, id.as_deref(), counts, how.form)?;
+            Ok(Reply::Text(line))
+        }
         Err(refused) => refused_reply(alloc, path, &bytes, refused, how),
     }
 }
 
-// The line for a map that holds so much.
+// The line for a map that holds so much, and may have a debug id.
 fn accepted_line(
     alloc: Global,
     path: &str,
+    id: Option<&str>,
     counts: MapCounts,
     form: FileForm,
 ) -> Result<String, AllocError>
-    ensures { IfOk result (λ line. string_bytes line ≡ accepted_line path.now form counts) }
+    ensures { IfOk result (λ line. string_bytes line
+        ≡ accepted_line path.now form (option_copied id.entry) counts) }
 {
     match form {
         FileForm::Counts => check_lines::counts_line(alloc, counts),
         FileForm::Named => check_lines::map_counts_line(alloc, path, counts),
-        FileForm::Object => check_lines::object_line(counts_json(alloc, path, counts)?),
+        FileForm::Object => check_lines::object_line(counts_json(alloc, path, id, counts)?),
     }
 }
 

@@ -1,10 +1,11 @@
 -- How much a map holds, as text and as JSON.
-use Rattle.std.specs.Prelude.{ℕ, true, List, [], ◌∷◌, codes, length}
+use Rattle.std.specs.Prelude.{ℕ, true, List, [], ◌∷◌, Option, codes, length, option_map}
 use Rattle.std.specs.Fmt.{decimal}
-use Rattle.serde_json.specs.Data.{Data, boolean, string, object, no_members, member}
+use Rattle.serde_json.specs.Data.{Data, Members, boolean, string, object, no_members, member}
 use Rattle.smap_index.specs.Marks.{marks, used_lines_in}
 use Rattle.smap_index.specs.Parts.{joined}
 use Rattle.smap_record.specs.Record.{MapRecord}
+use Rattle.smap_record.specs.Written.{member_where}
 use Rattle.smap_verdicts.specs.Texts.{count, text_from}
 use Rattle.smap_verdicts.specs.declared.counts.MapCounts.{MapCounts}
 
@@ -37,10 +38,11 @@ mappings_text counts = text_from (
 abbrev pub counts_text : MapCounts → List ℕ
 counts_text counts = text_from (codes "ok" ∷ lists_text counts ∷ mappings_text counts ∷ [])
 
--- the same of the map at a path, as a value whose keys stand in the order of their bytes
-abbrev pub counts_value : (path : List ℕ) → MapCounts → Data
-counts_value path counts = object (
+-- the members that say so of the map at a path, which may have a debug id, with keys in the order of their bytes
+abbrev pub counts_members : (path : List ℕ) → (id : Option (List ℕ)) → MapCounts → Members
+counts_members path id counts =
     member (codes "checkpoints") (count counts.checkpoints)
+    (member_where (codes "debugId") (option_map string id)
     (member (codes "lines") (count counts.lines)
     (member (codes "names") (count counts.names)
     (member (codes "ok") (boolean true)
@@ -48,3 +50,6 @@ counts_value path counts = object (
     (member (codes "sections") (count counts.sections)
     (member (codes "segments") (count counts.segments)
     (member (codes "sources") (count counts.sources) no_members))))))))
+
+abbrev pub counts_value : (path : List ℕ) → (id : Option (List ℕ)) → MapCounts → Data
+counts_value path id counts = object (counts_members path id counts)

@@ -1,11 +1,14 @@
 //! How much a map file holds.
-ghost use Rattle.std.specs.Prelude.{◌≡◌, string_bytes, IfOk};
-ghost use Rattle.serde_json.specs.View.{view};
+ghost use Rattle.std.specs.Prelude.{◌≡◌, option_copied, string_bytes, IfOk, OnOk};
+ghost use Rattle.serde_json.specs.Data.{put};
+ghost use Rattle.serde_json.specs.View.{members_view};
 ghost use Rattle.serde_json.specs.Written.{compact_text};
-ghost use Rattle.smap_verdicts.specs.Counts.{counts_text, counts_value, lists_text};
+ghost use Rattle.smap_verdicts.specs.Counts.{counts_members, counts_text, counts_value, lists_text};
 ghost use Rattle.smap_verdicts.specs.Counts.{map_counts, mappings_text};
+ghost use Rattle.smap_verdicts.specs.Texts.{count};
 
-use serde_json::{Value, json};
+use crate::as_json::put_text;
+use serde_json::{Map, Value, put};
 use smap_record::MapFile;
 use std::alloc::{AllocError, Global};
 
@@ -70,27 +73,54 @@ fn mappings_text(alloc: Global, counts: MapCounts) -> Result<String, AllocError>
     format!(in alloc; " segments {segments} lines {lines} checkpoints {checkpoints}")
 }
 
-/// The counts of the map at a path as JSON, on one line, with no LF.
-pub fn counts_json(alloc: Global, path: &str, counts: MapCounts) -> Result<String, AllocError>
+/// The counts of the map at a path as JSON, with its debug id, where it has one, on one line, with no LF.
+pub fn counts_json(
+    alloc: Global,
+    path: &str,
+    id: Option<&str>,
+    counts: MapCounts,
+) -> Result<String, AllocError>
     ensures { IfOk result (λ text. string_bytes text
-        ≡ compact_text (counts_value path.now counts)) }
+        ≡ compact_text (counts_value path.now (option_copied id.entry) counts)) }
 {
-    let value = counts_value(alloc, path, counts)?;
-    value.to_string(alloc)
+    let members = counts_members(alloc, path, id, counts)?;
+    Value::Object(members).to_string(alloc)
 }
 
-// The same as a value.
-fn counts_value(alloc: Global, path: &str, counts: MapCounts) -> Result<Value, AllocError>
-    ensures { IfOk result (λ value. view value ≡ counts_value path.now counts) }
+// The same as members.
+fn counts_members(
+    alloc: Global,
+    path: &str,
+    id: Option<&str>,
+    counts: MapCounts,
+) -> Result<Map<String, Value>, AllocError>
+    ensures { IfOk result (λ members. members_view members.entries
+        ≡ counts_members path.now (option_copied id.entry) counts) }
 {
-    json!(in alloc; {
-        "checkpoints": counts.checkpoints,
-        "lines": counts.lines,
-        "names": counts.names,
-        "ok": true,
-        "path": path,
-        "sections": counts.sections,
-        "segments": counts.segments,
-        "sources": counts.sources
-    })
+    let mut members = Map::new(alloc);
+    put_count(&mut members, alloc, "checkpoints", counts.checkpoints)?;
+    if let Some(id) = id {
+        put_text(&mut members, alloc, "debugId", id)?;
+    }
+    put_count(&mut members, alloc, "lines", counts.lines)?;
+    put_count(&mut members, alloc, "names", counts.names)?;
+    put(&mut members, alloc, "ok", Value::Bool(true))?;
+    put_text(&mut members, alloc, "path", path)?;
+    put_count(&mut members, alloc, "sections", counts.sections)?;
+    put_count(&mut members, alloc, "segments", counts.segments)?;
+    put_count(&mut members, alloc, "sources", counts.sources)?;
+    Ok(members)
+}
+
+// Adds a count at a key.
+fn put_count(
+    members: &mut Map<String, Value>,
+    alloc: Global,
+    key: &str,
+    number: u64,
+) -> Result<(), AllocError>
+    ensures { OnOk result (members_view members.new.entries
+        ≡ put key.now (count number) (members_view members.old.entries)) }
+{
+    put(members, alloc, key, Value::from(number))
 }

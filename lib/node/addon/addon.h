@@ -145,6 +145,10 @@ napi_value object_of_map(napi_env env, struct held *held, size_t length);
 uint32_t read_so(smap_text bytes, smap_text base, bool or_at_none, uint32_t interval, uint64_t most, smap_map *map,
                  smap_refusal *refusal);
 
+/* Writes a debug id, if there is one, into the text of a map that was handed out, and gives the status. Where there is no memory the text is
+ * freed. An id that a map has is UTF-8. */
+uint32_t with_id(uint32_t status, smap_bytes *bytes, bool has_id, smap_text id);
+
 /* mappings.c: nothing is handed out piece by piece any more. */
 void end_list(struct addon *addon);
 

@@ -363,10 +363,14 @@ static napi_value checked_file(napi_env env, napi_callback_info info) {
 static napi_value checked_write(napi_env env, napi_callback_info info) {
     napi_value words[WORDS];
     struct held *map;
-    if (!words_of(env, info, 1, words) ||
-        !(map = held_of(env, words[0], MAP)))
+    bool has_id;
+    smap_text id;
+    if (!words_of(env, info, 3, words) ||
+        !(map = held_of(env, words[0], MAP)) ||
+        !flag_of(env, words[1], &has_id) ||
+        !bytes_of(env, words[2], &id))
         return NULL;
-    return write_map(env, map);
+    return write_map(env, map, has_id, id);
 }
 
 static napi_value checked_compose(napi_env env, napi_callback_info info) {
@@ -374,12 +378,16 @@ static napi_value checked_compose(napi_env env, napi_callback_info info) {
     struct held *outer;
     uint32_t source;
     struct held *inner;
-    if (!words_of(env, info, 3, words) ||
+    bool has_id;
+    smap_text id;
+    if (!words_of(env, info, 5, words) ||
         !(outer = held_of(env, words[0], MAP)) ||
         !number_of(env, words[1], &source) ||
-        !(inner = held_of(env, words[2], MAP)))
+        !(inner = held_of(env, words[2], MAP)) ||
+        !flag_of(env, words[3], &has_id) ||
+        !bytes_of(env, words[4], &id))
         return NULL;
-    return compose(env, outer, source, inner);
+    return compose(env, outer, source, inner, has_id, id);
 }
 
 static napi_value checked_newInners(napi_env env, napi_callback_info info) {
@@ -434,13 +442,17 @@ static napi_value checked_composeAll(napi_env env, napi_callback_info info) {
     struct held *inners;
     bool prune;
     bool no_content;
-    if (!words_of(env, info, 4, words) ||
+    bool has_id;
+    smap_text id;
+    if (!words_of(env, info, 6, words) ||
         !(outer = held_of(env, words[0], MAP)) ||
         !(inners = held_of(env, words[1], INNERS)) ||
         !flag_of(env, words[2], &prune) ||
-        !flag_of(env, words[3], &no_content))
+        !flag_of(env, words[3], &no_content) ||
+        !flag_of(env, words[4], &has_id) ||
+        !bytes_of(env, words[5], &id))
         return NULL;
-    return compose_all(env, outer, inners, prune, no_content);
+    return compose_all(env, outer, inners, prune, no_content, has_id, id);
 }
 
 static napi_value checked_newTable(napi_env env, napi_callback_info info) {

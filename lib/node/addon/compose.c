@@ -8,12 +8,13 @@ static napi_value text_or_number(napi_env env, uint32_t status, smap_bytes *byte
     return status == SMAP_REFUSED ? number(env, why) : refuse(env, "out of memory");
 }
 
-/* compose(outer, source, inner): the text of the map, or the code of the refusal. The maps are two. */
-napi_value compose(napi_env env, struct held *outer, uint32_t source, struct held *inner) {
+/* compose(outer, source, inner, hasId, id): the text of the map, with this debug id, if there is one; or the code of the refusal. The maps are
+ * two. */
+napi_value compose(napi_env env, struct held *outer, uint32_t source, struct held *inner, bool has_id, smap_text id) {
     smap_code why = 0;
     if (outer == inner) return refuse_type(env, "one map twice");
     smap_bytes bytes = {0};
-    uint32_t status = smap_compose(&outer->map, source, &inner->map, &bytes, &why);
+    uint32_t status = with_id(smap_compose(&outer->map, source, &inner->map, &bytes, &why), &bytes, has_id, id);
     return text_or_number(env, status, &bytes, why);
 }
 
@@ -52,11 +53,11 @@ napi_value inner_name(napi_env env, struct held *outer, struct held *inners, uin
     return smap_inners_name(&outer->map, &inners->inners, source, &text) == SMAP_DONE ? string(env, text) : null(env);
 }
 
-/* composeAll(outer, inners, prune, noContent): the text of the map, or the code of the refusal. */
-napi_value compose_all(napi_env env, struct held *outer, struct held *inners, bool prune, bool no_content) {
+/* composeAll(outer, inners, prune, noContent, hasId, id): the same of a map and the maps of its sources. */
+napi_value compose_all(napi_env env, struct held *outer, struct held *inners, bool prune, bool no_content, bool has_id, smap_text id) {
     smap_code why = 0;
     const smap_compose_options options = {prune, no_content};
     smap_bytes bytes = {0};
-    uint32_t status = smap_compose_all(&outer->map, &inners->inners, &options, &bytes, &why);
+    uint32_t status = with_id(smap_compose_all(&outer->map, &inners->inners, &options, &bytes, &why), &bytes, has_id, id);
     return text_or_number(env, status, &bytes, why);
 }

@@ -145,10 +145,17 @@ napi_value file(napi_env env, struct held *held) {
     return smap_file(&held->map, &text) == SMAP_DONE ? string(env, text) : null(env);
 }
 
-/* write(map): its text, or null where it is refused. */
-napi_value write_map(napi_env env, struct held *held) {
+uint32_t with_id(uint32_t status, smap_bytes *bytes, bool has_id, smap_text id) {
+    if (status != SMAP_DONE || !has_id) return status;
+    if (smap_bytes_put_debug_id(bytes, id.bytes, id.length) == SMAP_DONE) return SMAP_DONE;
+    smap_bytes_free(bytes);
+    return SMAP_NO_MEMORY;
+}
+
+/* write(map, hasId, id): its text, with this debug id, if there is one; or null where it is refused. */
+napi_value write_map(napi_env env, struct held *held, bool has_id, smap_text id) {
     smap_bytes bytes = {0};
-    uint32_t status = smap_map_write(&held->map, &bytes);
+    uint32_t status = with_id(smap_map_write(&held->map, &bytes), &bytes, has_id, id);
     if (status == SMAP_DONE) return buffer(env, &bytes);
     return status == SMAP_REFUSED ? null(env) : refuse(env, "out of memory");
 }

@@ -39,10 +39,14 @@ PyObject *checked_inners_composed(PyObject *self, PyObject *words) {
     PyObject *words0;
     int prune;
     int no_content;
-    if (!PyArg_ParseTuple(words, "O!pp", map_type, &words0, &prune, &no_content) ||
+    int has_id;
+    PyObject *words4;
+    struct given id;
+    if (!PyArg_ParseTuple(words, "O!pppO", map_type, &words0, &prune, &no_content, &has_id, &words4) ||
+        !bytes_of(words4, &id) ||
         !ready((struct held *[]){inners, (struct held *)words0}, 2))
         return NULL;
-    return inners_composed(inners, (struct held *)words0, prune, no_content);
+    return inners_composed(inners, (struct held *)words0, prune, no_content, has_id, id);
 }
 
 PyObject *checked_map_lines(PyObject *self, PyObject *words) {
@@ -63,10 +67,14 @@ PyObject *checked_map_lines(PyObject *self, PyObject *words) {
 
 PyObject *checked_map_written(PyObject *self, PyObject *words) {
     struct held *held = (struct held *)self;
-    (void)words;
-    if (!ready((struct held *[]){held}, 1))
+    int has_id;
+    PyObject *words1;
+    struct given id;
+    if (!PyArg_ParseTuple(words, "pO", &has_id, &words1) ||
+        !bytes_of(words1, &id) ||
+        !ready((struct held *[]){held}, 1))
         return NULL;
-    return map_written(held);
+    return map_written(held, has_id, id);
 }
 
 PyObject *checked_map_bytes_by_source(PyObject *self, PyObject *words) {
@@ -245,10 +253,14 @@ PyObject *checked_compose(PyObject *self, PyObject *words) {
     PyObject *words0;
     unsigned int source;
     PyObject *words2;
-    if (!PyArg_ParseTuple(words, "O!IO!", map_type, &words0, &source, map_type, &words2) ||
+    int has_id;
+    PyObject *words4;
+    struct given id;
+    if (!PyArg_ParseTuple(words, "O!IO!pO", map_type, &words0, &source, map_type, &words2, &has_id, &words4) ||
+        !bytes_of(words4, &id) ||
         !ready((struct held *[]){(struct held *)words0, (struct held *)words2}, 2))
         return NULL;
-    return compose((struct held *)words0, source, (struct held *)words2);
+    return compose((struct held *)words0, source, (struct held *)words2, has_id, id);
 }
 
 PyObject *checked_encode(PyObject *self, PyObject *words) {

@@ -5,9 +5,9 @@
 PyObject *inners_put(struct held *inners, uint32_t source, struct held *source_map);
 PyObject *inners_next(struct held *inners, struct held *outer);
 PyObject *inners_name(struct held *inners, struct held *outer, uint32_t source);
-PyObject *inners_composed(struct held *inners, struct held *outer, bool prune, bool no_content);
+PyObject *inners_composed(struct held *inners, struct held *outer, bool prune, bool no_content, bool has_id, struct given id);
 PyObject *map_lines(struct held *held, PyObject *value, uint32_t source, uint32_t line, uint32_t before, uint32_t after);
-PyObject *map_written(struct held *held);
+PyObject *map_written(struct held *held, bool has_id, struct given id);
 PyObject *map_bytes_by_source(struct held *held, struct given generated);
 PyObject *map_fit(struct held *held, struct given generated);
 PyObject *map_use_paths(struct held *held, struct given url);
@@ -24,7 +24,7 @@ PyObject *frame_urls(struct given trace, bool anywhere);
 PyObject *folder_path(struct given prefix, struct given url);
 PyObject *is_path(struct given url);
 PyObject *url_refusal(struct given url, struct held *source_map);
-PyObject *compose(struct held *outer, uint32_t source, struct held *inner);
+PyObject *compose(struct held *outer, uint32_t source, struct held *inner, bool has_id, struct given id);
 PyObject *encode(struct given mappings);
 PyObject *code_text(uint32_t code);
 
@@ -40,7 +40,7 @@ PyObject *checked_inners_composed(PyObject *self, PyObject *words);
 PyObject *checked_map_lines(PyObject *self, PyObject *words);
 #define CHECKED_map_lines {"_lines", checked_map_lines, METH_VARARGS, NULL}
 PyObject *checked_map_written(PyObject *self, PyObject *words);
-#define CHECKED_map_written {"_written", checked_map_written, METH_NOARGS, NULL}
+#define CHECKED_map_written {"_written", checked_map_written, METH_VARARGS, NULL}
 PyObject *checked_map_bytes_by_source(PyObject *self, PyObject *words);
 #define CHECKED_map_bytes_by_source {"_bytes_by_source", checked_map_bytes_by_source, METH_O, NULL}
 PyObject *checked_map_fit(PyObject *self, PyObject *words);

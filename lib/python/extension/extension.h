@@ -69,6 +69,10 @@ PyObject *taken(smap_bytes *bytes);
 /* What a call gives that hands bytes out: the bytes, or the code of a refusal. */
 PyObject *taken_or_refused(uint32_t status, smap_bytes *bytes, smap_code refusal);
 
+/* compose.c: writes a debug id, if there is one, into the text of a map that was handed out, and gives the status. Where there is no memory
+ * the text is freed. An id that a map has is UTF-8. */
+uint32_t with_id(uint32_t status, smap_bytes *bytes, bool has_id, struct given id);
+
 /* held.c: a map, a table with a store, a rewriting or inner maps, used by one call at a time. It is full where it is open. A call that lets other threads go on is at
  * work with it while it is busy, and has its lock. A short call needs none, since it is alone until it returns. */
 struct held {

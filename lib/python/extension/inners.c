@@ -79,12 +79,12 @@ PyObject *inners_name(struct held *inners, struct held *outer, uint32_t source) 
 }
 
 /* The text of what the maps come to, or the code of the refusal. */
-PyObject *inners_composed(struct held *inners, struct held *outer, bool prune, bool no_content) {
+PyObject *inners_composed(struct held *inners, struct held *outer, bool prune, bool no_content, bool has_id, struct given id) {
     const smap_compose_options options = {prune, no_content};
     smap_bytes bytes = {0};
     smap_code refusal = 0;
     PyThreadState *state = begun(inners, outer);
-    uint32_t status = smap_compose_all(&outer->map, &inners->inners, &options, &bytes, &refusal);
+    uint32_t status = with_id(smap_compose_all(&outer->map, &inners->inners, &options, &bytes, &refusal), &bytes, has_id, id);
     ended(inners, outer, state);
     return taken_or_refused(status, &bytes, refusal);
 }

@@ -33,6 +33,16 @@ static PyObject *map_close(PyObject *self, PyObject *unused) {
 /* A map of more bytes, which others could change, is copied, so that other threads go on while it is read. */
 #define LARGE (1 << 20)
 
+/* Bytes that were handed out as a text, which are freed. */
+static PyObject *text_taken(smap_bytes *bytes) {
+    smap_text text = SMAP_TEXT;
+    smap_bytes_text(bytes, &text);
+    PyObject *value = text_if(true, text);
+    smap_bytes_free(bytes);
+    return value;
+}
+
+/* Gives the debug id of what was read, or None, or why it is refused. */
 static PyObject *map_read(PyObject *self, PyObject *words) {
     struct held *held = (struct held *)self;
     PyObject *data, *base_data;
@@ -45,17 +55,19 @@ static PyObject *map_read(PyObject *self, PyObject *words) {
     uint8_t *copy = !given.steady && given.length > LARGE ? malloc(given.length) : NULL;
     if (copy) given.bytes = memcpy(copy, given.bytes, given.length);
     smap_refusal refusal = {0};
+    smap_bytes id = {0};
+    uint32_t has_id = 0;
     begin(held);
     PyThreadState *state = let_go((given.steady || copy) && base.steady);
-    uint32_t status =
-        smap_map_read_within(given.bytes, given.length, base.bytes, base.length, interval, most_names, &held->map, &refusal);
+    uint32_t status = smap_map_read_with_id(given.bytes, given.length, base.bytes, base.length, interval, most_names, &held->map, &id, &has_id, &refusal);
     free(copy);
     come_back(state);
     held->full = status == SMAP_DONE;
     held->size = given.length;
     end(held);
     if (status == SMAP_REFUSED) return refusal_of(&refusal);
-    return status == SMAP_DONE ? none() : PyErr_NoMemory();
+    if (status != SMAP_DONE) return PyErr_NoMemory();
+    return has_id ? text_taken(&id) : none();
 }
 
 typedef uint32_t look_up_call(const smap_map *, uint32_t, uint32_t, smap_found *);
@@ -247,11 +259,11 @@ static PyObject *map_nbytes(PyObject *self, void *unused) {
     return ready(&held, 1) ? PyLong_FromUnsignedLongLong(size_of_map(held)) : NULL;
 }
 
-PyObject *map_written(struct held *held) {
+PyObject *map_written(struct held *held, bool has_id, struct given id) {
     smap_bytes bytes = {0};
     begin(held);
     PyThreadState *state = let_go(true);
-    uint32_t status = smap_map_write(&held->map, &bytes);
+    uint32_t status = with_id(smap_map_write(&held->map, &bytes), &bytes, has_id, id);
     come_back(state);
     end(held);
     return taken_or_refused(status, &bytes, SMAP_CODE_O1);

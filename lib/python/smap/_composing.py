@@ -14,14 +14,14 @@ Load = Callable[[str], Optional[Given]]
 
 
 def compose_all(outer: SourceMap, inners: Optional[Mapping[Union[str, int], Given]] = None, load: Optional[Load] = None,
-                prune: bool = False, no_content: bool = False) -> bytes:
+                prune: bool = False, no_content: bool = False, debug_id: bool = False) -> bytes:
     """The text of the map that a map and the maps of its sources come to. `inners` are maps, or what a `SourceMap` reads,
     each under the name of the sources that it is of, or under the number of one source, from 0. `load` is asked by name for
     the map of each source that has none among them, and then for those of the sources of the maps that were found, and so
     on; it gives the map, or None where there is none. It is asked once for each name. A source is not followed where it is
     one of those that lead to it. What is read here stands at the name of its source where that is a URL. With `prune`
     sources and names that no mapping has are left out, and of equal ones all but the first; with `no_content` the contents
-    of the sources. A `SourceMap` that is given stays open. Raises `Refused`, whose `url` is the source's name
+    of the sources. With `debug_id` the debug id of the outer map stays. A `SourceMap` that is given stays open. Raises `Refused`, whose `url` is the source's name
     where its map is refused, or `MemoryError`."""
     if not isinstance(outer, SourceMap):
         raise TypeError(f"a SourceMap is composed, not {type(outer).__name__}")
@@ -35,7 +35,7 @@ def compose_all(outer: SourceMap, inners: Optional[Mapping[Union[str, int], Give
             _put(places, number, names[number] if number < len(names) else None, given)
         if load is not None:
             _ask(outer, places, load)
-        text = places.composed(outer, bool(prune), bool(no_content))
+        text = places.composed(outer, bool(prune), bool(no_content), *outer._id_if(debug_id))
     if isinstance(text, int):
         raise refused_as(text)
     return text

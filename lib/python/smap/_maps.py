@@ -7,7 +7,7 @@ from threading import Lock
 from typing import Callable, Iterable, List, Optional, Tuple, Type, TypeVar, Union
 
 from . import _given, _smap
-from ._answers import Context, Fit, Generated, Mapping, Source
+from ._answers import Context, Fit, Generated, Mapping, Refusal, Source
 from ._reported import Refused, refused_as, refused_base, refused_encoding, refused_map
 
 # Of the answers of a look-up among many: seven numbers of 32 bits each.
@@ -41,6 +41,7 @@ class SourceMap(_smap.Map):
     """A source map that was read. It is freed by `close`, at the end of a `with`, or when nothing names it any more."""
 
     _originals: Optional[Originals] = None
+    _debug_id: Optional[str] = None
 
     def __init__(self, data: _given.FileData, base: Optional[Base] = None, interval: int = 64, *,
                  max_names: int = _given.NAME_BYTES) -> None:
@@ -91,11 +92,12 @@ class SourceMap(_smap.Map):
                 pass
             if not base_bytes and not or_at_none:
                 raise refused_base(_smap.USAGE, base, url)
-        refusal = self._read(held, base_bytes, interval, most_names)
-        if refusal is not None and refusal.code == _smap.USAGE and or_at_none:
-            refusal = self._read(held, b"", interval, most_names)
-        if refusal is not None:
-            raise refused_map(held, refusal, name, base or "", url, hint)
+        read = self._read(held, base_bytes, interval, most_names)
+        if isinstance(read, Refusal) and read.code == _smap.USAGE and or_at_none:
+            read = self._read(held, b"", interval, most_names)
+        if isinstance(read, Refusal):
+            raise refused_map(held, read, name, base or "", url, hint)
+        self._debug_id = read
 
     def __enter__(self: _Map) -> _Map:
         return self
@@ -174,9 +176,18 @@ class SourceMap(_smap.Map):
             raise refused_as(reported, name=_given.file_name(generated))
         return Fit(*reported)
 
-    def write(self) -> bytes:
-        """The map as the text of one regular map."""
-        text = self._written()
+    @property
+    def debug_id(self) -> Optional[str]:
+        """The debug id, which the generated file names too: the text at `debugId`, or at `debug_id` where that is none; or None."""
+        return self._debug_id
+
+    # Whether a debug id is written, and which.
+    def _id_if(self, kept: bool) -> Tuple[bool, bytes]:
+        return (False, b"") if not kept or self._debug_id is None else (True, self._debug_id.encode())
+
+    def write(self, *, debug_id: bool = False) -> bytes:
+        """The map as the text of one regular map; with `debug_id` with its debug id, if it has one, as the last member."""
+        text = self._written(*self._id_if(debug_id))
         if isinstance(text, int):
             raise refused_as(text)
         return text
@@ -194,13 +205,14 @@ def encode(mappings: Iterable[Mapping]) -> str:
     return text.decode()
 
 
-def compose(outer: SourceMap, source: int, inner: SourceMap) -> bytes:
-    """The text of the map that two maps come to, the inner one being of this source of the outer one, from 0."""
+def compose(outer: SourceMap, source: int, inner: SourceMap, *, debug_id: bool = False) -> bytes:
+    """The text of the map that two maps come to, the inner one being of this source of the outer one, from 0. With `debug_id` it has
+    that of the outer one, if there is one."""
     for given in (outer, inner):
         if not isinstance(given, SourceMap):
             raise TypeError(f"a SourceMap is composed, not {type(given).__name__}")
     number = _given.index(source, "source")
-    text = _smap.compose(outer, number, inner._shared() if outer is inner else inner)
+    text = _smap.compose(outer, number, inner._shared() if outer is inner else inner, *outer._id_if(debug_id))
     if isinstance(text, int):
         raise refused_as(text)
     return text

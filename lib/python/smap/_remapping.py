@@ -66,7 +66,7 @@ class _Traced:
             for number, inner in self.inners.items():
                 if not places.put(number, inner):
                     raise refused_as(_smap.C1)
-            text = places.composed(self.source_map, prune, no_content)
+            text = places.composed(self.source_map, prune, no_content, False, b"")
         if isinstance(text, int):
             raise refused_as(text)
         return text

@@ -34,6 +34,8 @@ class _Kept(Loading):
         # What those share that were handed out of what is kept, and where it has its index already.
         self._shared: Dict[str, Originals] = {}
         self._indexed: Dict[str, Originals] = {}
+        # The debug ids of those that have one.
+        self._ids: Dict[str, str] = {}
 
     @property
     def max_bytes(self) -> int:
@@ -80,9 +82,20 @@ class _Kept(Loading):
                 key, this = self._key(url), weakref.ref(self)
                 originals = self._shared.pop(key, None) or Originals(lambda made: _index_made(this(), key, made))
                 found._originals = self._shared[key] = originals
+                found._debug_id = self._ids.get(key)
                 if len(self._shared) > _MOST_SHARED:
                     del self._shared[next(iter(self._shared))]
             return found
+
+    def _learned(self, key: str, found: Optional[SourceMap], error: Optional[Exception]) -> bool:
+        has_new = super()._learned(key, found, error)
+        if found is not None and found.debug_id is not None:
+            self._ids[key] = found.debug_id
+        elif found is not None:
+            self._ids.pop(key, None)
+        if len(self._ids) > 2 * len(self) + _MOST_SHARED:
+            self._ids = {key: id for key, id in self._ids.items() if self._knows(key)}
+        return has_new
 
     # What is handed out under a URL from now on shares nothing with what was. An index goes where its map was dropped, too.
     def _part(self, *keys: str) -> None:

@@ -6,7 +6,7 @@ use crate::map::SourceMap;
 use std::collections::HashMap;
 use std::io;
 
-/// What [`SourceMap::compose_all`] leaves out of the map that it writes.
+/// What [`SourceMap::compose_all`] leaves out of the map that it writes, and what it keeps.
 ///
 /// ```
 /// use smap::ComposeOptions;
@@ -21,6 +21,8 @@ pub struct ComposeOptions {
     pub prune: bool,
     /// The contents of the sources.
     pub no_content: bool,
+    /// Not left out but kept: the debug id of the outer map.
+    pub debug_id: bool,
 }
 
 impl SourceMap {
@@ -60,8 +62,11 @@ impl SourceMap {
                 inners.put(source, standing_at(&name, bytes.as_ref(), Reading::USUAL)?)?;
             }
         }
-        let ComposeOptions { prune, no_content } = options;
-        Ok(inners.composed(prune, no_content)?.to_vec())
+        let composed = inners.composed(options.prune, options.no_content)?;
+        if options.debug_id {
+            return Ok(self.with_debug_id(composed)?.to_vec());
+        }
+        Ok(composed.to_vec())
     }
 }
 

@@ -236,6 +236,18 @@ impl SourceMap {
         self.texts.file.as_deref()
     }
 
+    /// The debug id of the map, which its generated file names too: the text at `debugId`, or at
+    /// `debug_id` where that is none. Maps that [`Maps`](crate::Maps) hand out have none.
+    ///
+    /// ```
+    /// # let map = smap::SourceMap::from_slice(br#"{"version":3,"sources":[],"mappings":"","debug_id":"7f"}"#)?;
+    /// assert_eq!(map.get_debug_id(), Some("7f"));
+    /// # Ok::<(), smap::Error>(())
+    /// ```
+    pub fn get_debug_id(&self) -> Option<&str> {
+        self.map.debug_id()
+    }
+
     /// About how many bytes of memory the library takes for the map.
     ///
     /// ```
@@ -256,6 +268,26 @@ impl SourceMap {
     /// ```
     pub fn to_vec(&self) -> Result<Vec<u8>, Error> {
         Ok(self.map.written()?.to_vec())
+    }
+
+    /// The same with the debug id, where the map has one: `debugId`, as the last member.
+    ///
+    /// ```
+    /// # let map = smap::SourceMap::from_slice(br#"{"debugId":"7f","version":3,"sources":[],"mappings":""}"#)?;
+    /// let text = br#"{"mappings":"","names":[],"sources":[],"version":3,"debugId":"7f"}"#;
+    /// assert_eq!(map.to_vec_with_debug_id()?, text);
+    /// # Ok::<(), smap::Error>(())
+    /// ```
+    pub fn to_vec_with_debug_id(&self) -> Result<Vec<u8>, Error> {
+        Ok(self.with_debug_id(self.map.written()?)?.to_vec())
+    }
+
+    /// What was written of this map, or of what it comes to, with its debug id.
+    pub(crate) fn with_debug_id(&self, written: library::Bytes) -> Result<library::Bytes, Error> {
+        match self.get_debug_id() {
+            Some(id) => written.with_debug_id(id),
+            None => Ok(written),
+        }
     }
 
     /// The text of the map that this one comes to with the map of one of its sources, from 0.

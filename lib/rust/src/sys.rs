@@ -349,6 +349,18 @@ extern "C" {
         map: *mut smap_map,
         refusal: *mut smap_refusal,
     ) -> u32;
+    pub fn smap_map_read_with_id(
+        bytes: *const u8,
+        length: usize,
+        base: *const u8,
+        base_length: usize,
+        interval: u32,
+        most_names: u64,
+        map: *mut smap_map,
+        id: *mut smap_bytes,
+        has_id: *mut u32,
+        refusal: *mut smap_refusal,
+    ) -> u32;
     pub fn smap_map_use_paths(map: *mut smap_map, url: *const u8, length: usize) -> u32;
     pub fn smap_is_path(url: *const u8, length: usize) -> u32;
     pub fn smap_map_stand_at(
@@ -443,6 +455,7 @@ extern "C" {
         range: *mut smap_line_range,
     ) -> u32;
     pub fn smap_map_write(map: *mut smap_map, bytes: *mut smap_bytes) -> u32;
+    pub fn smap_bytes_put_debug_id(bytes: *mut smap_bytes, id: *const u8, length: usize) -> u32;
     pub fn smap_compose(
         outer: *mut smap_map,
         source: u32,

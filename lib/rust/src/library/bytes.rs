@@ -1,7 +1,7 @@
 //! Bytes that the library hands out.
 
 use super::{done, lent, no_text};
-use crate::error::Error;
+use crate::error::{Error, Refused};
 use crate::sys;
 use std::ops::Deref;
 use std::ptr;
@@ -25,10 +25,23 @@ impl Bytes {
             at: ptr::null_mut(),
         };
         done(call(&mut handle), why)?;
+        Ok(Bytes::full(handle))
+    }
+
+    pub(super) fn full(mut handle: sys::smap_bytes) -> Bytes {
         let mut text = no_text();
-        // The next call with the handle is the one that frees it: until then the text stays.
+        // The next call with the handle is the one that frees it, or that lends the text anew.
         unsafe { sys::smap_bytes_text(&mut handle, &mut text) };
-        Ok(Bytes { handle, text })
+        Bytes { handle, text }
+    }
+
+    /// The text of a map with this debug id.
+    pub(crate) fn with_debug_id(mut self, id: &str) -> Result<Bytes, Error> {
+        let status =
+            unsafe { sys::smap_bytes_put_debug_id(&mut self.handle, id.as_ptr(), id.len()) };
+        done(status, Refused::nothing)?;
+        unsafe { sys::smap_bytes_text(&mut self.handle, &mut self.text) };
+        Ok(self)
     }
 
     /// The mappings that these bytes are.

@@ -38,6 +38,8 @@ const NO_URL: sys::smap_refusal = sys::smap_refusal {
 /// A map that was read.
 pub(crate) struct Map {
     handle: UnsafeCell<sys::smap_map>,
+    /// What the map has beside what the handle holds.
+    debug_id: Option<String>,
 }
 
 // Any thread may use a handle, as long as one does at a time: a `Map` is not `Sync`.
@@ -60,12 +62,15 @@ impl Map {
         let mut handle = sys::smap_map {
             at: ptr::null_mut(),
         };
-        let mut refusal = sys::smap_refusal::default();
+        let mut id = sys::smap_bytes {
+            at: ptr::null_mut(),
+        };
+        let (mut has_id, mut refusal) = (0, sys::smap_refusal::default());
         let status = unsafe {
             let (bytes, length) = (bytes.as_ptr(), bytes.len());
             let (interval, most) = (how.interval, how.most_names);
             let (map, why) = (&mut handle, &mut refusal);
-            sys::smap_map_read_within(
+            sys::smap_map_read_with_id(
                 bytes,
                 length,
                 base_bytes,
@@ -73,11 +78,15 @@ impl Map {
                 interval,
                 most,
                 map,
+                &mut id,
+                &mut has_id,
                 why,
             )
         };
         done(status, || Refused::map(refusal, base))?;
-        Ok(Map::full(handle))
+        let mut map = Map::full(handle);
+        map.debug_id = (has_id == 1).then(|| Bytes::full(id).to_text());
+        Ok(map)
     }
 
     /// Names the sources by the path at which the generated file stands.
@@ -100,7 +109,12 @@ impl Map {
     pub(super) fn full(handle: sys::smap_map) -> Map {
         Map {
             handle: UnsafeCell::new(handle),
+            debug_id: None,
         }
+    }
+
+    pub(crate) fn debug_id(&self) -> Option<&str> {
+        self.debug_id.as_deref()
     }
 
     pub(super) fn handle(&self) -> *mut sys::smap_map {
@@ -109,7 +123,8 @@ impl Map {
 
     /// The handle for a call that takes it over.
     pub(super) fn into_handle(self) -> sys::smap_map {
-        let map = ManuallyDrop::new(self);
+        let mut map = ManuallyDrop::new(self);
+        map.debug_id = None;
         // The value is gone, so this is the only one that has the handle.
         unsafe { ptr::read(map.handle.get()) }
     }
@@ -275,7 +290,9 @@ impl Map {
         };
         let status = unsafe { sys::smap_map_share(self.handle(), &mut handle) };
         done(status, Refused::nothing)?;
-        Ok(Map::full(handle))
+        let mut map = Map::full(handle);
+        map.debug_id = self.debug_id.clone();
+        Ok(map)
     }
 }
 
