@@ -1,3 +1,4 @@
 pub mod Kept
 pub mod Stored
+pub mod Named
 pub mod UrlMaps

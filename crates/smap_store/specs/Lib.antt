@@ -4,6 +4,8 @@ pub mod Fileless
 pub mod Stored
 pub mod StoredMaps
 pub mod MapList
+pub mod Names
+pub mod Named
 pub mod Laws
 pub mod UrlTable
 pub mod PatternSeen

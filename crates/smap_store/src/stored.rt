@@ -3,6 +3,7 @@ ghost use Rattle.std.specs.Prelude.{◌≡◌, option_map, string_bytes};
 ghost use Rattle.std.specs.Result.{result_map_both};
 ghost use Rattle.smap_store.specs.Fileless.{known_of};
 ghost use Rattle.smap_store.specs.Loaded.{came_seen};
+ghost use Rattle.smap_store.specs.Named.{holds_map};
 ghost use Rattle.smap_store.specs.Stored.{Asks, Comes, outcome_at};
 ghost use Rattle.smap_store.specs.StoredMaps.{IsSameStore, stored_seen};
 
@@ -39,6 +40,13 @@ impl<L: MapLoader> StoredMaps<'_, '_, L> {
             return Some(None);
         }
         None
+    }
+
+    // Whether the map of a URL is at hand: nothing is read when it is looked for.
+    pub(crate) fn holds(&self, url: &[u8]) -> bool
+        ensures { result ≡ holds_map (stored_seen self.now) url.now }
+    {
+        self.known(url).is_some() || self.cache.recall(self.locations.key_for(url)).is_some()
     }
 
     /// The map of the URL that was looked for last, or why it has none. The call takes no memory.

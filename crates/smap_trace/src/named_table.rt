@@ -72,7 +72,7 @@ impl Maps for NamedTable<'_> {
 
 /// The name that was written for a function of this name, by its map and the declarations of its program, where there are
 /// both, at a line and a column as printed, from 1; `None` where these do not say it. The call takes no memory.
-fn name_beside<'a>(
+pub fn name_beside<'a>(
     alloc: Global,
     map: Option<&'a ReadyMap>,
     declared: Option<&Declarations>,
