@@ -22,14 +22,59 @@ const ROWS: &[Row] = &[
             ("a", 0, 9, Some("one")),
             ("a", 0, 13, Some("one")),
             ("a", 0, 14, Some("two")),
-            ("a", 9, 0, Some("two")),
+            ("a", 0, 20, Some("two")),
+            ("a", 9, 0, None),
+        ],
+    },
+    // Where its body has ended, nothing does.
+    Row {
+        text: "function a(){function a(){}b()}c()",
+        map: r#"{"version":3,"sources":["s.ts"],"names":["one","two"],"mappings":"SAAAA,aAAAC"}"#,
+        names: &[
+            ("a", 0, 13, Some("one")),
+            ("a", 0, 22, Some("two")),
+            ("a", 0, 26, Some("two")),
+            ("a", 0, 27, None),
+            ("a", 0, 31, None),
+        ],
+    },
+    // Blocks within it do not end it.
+    Row {
+        text: "function a(){if(b){c({d:{}})}\ne()}f()",
+        map: r#"{"version":3,"sources":["s.ts"],"names":["one"],"mappings":"SAAAA"}"#,
+        names: &[
+            ("a", 0, 28, Some("one")),
+            ("a", 1, 3, Some("one")),
+            ("a", 1, 4, None),
+        ],
+    },
+    // Braces are counted as bytes, wherever they stand.
+    Row {
+        text: "function a(){b(\"}\");c()}",
+        map: r#"{"version":3,"sources":["s.ts"],"names":["one"],"mappings":"SAAAA"}"#,
+        names: &[("a", 0, 16, Some("one")), ("a", 0, 17, None)],
+    },
+    Row {
+        text: "function a(){b(\"{\")}c()",
+        map: r#"{"version":3,"sources":["s.ts"],"names":["one"],"mappings":"SAAAA"}"#,
+        names: &[("a", 0, 23, Some("one"))],
+    },
+    // Without a block it ends at the next one's end, or at that of the block around it.
+    Row {
+        text: "{a=()=>b()}c();d=()=>1;if(e){f()}g()",
+        map: r#"{"version":3,"sources":["s.ts"],"names":["one","two"],"mappings":"CAAAA,cAAAC"}"#,
+        names: &[
+            ("a", 0, 10, Some("one")),
+            ("a", 0, 11, None),
+            ("d", 0, 32, Some("two")),
+            ("d", 0, 33, None),
         ],
     },
     // A property decides too.
     Row {
         text: "function a(){}x={a(){}}",
         map: r#"{"version":3,"sources":["s.ts"],"names":["one","two"],"mappings":"SAAAA,QAAAC"}"#,
-        names: &[("a", 0, 16, Some("one")), ("a", 0, 17, None)],
+        names: &[("a", 0, 13, Some("one")), ("a", 0, 17, None)],
     },
     // A mapping beside the place gives nothing.
     Row {
@@ -71,7 +116,7 @@ const ROWS: &[Row] = &[
     Row {
         text: "function a(){}x.a=function(){}",
         map: r#"{"version":3,"sources":["s.ts"],"names":["one"],"mappings":"SAAAA,OAAAA"}"#,
-        names: &[("a", 0, 15, Some("one")), ("a", 0, 29, None)],
+        names: &[("a", 0, 13, Some("one")), ("a", 0, 29, None)],
     },
     // What is no function declares nothing.
     Row {
@@ -89,10 +134,10 @@ const ROWS: &[Row] = &[
         text: "a=function*(){};b = async (x) => 1;c=async y=>2;d=class{};e=(f,(g))=>3",
         map: r#"{"version":3,"sources":["s.ts"],"names":["one","two","three","four","five"],"mappings":"AAAAA,gBAAAC,mBAAAC,aAAAC,UAAAC"}"#,
         names: &[
-            ("a", 0, 70, Some("one")),
-            ("b", 0, 70, Some("two")),
-            ("c", 0, 70, Some("three")),
-            ("d", 0, 70, Some("four")),
+            ("a", 0, 14, Some("one")),
+            ("b", 0, 32, Some("two")),
+            ("c", 0, 46, Some("three")),
+            ("d", 0, 56, Some("four")),
             ("e", 0, 70, Some("five")),
         ],
     },
@@ -101,10 +146,10 @@ const ROWS: &[Row] = &[
         text: "function *a(){}async function\nb(){}class  c extends d{}",
         map: r#"{"version":3,"sources":["s.ts"],"names":["one","two","three"],"mappings":"UAAAA;AAAAC,YAAAC"}"#,
         names: &[
-            ("a", 3, 0, Some("one")),
-            ("b", 3, 0, Some("two")),
-            ("c", 3, 0, Some("three")),
-            ("d", 3, 0, None),
+            ("a", 0, 14, Some("one")),
+            ("b", 1, 4, Some("two")),
+            ("c", 1, 24, Some("three")),
+            ("d", 1, 24, None),
         ],
     },
     // Keys of functions.
@@ -112,31 +157,31 @@ const ROWS: &[Row] = &[
         text: "function a(){}function b(){}({\"a\":function(){},'b' :c=>1})",
         map: r#"{"version":3,"sources":["s.ts"],"names":["one","two"],"mappings":"SAAAA,cAAAC"}"#,
         names: &[
-            ("a", 0, 29, Some("one")),
-            ("b", 0, 29, Some("two")),
-            ("a", 0, 57, None),
-            ("b", 0, 57, None),
+            ("a", 0, 13, Some("one")),
+            ("b", 0, 27, Some("two")),
+            ("a", 0, 44, None),
+            ("b", 0, 55, None),
         ],
     },
     // Quotation marks that differ are none.
     Row {
-        text: "function a(){}({\"b a':function(){}})",
+        text: "function a(){({\"b a':function(){}})}",
         map: r#"{"version":3,"sources":["s.ts"],"names":["one"],"mappings":"SAAAA"}"#,
         names: &[("a", 0, 35, Some("one"))],
     },
     // Statements are no methods.
     Row {
-        text: "function a(){}if(a){}for(;;){}a(b){}",
+        text: "function a(){if(a){}for(;;){}a(b){}}",
         map: r#"{"version":3,"sources":["s.ts"],"names":["one"],"mappings":"SAAAA"}"#,
         names: &[
-            ("a", 0, 29, Some("one")),
-            ("if", 0, 29, None),
-            ("a", 0, 35, None),
+            ("a", 0, 28, Some("one")),
+            ("if", 0, 28, None),
+            ("a", 0, 34, None),
         ],
     },
     // A call is no method.
     Row {
-        text: "function a(){}a(b);a(c)",
+        text: "function a(){a(b);a(c)}",
         map: r#"{"version":3,"sources":["s.ts"],"names":["one"],"mappings":"SAAAA"}"#,
         names: &[("a", 0, 22, Some("one"))],
     },
@@ -168,7 +213,7 @@ const ROWS: &[Row] = &[
     Row {
         text: "function a(){}function b(){}",
         map: r#"{"version":3,"sources":["s.ts"],"names":["\",\"admin\":true,\"",""],"mappings":"SAAAA,cAAAC"}"#,
-        names: &[("a", 0, 30, None), ("b", 0, 30, None)],
+        names: &[("a", 0, 13, None), ("b", 0, 27, None)],
     },
     // Brackets are counted as bytes.
     Row {

@@ -3,7 +3,7 @@ use Rattle.std.proofs.Common.{◌≡◌, ℕ, List, Option, Some, None}
 use Rattle.std.specs.List.Sorted.{IsPermutation}
 use Rattle.std.proofs.lemmas.List.Sorted.{Contains-permutation, IsPermutation-sym}
 use Rattle.smap_declarations.specs.Declarations.{Named}
-use Rattle.smap_declarations.specs.Frames.{Decides, IsLast, IsNameOf, IsNone, name_by}
+use Rattle.smap_declarations.specs.Frames.{Decides, IsLast, IsNameOf, IsNone, lasting, name_by}
 use Rattle.smap_declarations.specs.declared.walk.DeclarationPlace.{DeclarationPlace}
 
 module _ (all kept : List Named) (same : IsPermutation all kept) (name : List ℕ) (place : DeclarationPlace) where
@@ -22,5 +22,5 @@ module _ (all kept : List Named) (same : IsPermutation all kept) (name : List �
   decides_in_all (Some last) is = last_in_all last is
 
   pub names_alike : (names : List (List ℕ)) (decides : Option Named) (given : Option (List ℕ)) → Decides kept name place decides
-      → given ≡ name_by names name decides → IsNameOf all names name place given
-  names_alike names decides given is name_is = record { decides = decides; last = decides_in_all decides is; name_is = name_is }
+      → given ≡ name_by names name (lasting place decides) → IsNameOf all names name place given
+  names_alike names decides given is name_is = record { latest = decides; last = decides_in_all decides is; name_is = name_is }

@@ -15,7 +15,7 @@ name_kept old more start count within =
 
 entry_kept : (old more : List ℕ) (entry : Entry) → IsWithin old entry → entry_named (old ++ more) entry ≡ entry_named old entry
 entry_kept old more entry within =
-    ap (λ (n : List ℕ). let seen : Named = record { name = n; place = entry.place; given = entry.given } in seen) (name_kept old more entry.start entry.length within)
+    ap (λ (n : List ℕ). let seen : Named = record { name = n; place = entry.place; until = entry.until; given = entry.given } in seen) (name_kept old more entry.start entry.length within)
 
 entries_kept : (old more : List ℕ) (entries : List Entry) → AreWithin old entries → entries_named (old ++ more) entries ≡ entries_named old entries
 entries_kept old more [] within = refl
@@ -24,13 +24,13 @@ entries_kept old more (entry ∷ entries) within =
     (entries_kept old more entries (All-tail (IsWithin old) entry entries within))
 
 -- one more entry, of a name that stands in the buffer
-pub one_more : (old new : List ℕ) (entries more : List Entry) (start count : ℕ) (name : List ℕ) (place : DeclarationPlace) (given : Given) → Grows old new → AreWithin old entries
+pub one_more : (old new : List ℕ) (entries more : List Entry) (start count : ℕ) (name : List ℕ) (place until : DeclarationPlace) (given : Given) → Grows old new → AreWithin old entries
     → name_at new start count ≡ name
-    → more ≡ entries ++ (record { start = start; length = count; place = place; given = given }) ∷ []
-    → entries_named new more ≡ entries_named old entries ++ (record { name = name; place = place; given = given }) ∷ []
-one_more old new entries more start count name place given grown within stands is =
-    let entry : Entry = record { start = start; length = count; place = place; given = given } in
-    let as_named : List ℕ → Named = λ n. record { name = n; place = place; given = given } in
+    → more ≡ entries ++ (record { start = start; length = count; place = place; until = until; given = given }) ∷ []
+    → entries_named new more ≡ entries_named old entries ++ (record { name = name; place = place; until = until; given = given }) ∷ []
+one_more old new entries more start count name place until given grown within stands is =
+    let entry : Entry = record { start = start; length = count; place = place; until = until; given = given } in
+    let as_named : List ℕ → Named = λ n. record { name = n; place = place; until = until; given = given } in
     ap (entries_named new) is
     ∙ map_push (entry_named new) entries entry
     ∙ ap₂ (λ es n. es ++ as_named n ∷ []) (ap (λ bytes. entries_named bytes entries) grown.1 ∙ entries_kept old grown.0 entries within) stands

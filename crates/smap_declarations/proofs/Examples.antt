@@ -1,6 +1,7 @@
 -- Worked examples of the definitions: each holds by computing both sides.
 use Rattle.std.proofs.Common.{◌≡◌, ℕ, List, [], ◌∷◌, ◌++◌, Some, None, true, false, refl, codes, map}
 use Rattle.smap_record.specs.Record.{MapRecord}
+use Rattle.smap_declarations.specs.Bodies.{body_end, end_from}
 use Rattle.smap_declarations.specs.Brackets.{behind_bracket, behind_end}
 use Rattle.smap_declarations.specs.Bytes.{behind_blanks, behind_word, word_in}
 use Rattle.smap_declarations.specs.Declarations.{Named, given_to, kind_of, name_in, named_from}
@@ -71,6 +72,20 @@ a_text_declares : told (codes "function a(){}" ++ 0x0D ∷ 0x0A ∷ codes "b=()=
     ≡ (codes "a", record { line = 0; column = 9 }) ∷ (codes "b", record { line = 1; column = 0 }) ∷ []
 unfolding named_from name_in kind_of before_after place_after given_to is_assigned is_key is_method begins_function begins_plainly behind_blanks behind_word word_in behind_bracket behind_end
 a_text_declares = refl
+
+-- ---- bodies
+
+a_body_ends_at_its_brace : body_end origin (codes "a(){b({})}c") ≡ record { line = 0; column = 9 }
+unfolding end_from place_after
+a_body_ends_at_its_brace = refl
+
+a_body_without_braces_ends_with_the_block_around_it : body_end origin (codes "a=()=>1}{") ≡ record { line = 0; column = 7 }
+unfolding end_from place_after
+a_body_without_braces_ends_with_the_block_around_it = refl
+
+an_open_body_ends_with_the_text : body_end origin (codes "a(){{}") ≡ record { line = 0; column = 6 }
+unfolding end_from place_after
+an_open_body_ends_with_the_text = refl
 
 -- ---- frames
 

@@ -6,4 +6,6 @@ pub mod LastLaws
 pub mod NamingLaws
 pub mod OrderLaws
 pub mod PassingLaws
+pub mod StepLaws
+pub mod WaitingLaws
 pub mod WordTable

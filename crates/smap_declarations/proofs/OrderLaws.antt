@@ -54,7 +54,7 @@ not_after p q =
     ∙ ap (λ b. nat_lt p.line q.line || (nat_eq p.line q.line && b)) (le_of_numbers p.column q.column)
 
 target : (name : List ℕ) → DeclarationPlace → Named
-target name place = record { name = name; place = place; given = given.Nothing }
+target name place = record { name = name; place = place; until = place; given = given.Nothing }
 
 by_name_then : (o s : Ordering) → is_le (ordering_then o s) ≡ by_name o (is_le s)
 by_name_then Less s = refl

@@ -1,11 +1,12 @@
 -- A walk that passes a word at once.
-use Rattle.std.proofs.Common.{◌≡◌, ◌+◌, ◌<◌, ◌≤◌, ℕ, suc, Bool, true, false, not, cond, ◌&&◌, ◌||◌, List, [], ◌∷◌, ◌++◌, length, take, drop, refl, sym, ap, ap₂, subst, ◌∙◌, arith, add-zero, length-append}
-use Rattle.std.specs.Prelude.{None, Option, nat_eq, nat_lt, option_to_list}
+use Rattle.std.proofs.Common.{◌≡◌, ◌+◌, ◌-◌, ◌<◌, ◌≤◌, ℕ, suc, Bool, true, false, not, cond, ◌&&◌, ◌||◌, List, [], ◌∷◌, ◌++◌, length, take, drop, refl, sym, ap, ap₂, subst, ◌∙◌, arith, add-zero, length-append}
+use Rattle.std.specs.Prelude.{None, Option, nat_eq, nat_le, nat_lt, option_to_list}
 use Rattle.std.specs.List.{list_all, prefix_len}
 use Rattle.std.proofs.lemmas.Bool.{and_parts, eqb-true, false≢true, ltb-true, ne_eqb}
 use Rattle.std.proofs.lemmas.List.{take-append-drop}
 use Rattle.smap_record.specs.Record.{MapRecord}
 use Rattle.smap_declarations.specs.Brackets.{has_first}
+use Rattle.smap_declarations.specs.Bodies.{end_from}
 use Rattle.smap_declarations.specs.Bytes.{behind_word, is_word_byte, word_in}
 use Rattle.smap_declarations.specs.Declarations.{name_here, name_in, named_from}
 use Rattle.smap_declarations.specs.Private.Open.{behind_brackets}
@@ -112,6 +113,34 @@ letters stated a b keyword place (c ∷ word) rest inside words ascii ends =
     ∙ letters stated a c keyword (moved place 1) word rest both.0 both.1 low.1 ends
     ∙ ap (λ n. named_from stated (behind_byte a keyword) (record { line = place.line; column = n }) rest) column
 
+-- ---- no brace is passed
+
+-- a byte that is no brace
+abbrev IsNoBrace : ℕ → Type 0
+IsNoBrace c = (nat_eq c 0x7B ≡ false) × (nat_eq c 0x7D ≡ false)
+
+letter_is_no_brace : (c : ℕ) → is_word_byte c ≡ true → IsNoBrace c
+letter_is_no_brace c word = (apart c 0x7B refl word (nat_eq c 0x7B) refl, apart c 0x7D refl word (nat_eq c 0x7D) refl)
+
+other_ends : (depth : ℕ) (place : DeclarationPlace) (c : ℕ) (text : List ℕ) → IsNoBrace c → end_from depth place (c ∷ text) ≡ end_from depth (place_after place c text) text
+unfolding end_from
+other_ends depth place c text none =
+    ap (λ b. cond (b && nat_le depth 1) place (end_from (cond (nat_eq c 0x7B) (depth + 1) (cond b (depth - 1) depth)) (place_after place c text) text)) none.1
+    ∙ ap (λ b. end_from (cond b (depth + 1) depth) (place_after place c text) text) none.0
+
+letters_end : (depth : ℕ) (place : DeclarationPlace) (word rest : List ℕ) → list_all is_word_byte word ≡ true → list_all is_ascii word ≡ true
+    → end_from depth place (word ++ rest) ≡ end_from depth (moved place (length word)) rest
+unfolding moved
+letters_end depth place [] rest words ascii = ap (λ n. end_from depth (record { line = place.line; column = n }) rest) (sym (add-zero place.column))
+letters_end depth place (c ∷ word) rest words ascii =
+    let both = and_parts (is_word_byte c) (list_all is_word_byte word) words in
+    let low = and_parts (is_ascii c) (list_all is_ascii word) ascii in
+    let column : place.column + 1 + length word ≡ place.column + suc (length word) = omega arith in
+    other_ends depth place c (word ++ rest) (letter_is_no_brace c both.0)
+    ∙ ap (λ (p : DeclarationPlace). end_from depth p (word ++ rest)) (letter_is_a_unit place c (word ++ rest) both.0 low.0)
+    ∙ letters_end depth (moved place 1) word rest both.1 low.1
+    ∙ ap (λ n. end_from depth (record { line = place.line; column = n }) rest) column
+
 -- ---- a whole word
 
 word_is_whole : (text : List ℕ) → word_in text ++ behind_word text ≡ text
@@ -187,6 +216,15 @@ names_past_word stated before place c text begins ascii =
     ∙ letters stated c c keyword (moved place 1) (word_in text) (behind_word text) word (all_of_a_word text) low.1 (ends text)
     ∙ ap₂ (λ (n : ℕ) (r : List ℕ). named_from stated (behind_byte c keyword) (record { line = place.line; column = n }) r) column (sym parts.1))
 
+begun_no_brace : (before : Before) (c : ℕ) → begins_word before c ≡ true → IsNoBrace c
+begun_no_brace before c begins = letter_is_no_brace c (begun before c begins)
+
+ends_past_word : (depth : ℕ) (place : DeclarationPlace) (c : ℕ) (text : List ℕ) → is_word_byte c ≡ true → list_all is_ascii (word_in (c ∷ text)) ≡ true
+    → end_from depth place (c ∷ text) ≡ end_from depth (moved place (length (word_in (c ∷ text)))) (behind_word (c ∷ text))
+ends_past_word depth place c text word ascii =
+    ap (end_from depth place) (sym (word_is_whole (c ∷ text)))
+    ∙ letters_end depth place (word_in (c ∷ text)) (behind_word (c ∷ text)) (all_of_a_word (c ∷ text)) ascii
+
 pub word_fits : (text : List ℕ) → length (word_in text) ≤ length text
 word_fits text = omega (arith, ap length (word_is_whole text), length-append (word_in text) (behind_word text))
 
@@ -200,6 +238,10 @@ word_passed before place c text rest keyword units after rest_is begins ascii ke
     let whole = ap length (word_is_whole rest) in
     let joined = length-append (word_in rest) (behind_word rest) in
     let cut = ap length after_is in
+    let begins' = begun before c begins in
+    let ascii' = sym (ap (λ r. list_all is_ascii (word_in r)) rest_is) ∙ ascii in
+    let units_here = units_is ∙ ap (λ r. length (word_in r)) rest_is in
+    let after_here = after_is ∙ ap behind_word rest_is in
     let some : 0 < length (word_in rest) = omega (arith, ap length (ap word_in rest_is ∙ (word_goes_on c text (begun before c begins)).0)) in
     record {
       names = λ stated.
@@ -211,6 +253,7 @@ word_passed before place c text rest keyword units after rest_is begins ascii ke
           ++ named_from stated (behind_byte c k) (moved place (length (word_in rest))) r) (sym keyword_is) (sym after_is)
           ∙ ap (λ n. option_to_list (name_in stated before place rest) ++ named_from stated (behind_byte c keyword) (moved place n) after) (sym units_is);
       brackets = ap behind_brackets after_is ∙ past_word rest;
+      ends = λ depth. ap (end_from depth place) rest_is ∙ ends_past_word depth place c text begins' ascii' ∙ sym (ap₂ (λ (n : ℕ) (r : List ℕ). end_from depth (moved place n) r) units_here after_here);
       shorter = omega (arith, whole, joined, cut, some);
       line = omega (arith, whole, joined, cut);
       column = omega (arith, whole, joined, cut, units_is);
@@ -235,6 +278,8 @@ byte_passed before before' place place' c text rest rest' rest_is begins before_
           ∙ ap₂ (λ (x : Before) (p : DeclarationPlace). option_to_list (name_in stated before place rest) ++ named_from stated x p text) (sym before_is) (sym place_is)
           ∙ ap (λ r. option_to_list (name_in stated before place rest) ++ named_from stated before' place' r) (sym left);
       brackets = ap behind_brackets left ∙ sym (past_other c text (apart c 0x28 refl (begun before c begins) (nat_eq c 0x28) refl)) ∙ ap behind_brackets (sym rest_is);
+      ends = λ depth. ap (end_from depth place) rest_is ∙ other_ends depth place c text (begun_no_brace before c begins)
+          ∙ ap₂ (λ (p : DeclarationPlace) (r : List ℕ). end_from depth p r) (sym place_is) (sym left);
       shorter = omega (arith, long, cut);
       line = omega (arith, far.0, line, long, cut);
       column = omega (arith, far.1, column, long, cut);

@@ -5,6 +5,7 @@ use Rattle.smap_index.specs.declared.answer.Answer.{Answer}
 use Rattle.smap_index.specs.declared.answer.Answer.TheVariants.{Nothing, Unmapped, Found}
 use Rattle.smap_record.specs.FileText.{without_mark}
 use Rattle.smap_record.specs.Record.{MapRecord, answer_of_map}
+use Rattle.smap_declarations.specs.Bodies.{body_end}
 use Rattle.smap_declarations.specs.Bytes.{behind_word, word_in}
 use Rattle.smap_declarations.specs.Functions.{is_assigned, is_key, is_method}
 use Rattle.smap_declarations.specs.Walk.{before_after, begins_word, origin, place_after, start}
@@ -15,10 +16,11 @@ use Rattle.smap_declarations.specs.declared.kind.Kind.TheVariants.{Declaration, 
 use Rattle.smap_declarations.specs.declared.walk.Before.{Before}
 use Rattle.smap_declarations.specs.declared.walk.DeclarationPlace.{DeclarationPlace}
 
--- what is told of a name in a text: the name, the place of its first byte, and what the map gives it
+-- what is told of a name in a text: the name, the place of its first byte, where its body ends, and what the map gives it
 pub record Named : Type 0 where
   pub name : List ℕ
   pub place : DeclarationPlace
+  pub until : DeclarationPlace
   pub given : Given
 
 -- a statement begins with this word and brackets, and ends with a block; or a function that has no name does
@@ -67,11 +69,11 @@ given_to stated place Property = given.Nothing
 -- ---- all of a text
 
 -- what is told of the word that begins this text
-abbrev pub named_as : MapRecord → DeclarationPlace → (word : List ℕ) → Kind → Named
-named_as stated place word kind = record { name = word; place = place; given = given_to stated place kind }
+abbrev pub named_as : MapRecord → DeclarationPlace → (text : List ℕ) → Kind → Named
+named_as stated place text kind = record { name = word_in text; place = place; until = body_end place text; given = given_to stated place kind }
 
 unfoldable pub name_in : MapRecord → Before → DeclarationPlace → (text : List ℕ) → Option Named
-name_in stated before place text = option_map (named_as stated place (word_in text)) (kind_of before (word_in text) (behind_word text))
+name_in stated before place text = option_map (named_as stated place text) (kind_of before (word_in text) (behind_word text))
 
 abbrev pub name_here : MapRecord → Before → DeclarationPlace → (c : ℕ) → (text : List ℕ) → Option Named
 name_here stated before place c text = if begins_word before c then name_in stated before place text else None

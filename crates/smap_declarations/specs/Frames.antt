@@ -41,9 +41,14 @@ pub record IsLast (all : List Named) (name : List ℕ) (place : DeclarationPlace
 abbrev pub IsNone : (all : List Named) (name : List ℕ) (place : DeclarationPlace) → Type 0
 IsNone all name place = (named : Named) → Contains all named → is_of name place named ≡ true → ⊥
 
--- the one that decides
+-- the last of them
 abbrev pub Decides : (all : List Named) (name : List ℕ) (place : DeclarationPlace) → Option Named → Type 0
 Decides all name place decides = MatchOption decides (IsNone all name place) (IsLast all name place)
+
+-- it decides, where its body has not ended before the place; else none does
+abbrev pub lasting : DeclarationPlace → Option Named → Option Named
+lasting place None = None
+lasting place (Some named) = if is_at_or_before place named.until then Some named else None
 
 -- ---- the name that is printed
 
@@ -61,11 +66,11 @@ abbrev pub name_by : (names : List (List ℕ)) (function : List ℕ) → Option 
 name_by names function None = None
 name_by names function (Some named) = name_given names function named.given
 
--- the name of a function at a place: that which decides gives it, or there is none
+-- the name of a function at a place: the last of its name gives it, where its body has not ended, or there is none
 pub record IsNameOf (all : List Named) (names : List (List ℕ)) (function : List ℕ) (place : DeclarationPlace) (name : Option (List ℕ)) : Type 0 where
-  pub decides : Option Named
-  pub last : Decides all function place decides
-  pub name_is : name ≡ name_by names function decides
+  pub latest : Option Named
+  pub last : Decides all function place latest
+  pub name_is : name ≡ name_by names function (lasting place latest)
 
 -- ---- the same of declarations that are kept in an order
 
@@ -81,4 +86,4 @@ last_of name place (named ∷ all) = or_later (if is_of name place named then So
 
 -- the name of a function at a place, where the declarations are kept in this order
 abbrev pub name_kept : (kept : List Named) (names : List (List ℕ)) (function : List ℕ) (place : DeclarationPlace) → Option (List ℕ)
-name_kept kept names function place = name_by names function (last_of function place kept)
+name_kept kept names function place = name_by names function (lasting place (last_of function place kept))

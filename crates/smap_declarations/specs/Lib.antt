@@ -2,6 +2,7 @@ pub mod Bytes
 pub mod Brackets
 pub mod Functions
 pub mod Walk
+pub mod Bodies
 pub mod Declarations
 pub mod Frames
 pub mod Private

@@ -3,4 +3,5 @@ pub mod Open
 pub mod Found
 pub mod Entries
 pub mod Order
+pub mod Waiting
 pub mod Passing

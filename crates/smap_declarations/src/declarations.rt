@@ -43,8 +43,9 @@ impl Model for Declarations {
 
 impl Declarations {
     /// Lists those of a generated text, with what its map gives them, in one pass. There are at most as many as a quarter of
-    /// the text's bytes; each takes 24 bytes, and its name as many as it has. While the text is read, 32 bytes are taken for
-    /// each in their place, and a byte for each round bracket. After a refusal nothing is kept.
+    /// the text's bytes; each takes 32 bytes, and its name as many as it has. While the text is read, 40 bytes are taken for
+    /// each in their place, 16 more until its body has ended, and a byte for each round bracket. After a refusal nothing is
+    /// kept.
     pub fn of_text(
         alloc: Global,
         text: &str,
@@ -73,8 +74,8 @@ impl Declarations {
 
     /// The name of the function that has this one in the generated text, as `function_name` gives it, in a frame at this
     /// place: that which the last declaration of the function's name at the place or before it has by the map, whose
-    /// declarations these are. `None` where a property decides, or nothing does, where the map gives none, or one that can't
-    /// be printed. Of fewer than 2 ^ b declarations it compares at most b; the meter has room for them. The call takes no
+    /// declarations these are. `None` where that is a property, or its body has ended before the place, or there is none,
+    /// where the map gives none, or one that can't be printed. Of fewer than 2 ^ b declarations it compares at most b; the meter has room for them. The call takes no
     /// memory.
     pub fn name_of<'a>(
         &self,
@@ -95,10 +96,14 @@ impl Declarations {
         ensures onward { meter.old.comparisons ≤ meter.new.comparisons }
     {
         let named = self.deciding(function, place, meter)?;
-        name_given(map, function, named.given)
+        if place.is_at_or_before(named.until) {
+            name_given(map, function, named.given)
+        } else {
+            None
+        }
     }
 
-    // The declaration or property that decides.
+    // The last declaration or property of a name at a place or before it.
     fn deciding(&self, name: &[u8], place: DeclarationPlace, meter: &mut Meter) -> Option<Found<'_>>
         requires room { HasRoom meter.old }
         ensures decides { Decides self.now name.now place (option_map named result) }

@@ -10,6 +10,7 @@
 //! ```
 #![tactic(auto)]
 
+mod bodies;
 mod brackets;
 mod bytes;
 mod declarations;

@@ -10,17 +10,19 @@ use crate::walk::DeclarationPlace;
 use std::alloc::{AllocError, Global};
 use std::marker::Model;
 
-// What is told of a name: where its bytes stand in the buffer, its place in the text, and what the map gives it.
+// What is told of a name: where its bytes stand in the buffer, its place in the text, where its
+// body ends, and what the map gives it.
 #[derive(Clone, Copy)]
 pub struct Entry {
     pub start: u32,
     pub length: u32,
     pub place: DeclarationPlace,
+    pub until: DeclarationPlace,
     pub given: Given,
 }
 
 // There may be one for each four bytes of a text, so their size decides what a list takes.
-const _: () = prove!(size_of::<Entry>() == 24);
+const _: () = prove!(size_of::<Entry>() == 32);
 
 // A name that stands several times in a row has its bytes once.
 #[derive(Drop)]
@@ -70,6 +72,7 @@ impl NameList {
         Found {
             name: name_at(&self.names, entry.start, entry.length),
             place: entry.place,
+            until: entry.until,
             given: entry.given,
         }
     }
@@ -85,6 +88,7 @@ impl NameList {
             start,
             length,
             place: found.place,
+            until: found.until,
             given: found.given,
         })?;
         Ok(())

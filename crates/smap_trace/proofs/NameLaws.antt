@@ -9,9 +9,10 @@ use Rattle.smap_lines.specs.Bytes.{is_blank}
 use Rattle.smap_lines.specs.Lines.{Line, end_in}
 use Rattle.smap_record.specs.Record.{MapRecord}
 use Rattle.smap_declarations.specs.Declarations.{Named}
-use Rattle.smap_declarations.specs.Frames.{behind_front, function_name, is_name, last_of, name_by, name_given, printed}
+use Rattle.smap_declarations.specs.Frames.{behind_front, function_name, is_name, last_of, lasting, name_by, name_given, printed}
 use Rattle.smap_declarations.specs.declared.given.Given.{Given}
 use Rattle.smap_declarations.specs.declared.given.Given.TheVariants as given
+use Rattle.smap_declarations.specs.declared.walk.DeclarationPlace.{DeclarationPlace}
 use Rattle.smap_trace.specs.Frame.{FrameParts}
 use Rattle.smap_trace.specs.FunctionNames.{FunctionNames, HeadCut, IsRenamed, IsSamePlace, call_name, cut_before, head_cut, head_given, head_named, named, names_of, sign_name, with_head, written_name}
 use Rattle.smap_trace.specs.Hiding.{HidingSeen, hides}
@@ -237,7 +238,9 @@ given_is names function (given.Name i) = by (slice_get names i)
 
 pub written_is : (stated : MapRecord) (kept : List Named) (function : List ℕ) (line column : ℕ)
     → IfSome (names_of stated kept function line column) (λ name. is_name name ≡ true)
-written_is stated kept function line column = by (last_of function (record { line = line - 1; column = column - 1 }) kept)
+written_is stated kept function line column =
+    let place : DeclarationPlace = record { line = line - 1; column = column - 1 } in
+    by (lasting place (last_of function place kept))
   where
     by : (decides : Option Named) → IfSome (name_by stated.names function decides) (λ name. is_name name ≡ true)
     by None = tt

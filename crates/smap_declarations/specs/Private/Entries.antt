@@ -9,7 +9,7 @@ abbrev pub name_at : (names : List ℕ) (start count : ℕ) → List ℕ
 name_at names start count = take count (drop start names)
 
 abbrev pub entry_named : (names : List ℕ) → Entry → Named
-entry_named names entry = record { name = name_at names entry.start entry.length; place = entry.place; given = entry.given }
+entry_named names entry = record { name = name_at names entry.start entry.length; place = entry.place; until = entry.until; given = entry.given }
 
 abbrev pub entries_named : (names : List ℕ) → List Entry → List Named
 entries_named names entries = map (entry_named names) entries

@@ -6,6 +6,6 @@ use Rattle.smap_declarations.proofs.name_list.NameList.push.Goals as goal
 pub returns : goal.returns
 returns c =
     one_more c.self.inside.names.items c.stand.new.names.items c.self.inside.entries.items c.push.new.self.items
-    c.in_ok-start.start c.in_ok-start.length c.args.found.now.name.now c.args.found.now.place c.args.found.now.given
+    c.in_ok-start.start c.in_ok-start.length c.args.found.now.name.now c.args.found.now.place c.args.found.now.until c.args.found.now.given
     c.stand.ensures.grows c.self.invariant c.in_ok-start.ensures.stands.1 c.in_ok-push.ensures.items
     ∙ ap (λ l. l ++ named c.args.found.now ∷ []) c.self.view_is
