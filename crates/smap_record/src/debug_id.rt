@@ -32,7 +32,7 @@ fn text_of(value: Option<Value>) -> Option<String>
     text(value?)
 }
 
-/// Writes a debug id into the text of a written map, as the last member of its object, where rollup writes it. Where memory
+/// Writes a debug id into the text of a written map, as the last member of its object. Where memory
 /// runs out, the text stays.
 pub fn put_debug_id(alloc: Global, written: &mut Vec<u8>, id: &str) -> Result<(), AllocError>
     requires some { 0 < length written.old.items }
