@@ -12,8 +12,8 @@ use crate::status::{DONE, NO_MEMORY, REFUSED};
 use smap_record::{MapFile, put_debug_id};
 use std::alloc::Global;
 
-/// Reads a map as `smap_map_read_within` does, and hands out its debug id, where it has one: the text at `debugId` of its outer object,
-/// or at `debug_id` where that is none. `has_id` is then 1. Else it is 0, and `id` stays.
+/// Reads a map as `smap_map_read_within` does, and hands out its debug id, where it has one: the text at `debugId` of its
+/// outer object, or at `debug_id` where that is none. `has_id` is then 1. Else it is 0, and `id` stays.
 #[unsafe(no_mangle)]
 pub extern "C" fn smap_map_read_with_id(
     alloc: Global,
@@ -87,8 +87,8 @@ fn hand_out_both(
     DONE
 }
 
-/// Writes a debug id into the text of a map that was handed out, as its last member. It is refused where the id is not UTF-8, or no bytes
-/// were handed out.
+/// Writes a debug id into the text of a map that was handed out, as its last member. It is refused where the id is not
+/// UTF-8, or no bytes were handed out.
 #[unsafe(no_mangle)]
 pub extern "C" fn smap_bytes_put_debug_id(alloc: Global, bytes: &mut BytesHandle, id: &[u8]) -> u32
     requires { IsSome bytes.old.held }

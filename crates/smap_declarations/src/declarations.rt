@@ -75,8 +75,8 @@ impl Declarations {
     /// The name of the function that has this one in the generated text, as `function_name` gives it, in a frame at this
     /// place: that which the last declaration of the function's name at the place or before it has by the map, whose
     /// declarations these are. `None` where that is a property, or its body has ended before the place, or there is none,
-    /// where the map gives none, or one that can't be printed. Of fewer than 2 ^ b declarations it compares at most b; the meter has room for them. The call takes no
-    /// memory.
+    /// where the map gives none, or one that can't be printed. Of fewer than 2 ^ b declarations it compares at most b; the
+    /// meter has room for them. The call takes no memory.
     pub fn name_of<'a>(
         &self,
         map: &'a MapFile,

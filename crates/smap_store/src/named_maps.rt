@@ -9,7 +9,7 @@ use crate::names_cache::NamesCache;
 use crate::names_loader::NamesLoader;
 use crate::stored::StoredMaps;
 use smap_record::ReadyMap;
-use smap_trace::{Maps, name_beside};
+use smap_trace::{Maps, name_declared_beside};
 use std::alloc::Global;
 
 /// The maps of a store, and beside them the declarations of their programs, which are listed when a URL is first named, and
@@ -84,7 +84,7 @@ impl<L: MapLoader, N: NamesLoader> Maps for NamedMaps<'_, '_, '_, L, N> {
     ) -> Option<&'a [u8]> {
         let map = self.maps.map_for(url);
         let declared = self.names.get(url);
-        name_beside(alloc, map, declared, function, line, column)
+        name_declared_beside(alloc, map, declared, function, line, column)
     }
 
     ghost some = { λ maps url. some_in L.MayLoad (stored_seen maps.maps) url };

@@ -52,7 +52,7 @@ impl Maps for NamedTable<'_> {
     ) -> Option<&'a [u8]> {
         let map = self.table.map_for(url);
         let declared = self.declared.get(url);
-        name_beside(alloc, map, declared, function, line, column)
+        name_declared_beside(alloc, map, declared, function, line, column)
     }
 
     ghost some = { λ maps url. (value_under url maps.table.now, refl) };
@@ -72,7 +72,7 @@ impl Maps for NamedTable<'_> {
 
 /// The name that was written for a function of this name, by its map and the declarations of its program, where there are
 /// both, at a line and a column as printed, from 1; `None` where these do not say it. The call takes no memory.
-pub fn name_beside<'a>(
+pub fn name_declared_beside<'a>(
     alloc: Global,
     map: Option<&'a ReadyMap>,
     declared: Option<&Declarations>,
