@@ -3,7 +3,7 @@ use super::codes::{assert_code, no_refusal};
 use super::{assert_bytes, assert_done, assert_refused, no_bytes, no_map};
 use crate::debug_id::{smap_bytes_put_debug_id, smap_map_read_with_id};
 use crate::read::smap_map_free;
-use crate::written::{smap_bytes_free, smap_map_write};
+use crate::written::smap_map_write;
 use std::test::Fail;
 
 const NAMED: &str =
@@ -43,9 +43,6 @@ fn debug_ids_are_handed_out_and_written(rt: HostRuntime) -> Result<(), Fail> {
         &mut text,
         r#"{"mappings":"","names":[],"sources":[],"version":3,"debugId":"q\""}"#,
     );
-    assert_refused(&rt, smap_bytes_put_debug_id(alloc, &mut text, b"\xff"));
-    smap_bytes_free(alloc, &mut text);
-    smap_bytes_free(alloc, &mut id);
     smap_map_free(alloc, &mut map);
     Ok(())
 }
