@@ -62,7 +62,7 @@ def contexts():
 def paths():
     text = '{"version":3,"sources":["../../src/x.ts"],"mappings":"AAAA"}'
     for url, wanted in [("/srv/app/dist/util/x.js", "/srv/app/src/x.ts"), ("C:\\app\\dist\\util\\x.js", "C:\\app\\src\\x.ts"),
-                        ("https://e.test/dist/util/x.js", "https://e.test/src/x.ts"), ("dist/x.js", "../../src/x.ts")]:
+                        ("https://e.test/dist/util/x.js", "https://e.test/src/x.ts"), ("dist/x.js", "../src/x.ts")]:
         with Rewriter({url: text}, paths=True) as rewriter:
             insist(f"paths at {url}", rewriter.rewrite(f"    at f ({url}:1:1)\n").decode(), f"    at f ({wanted}:1:1)\n")
         with Rewriter({}, load=lambda _: text, paths=True) as rewriter:

@@ -275,7 +275,7 @@ async function large() {
   }
   const paths = new Maps({ loadAsync: async () => text, maxBytes: 1e9, paths: true });
   await paths.load(['/srv/dist/a.js', 'dist/a.js']);
-  same('by its path', ['/srv/dist/a.js', 'dist/a.js'].map((url) => paths.get(url).resolvedSources[0]), ['/srv/r/a.ts', '../r/a.ts']);
+  same('by its path', ['/srv/dist/a.js', 'dist/a.js'].map((url) => paths.get(url).resolvedSources[0]), ['/srv/r/a.ts', 'r/a.ts']);
   const faulty = text.replace(';;AAAA', ';;AACA,ECA');
   for (const [given, message] of [[faulty, /^refused: a\.js: M14 .*\n  segment/s], [`${text.slice(0, -3)}\ud800"}`, /half of a surrogate pair/], ['7'.repeat(2e6), /M/]]) {
     const maps = new Maps({ loadAsync: async () => given, maxBytes: 1e9 });
