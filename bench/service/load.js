@@ -11,7 +11,8 @@ const FRAMES = 10;
 
 const scripts = fs.readdirSync(folder).flatMap((release) => fs.readdirSync(path.join(folder, release)).map((name) => `${prefix}${release}/${name.slice(0, -4)}`));
 let seed = 7;
-const below = (most) => (seed = (Math.imul(seed, 1664525) + 1013904223) >>> 0) % most;
+// By the high bits of the seed: its low bits come again after a few, and only some of the maps would be asked for.
+const below = (most) => Math.floor(((seed = (Math.imul(seed, 1664525) + 1013904223) >>> 0) / 2 ** 32) * most);
 const often = Math.max(1, Math.floor(scripts.length / 10));
 const frame = () => ({ filename: scripts[below(below(2) ? often : scripts.length)], lineno: 1 + below(400), colno: 1 + below(60) });
 const bodies = Array.from({ length: Number(events) }, () => JSON.stringify({ frames: Array.from({ length: FRAMES }, frame) }));
