@@ -55,12 +55,12 @@ SUMMARY = "ok "
 MOST_REPORTED = 100
 
 # The options of `smap rewrite` that have no value. What excludes another is refused by the program.
-FLAGS = ["--paths", "--hide-ignored", "--anywhere", "--strip-ansi"]
+FLAGS = ["--paths", "--hide-ignored", "--anywhere", "--names", "--strip-ansi"]
 
 # A free port that only this machine reaches.
 LOOPBACK = "127.0.0.1:0"
 
-USAGE = """%(prog)s rewrite [--maps LIST] [--base URL | --paths] [--interval K] [--hide-ignored] [--hide TEXT].. [--anywhere]
+USAGE = """%(prog)s rewrite [--maps LIST] [--base URL | --paths] [--interval K] [--hide-ignored] [--hide TEXT].. [--anywhere | --names]
                    [--strip-ansi] [--cache BYTES] [--summary] [--block SIZE] [--scheduler ADDRESS] [--program PROGRAM]
                    --output DIR [URL=FILE | PREFIX=FOLDER/ | *END=FILE | *MIDDLE=FOLDER/].. -- TRACE.."""
 

@@ -3,8 +3,8 @@
  * Lines, columns, sources, names, sections and bytes count from 0, columns in UTF-16 code units. Texts are UTF-8, as a
  * pointer and a length, without a byte 0 at the end.
  *
- * A handle holds a map, a table, a store, a rewriting, inner maps, originals, a finder of URLs or bytes, or is empty. One
- * set to {0}, or in C++ to {}, is empty. A call that fills a handle wants it empty: what it held before is not freed. A call
+ * A handle holds a map, a table, a store, a rewriting, inner maps, originals, names of functions, a finder of URLs or bytes, or is
+ * empty. One set to {0}, or in C++ to {}, is empty. A call that fills a handle wants it empty: what it held before is not freed. A call
  * that takes one from a handle wants it full, unless it says so. The pointer in a handle does not show whether it is empty:
  * after it was freed, or a call took from it, the old one stays there.
  *
@@ -40,11 +40,12 @@ extern "C" {
 #define SMAP_NO_MEMORY 3
 
 /* Handles, freed by smap_map_free, smap_table_free, smap_store_free, smap_rewriting_free, smap_inners_free,
- * smap_originals_free, smap_url_finder_free and smap_bytes_free. */
+ * smap_originals_free, smap_names_free, smap_url_finder_free and smap_bytes_free. */
 typedef struct smap_map { void *at; } smap_map;
 typedef struct smap_table { void *at; } smap_table;
 typedef struct smap_inners { void *at; } smap_inners;
 typedef struct smap_originals { void *at; } smap_originals;
+typedef struct smap_names { void *at; } smap_names;
 typedef struct smap_url_finder { void *at; } smap_url_finder;
 typedef struct smap_bytes { void *at; } smap_bytes;
 typedef struct smap_store { void *at; } smap_store;
@@ -69,8 +70,8 @@ enum {
     SMAP_CODE_B1, SMAP_CODE_B2, SMAP_CODE_B3, SMAP_CODE_B4, SMAP_CODE_B5,
     SMAP_CODE_O1, SMAP_CODE_O2, SMAP_CODE_C1, SMAP_CODE_C2, SMAP_CODE_C3, SMAP_CODE_C4, SMAP_CODE_E1,
     SMAP_CODE_E2, SMAP_CODE_E3, SMAP_CODE_E4, SMAP_CODE_U1, SMAP_CODE_U2,
-    SMAP_CODE_A1, SMAP_CODE_A2, SMAP_CODE_A3, SMAP_CODE_P1, SMAP_CODE_P2, SMAP_CODE_X1, SMAP_CODE_X2,
-    SMAP_CODE_X3, SMAP_CODE_X4, SMAP_CODE_X5,
+    SMAP_CODE_A1, SMAP_CODE_A2, SMAP_CODE_A3, SMAP_CODE_A4, SMAP_CODE_P1, SMAP_CODE_P2, SMAP_CODE_X1,
+    SMAP_CODE_X2, SMAP_CODE_X3, SMAP_CODE_X4, SMAP_CODE_X5, SMAP_CODE_X6,
     SMAP_CODE_TEXT_TOO_LONG, SMAP_CODE_NOT_UTF8, SMAP_CODE_DEVICE, SMAP_CODE_MEMORY, SMAP_CODE_USAGE,
     SMAP_CODE_REFUSED
 };
@@ -291,6 +292,20 @@ uint32_t smap_generated_on_line(const smap_originals *originals, uint32_t source
 
 /* Frees the originals, and leaves their handle empty. */
 void smap_originals_free(smap_originals *originals);
+
+/* Reads which names the generated file of a map declares, of which functions in frames get those of their sources. The text is not kept,
+ * and the map may be freed before: 32 bytes for each function or class that has a name, and that name. Returns 1 where the text is not
+ * UTF-8 (`NotUtf8`) or has more than 67,108,864 bytes (M1), or the map can't be that of it, as smap_fit says (A4). */
+uint32_t smap_names_new(smap_map *map, const uint8_t *generated, size_t length, smap_names *names, smap_code *refusal);
+
+/* Lends the name that a frame's function has in its source: `function` is what the frame prints, and `line` and `column` its generated
+ * place. A function is one name, behind `async ` and `new `, which the source's name has not. Of all declarations of that name at the
+ * place or before it the last decides, unless its body has ended. `name` stays as long as `function` and the names do. Returns 1 where
+ * the function is no such name, as `Object.f` or `<anonymous>`, and where it gets none. */
+uint32_t smap_name_of(const smap_names *names, const uint8_t *function, size_t length, uint32_t line, uint32_t column, smap_text *name);
+
+/* Frees names of functions, and leaves their handle empty. */
+void smap_names_free(smap_names *names);
 
 /* Hands out all mappings of the map in their order: `bytes` has one smap_mapping after another, 32 bytes each, which may be
  * read where they are lent. The bytes are freed by smap_bytes_free. */

@@ -114,6 +114,7 @@ using store = owner<smap_store, smap_store_free>;
 using rewriting = owner<smap_rewriting, smap_rewriting_free>;
 using inners = owner<smap_inners, smap_inners_free>;
 using originals = owner<smap_originals, smap_originals_free>;
+using names = owner<smap_names, smap_names_free>;
 using url_finder = owner<smap_url_finder, smap_url_finder_free>;
 using byte_text = owner<smap_bytes, smap_bytes_free>;
 

@@ -161,6 +161,11 @@ export class TraceMap implements SourceMapV3 {
   bytesBySource(generated: string | Uint8Array): BytesBySource;
   /** Whether the map can be that of the generated file. */
   fit(generated: string | Uint8Array): Fit;
+  /** The map itself, which has read what its generated file declares, for `functionName`. */
+  withGenerated(generated: string | Uint8Array): this;
+  /** The name that a function has in its source, or null: it is called `name` in a frame at this generated position. A name is one word, which
+   * may stand behind `async ` and `new `. An error where `withGenerated` was given no file. */
+  functionName(line: number, column: number, name: string): string | null;
   /** The text of one regular map that states the same; with `debugId` with its debug id, as the last member. */
   write(options?: DebugIdOption): Buffer;
   /** What `encodedMap` gives; with `debugId` with the debug id. The name under which JSON has the map is passed over. */

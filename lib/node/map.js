@@ -64,8 +64,9 @@ function named(handle, url) {
   return named(read(addon.write(handle, false, NO_BYTES), '', USUALLY), url);
 }
 
-function outlineIn(bytes, map) {
-  const outline = Outline.of(bytes);
+// The outline of the bytes of what was given, of which this handle was read.
+function outlineIn(bytes, map, { debugId }) {
+  const outline = Outline.of(bytes, debugId);
   // The text of no lines is that of one line without segments.
   if (Array.isArray(map.mappings) && map.mappings.length === 0) outline.all.least = 0;
   return outline;
@@ -260,7 +261,7 @@ class TraceMap {
     // No code of the user's runs while a short text stands in its room.
     const bytes = isText ? bytesOf(map) : others;
     const handle = isUnder ? standingUnder(mapUrl, bytes) : readAt(bytes, base, how);
-    const outline = outlineIn(bytes, map);
+    const outline = outlineIn(bytes, map, handle);
     this.#begin({ handle, outline, bytes: bytes.length });
   }
 
@@ -276,7 +277,7 @@ class TraceMap {
 
   // The debug id, which the generated file names too: the text at `debugId`, or at `debug_id` where that is none.
   get debugId() {
-    return json(this, 'debugId');
+    return opened(this).outline.debugId;
   }
 
   // What the calls of this library alone use.
@@ -357,6 +358,20 @@ class TraceMap {
     if (refusal !== undefined) throw refusedAs(refusal);
     const [mappings, past, inside, compared, outside, same, fits] = counts;
     return { fits: fits === 1, mappings, past, inside, compared, outside, same };
+  }
+
+  // Reads what the generated file, a text or a Uint8Array, declares, for `functionName`, and gives the map itself.
+  withGenerated(generated) {
+    const refusal = addon.withGenerated(open(this), given.bytes(generated, 'generated'));
+    if (refusal !== undefined) throw refusedAs(refusal);
+    return this;
+  }
+
+  // The name that a function has in its source, or null: it is called `name` in a frame at this generated position, the line from 1 and the
+  // column from 0.
+  functionName(line, column, name) {
+    const bytes = Buffer.from(given.text(name, 'name'));
+    return addon.functionName(open(this), given.line(line), given.column(column), bytes);
   }
 
   // The text of one regular map that states the same, as a Buffer; with `debugId` with its debug id, as the last member.

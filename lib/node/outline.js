@@ -2,7 +2,7 @@
 // What the text of a map has that the library does not hand out, found without a copy of the map.
 const addon = require('./addon.js');
 
-const [LF, QUOTE, BACKSLASH, COMMA, SEMICOLON] = [10, 34, 92, 44, 59];
+const [LF, BACKSLASH, COMMA, SEMICOLON] = [10, 92, 44, 59];
 
 // Where the JSON of a map begins: behind a mark of its encoding, and behind a first line that keeps it from being run.
 function begin(bytes) {
@@ -44,16 +44,14 @@ function linesOfSections(bytes, at) {
   return { least: JSON.parse(textOf(bytes, line)) + 1, behind: linesBehind(bytes, mappings) };
 }
 
-// What the text of a map has: its debug id, how many lines at least, and how many behind its last segment. Of a regular map also its sources,
+// What the text of a map has: how many lines at least, and how many behind its last segment. Of a regular map also its sources,
 // its root and its list of ignored sources, as JSON where they are there, and how many contents there are. Where the members stand, and
 // how many contents, may be known.
 function outlineOf(bytes, parts, count) {
   const map = members(bytes, begin(bytes), parts);
   const sections = map.get('sections');
   const text = (key) => map.get(key) && textOf(bytes, map.get(key));
-  // What is no text is no debug id.
-  const debugId = ['debugId', 'debug_id'].filter((key) => map.get(key) && bytes[map.get(key)[0]] === QUOTE).map(text)[0];
-  if (sections) return { isIndex: true, debugId, ...linesOfSections(bytes, sections[0]) };
+  if (sections) return { isIndex: true, ...linesOfSections(bytes, sections[0]) };
   const contents = map.get('sourcesContent');
   return {
     isIndex: false,
@@ -62,7 +60,6 @@ function outlineOf(bytes, parts, count) {
     sources: text('sources'),
     sourceRoot: text('sourceRoot'),
     ignoreList: text('ignoreList') || text('x_google_ignoreList'),
-    debugId,
     contents: contents && (count || addon.members(bytes, contents[0]).length / 4),
   };
 }
@@ -70,22 +67,23 @@ function outlineOf(bytes, parts, count) {
 // How many bytes the addon has found.
 const kept = new Float64Array(1);
 
-// An outline, of so many bytes of the text. What the addon has found, as JSON, is read when it is first wanted.
+// An outline, of so many bytes of the text, and the debug id that the map has, if it has one. What the addon has found, as JSON, is read when
+// it is first wanted.
 class Outline {
   #found;
   #isParsed = false;
 
-  constructor(found, size) {
-    [this.#found, this.size] = [found, size];
+  constructor(found, size, debugId) {
+    [this.#found, this.size, this.debugId] = [found, size, debugId];
   }
 
   // That of a text, in which the addon may find it; where its parts are known, and how many contents there are, as outlineOf has them.
-  static of(bytes, parts, count) {
+  static of(bytes, debugId, parts, count) {
     const found = parts ? null : addon.outline(bytes, kept);
-    if (found !== null) return new Outline(found, kept[0]);
+    if (found !== null) return new Outline(found, kept[0], debugId);
     const outline = outlineOf(bytes, parts, count);
-    const { sources = '', sourceRoot = '', ignoreList = '', debugId = '' } = outline;
-    return new Outline(outline, sources.length + sourceRoot.length + ignoreList.length + debugId.length);
+    const { sources = '', sourceRoot = '', ignoreList = '' } = outline;
+    return new Outline(outline, sources.length + sourceRoot.length + ignoreList.length, debugId);
   }
 
   get all() {

@@ -50,13 +50,14 @@ async function madeLater(under, map) {
     const numbers = Float64Array.from(told.slice(0, 6));
     throw refusedMap(bytes, numbers, base, isByPath ? undefined : url, () => reason(told.slice(6, 10), told[10]));
   }
-  return new Made(named(told[0], isByPath && url), Outline.of(bytes, told[1], told[2]), bytes.length);
+  return new Made(named(told[0], isByPath && url), Outline.of(bytes, told[0].debugId, told[1], told[2]), bytes.length);
 }
 
 function madeUnder(under, map) {
   if (map instanceof TraceMap) return new Made(standingUnder(under, map), map.inner.outline, map.inner.bytes, map);
   const bytes = given.mapBytes(map);
-  return new Made(standingUnder(under, bytes), outlineIn(bytes, map), bytes.length);
+  const handle = standingUnder(under, bytes);
+  return new Made(handle, outlineIn(bytes, map, handle), bytes.length);
 }
 
 // The map of a text or of bytes is read into a table, where that is all: what it is made of without a handle, and for how much it counts; or
@@ -66,7 +67,8 @@ function readInto(table, { url, paths, how }, map) {
   const bytes = given.mapBytes(map);
   const found = addon.readInto(table, url, bytes, Buffer.from(url), true, given.intervalOf(how, bytes.length), how.maxNames, numbers);
   if (found === undefined) throw refusedMap(bytes, numbers.slice(0, 6), url, url);
-  const outline = found === null ? Outline.of(bytes) : new Outline(found, numbers[0]);
+  const debugId = numbers[1] === 1 ? addon.texts[0] : undefined;
+  const outline = found === null ? Outline.of(bytes, debugId) : new Outline(found, numbers[0], debugId);
   return { outline, bytes: bytes.length, size: numbers[6] };
 }
 

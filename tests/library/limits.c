@@ -215,9 +215,60 @@ static void generated_files(void) {
     smap_map_free(&map);
 }
 
+/* `fe` was written as `main`, and `b` as it is; `c` is a property. The map is free before its names are. */
+static void names(void) {
+    static const char file[] = "function fe(){throw x}function b(){}o.c=()=>{}";
+    static const char text[] = "{\"version\":3,\"sources\":[\"a.ts\"],\"names\":[\"main\"],\"mappings\":\"SAAAA,sBAAA\"}";
+    static const struct { const char *function; uint32_t column; const char *name; } asked[] = {
+        {"fe", 14, "main"}, {"async fe", 14, "main"}, {"new fe", 9, "main"}, {"b", 35, "b"}, {"fe", 8, NULL}, {"fe", 30, NULL}, {"c", 45, NULL},
+        {"Object.fe", 14, NULL}, {"<anonymous>", 14, NULL}, {"\xff", 14, NULL}, {"", 14, NULL}, {"b", UINT32_MAX, NULL},
+    };
+    smap_map map = {0};
+    smap_refusal refusal = {0};
+    insist(smap_map_read((const uint8_t *)text, sizeof text - 1, (const uint8_t *)"", 0, 64, &map, &refusal) == SMAP_DONE, "a map with a name");
+    smap_names names = {0};
+    smap_code why = 9;
+    insist(smap_names_new(&map, (const uint8_t *)"\xff", 1, &names, &why) == SMAP_REFUSED && why == SMAP_CODE_NOT_UTF8, "a file that is no text for names");
+    insist(smap_names_new(&map, (const uint8_t *)file, 30, &names, &why) == SMAP_REFUSED && why == SMAP_CODE_A4, "the file of another map");
+    insist(smap_names_new(&map, (const uint8_t *)file, sizeof file - 1, &names, &why) == SMAP_DONE && why == SMAP_CODE_A4, "names");
+    smap_map_free(&map);
+    for (size_t i = 0; i < sizeof asked / sizeof *asked; i++) {
+        smap_text name = SMAP_TEXT;
+        uint32_t status = smap_name_of(&names, (const uint8_t *)asked[i].function, strlen(asked[i].function), 0, asked[i].column, &name);
+        insist(status == (asked[i].name ? SMAP_DONE : SMAP_REFUSED), asked[i].function);
+        insist(name.length == (asked[i].name ? strlen(asked[i].name) : 0), asked[i].function);
+        insist(!name.length || !memcmp(name.bytes, asked[i].name, name.length), asked[i].function);
+    }
+    smap_names_free(&names);
+}
+
+/* An id that is no text, or that would go into no text. */
+static void debug_ids(void) {
+    smap_map map = opened();
+    smap_table table = {0};
+    smap_bytes bytes = {0}, none = {0};
+    smap_text before = SMAP_TEXT, after = SMAP_TEXT;
+    smap_trace_count count = {9, 9, 9, 9};
+    insist(smap_map_write(&map, &bytes) == SMAP_DONE && smap_bytes_text(&bytes, &before) == SMAP_DONE, "a written map");
+    insist(smap_bytes_put_debug_id(&bytes, (const uint8_t *)"a\xff", 2) == SMAP_REFUSED, "an id that is no text");
+    insist(smap_bytes_text(&bytes, &after) == SMAP_DONE && after.length == before.length && after.bytes[after.length - 1] == '}', "the map stays");
+    insist(smap_table_new(&table) == SMAP_DONE, "a table");
+    insist(smap_rewrite(&table, (const uint8_t *)"", 0, false, &none, &count) == SMAP_DONE, "an empty text");
+    insist(smap_bytes_put_debug_id(&none, (const uint8_t *)"a", 1) == SMAP_REFUSED, "an id for an empty text");
+    insist(smap_bytes_text(&none, &after) == SMAP_DONE && after.length == 0, "it stays empty");
+    insist(smap_bytes_put_debug_id(&bytes, (const uint8_t *)"", 0) == SMAP_DONE, "an empty id");
+    insist(smap_bytes_text(&bytes, &after) == SMAP_DONE && !memcmp(after.bytes + after.length - 14, ",\"debugId\":\"\"}", 14), "it is written");
+    smap_bytes_free(&bytes);
+    smap_bytes_free(&none);
+    smap_table_free(&table);
+    smap_map_free(&map);
+}
+
 int main(void) {
     look_ups();
+    debug_ids();
     generated_files();
+    names();
     texts();
     reading();
     reasons();

@@ -80,6 +80,7 @@ static const uint8_t trace[] = "Error: x\n    at f (https://e.test/a.min.js:65:8
 static smap_map outer, inner, made;
 static smap_table table, made_table;
 static smap_inners inners, made_inners;
+static smap_names made_names;
 static smap_url_finder made_finder;
 static smap_bytes bytes;
 static smap_refusal refusal;
@@ -116,6 +117,14 @@ static uint32_t bytes_call(void) {
     return smap_bytes_by_source(&outer, trace, sizeof trace - 1, by_source, held.sources, &unmapped, &why);
 }
 static uint32_t fit_call(void) { return smap_fit(&outer, trace, sizeof trace - 1, &fit, &why); }
+/* A generated file whose function is called `main` in the source of the map that is named. */
+static const char named_file[] = "function f(){g()}";
+static smap_map named;
+static uint32_t read_named(void) {
+    static const char text[] = "{\"version\":3,\"sources\":[\"a.ts\"],\"names\":[\"main\"],\"mappings\":\"SAAAA\"}";
+    return smap_map_read((const uint8_t *)text, sizeof text - 1, base, sizeof base - 1, 64, &named, &refusal);
+}
+static uint32_t names_call(void) { return smap_names_new(&named, (const uint8_t *)named_file, sizeof named_file - 1, &made_names, &why); }
 static uint32_t compose_call(void) { return smap_compose(&outer, 0, &inner, &bytes, &why); }
 static uint32_t inners_call(void) { return smap_inners_new(&outer, &made_inners); }
 /* The places of all sources have maps: these are composed, and the first source behind them is asked for. */
@@ -138,7 +147,7 @@ static uint32_t with_call(void) {
 }
 
 /* Which handle a call fills, if it fills one; or it takes the map from `made`, and gives it back where it refuses. */
-enum handle { FILLS_MAP, FILLS_TABLE, FILLS_INNERS, FILLS_FINDER, FILLS_BYTES, FILLS_NONE, TAKES_MAP };
+enum handle { FILLS_MAP, FILLS_TABLE, FILLS_INNERS, FILLS_FINDER, FILLS_NAMES, FILLS_BYTES, FILLS_NONE, TAKES_MAP };
 
 static const struct call {
     const char *name;
@@ -155,6 +164,7 @@ static const struct call {
     {"smap_encode", encode_call, SMAP_DONE, FILLS_BYTES},
     {"smap_bytes_by_source", bytes_call, SMAP_DONE, FILLS_NONE},
     {"smap_fit", fit_call, SMAP_DONE, FILLS_NONE},
+    {"smap_names_new", names_call, SMAP_DONE, FILLS_NAMES},
     {"smap_compose", compose_call, SMAP_DONE, FILLS_BYTES},
     {"smap_inners_new", inners_call, SMAP_DONE, FILLS_INNERS},
     {"smap_inners_next", next_call, SMAP_DONE, FILLS_NONE},
@@ -214,6 +224,13 @@ static void report_finder(smap_url_finder *from, struct text *into) {
     if (into->length != 45) fail("a finder", "finds other URLs");
 }
 
+/* The name of the function. */
+static void report_names(const smap_names *from, struct text *into) {
+    smap_text name = SMAP_TEXT;
+    if (smap_name_of(from, (const uint8_t *)"f", 1, 0, 13, &name) != SMAP_DONE || name.length != 4) fail("names", "name no function");
+    memcpy(into->bytes, name.bytes, into->length = name.length);
+}
+
 /* What the call has given, which is freed. A map that was refused is one that was given back. */
 static void report_answer(const struct call *call, struct text *into) {
     into->length = 0;
@@ -225,6 +242,9 @@ static void report_answer(const struct call *call, struct text *into) {
     } else if (call->handle == FILLS_INNERS) {
         report_inners(&made_inners, into);
         smap_inners_free(&made_inners);
+    } else if (call->handle == FILLS_NAMES) {
+        report_names(&made_names, into);
+        smap_names_free(&made_names);
     } else if (call->handle == FILLS_FINDER) {
         report_finder(&made_finder, into);
         smap_url_finder_free(&made_finder);
@@ -240,6 +260,7 @@ static bool alike(const struct text *a, const struct text *b) {
 /* The call while this growth is refused, or none of it; whether it asked for as many. */
 static bool made_without(const struct call *call, long number) {
     if (read_map(&outer, &outer_file) || read_map(&inner, &inner_file) || smap_table_new(&table)) fail(call->name, "is not prepared");
+    if (read_named()) fail(call->name, "has no map with a name");
     smap_map mapped = {0};
     if (read_map(&mapped, &inner_file) || smap_table_add(&table, base, sizeof base - 1, &mapped, &why)) fail(call->name, "has no table");
     bool adds = call->make == add_call || call->make == add_shared_call || call->make == pattern_call;
@@ -255,6 +276,7 @@ static bool made_without(const struct call *call, long number) {
     made_table = (smap_table){0};
     made_inners = (smap_inners){0};
     made_finder = (smap_url_finder){0};
+    made_names = (smap_names){0};
     bytes = (smap_bytes){0};
     if (call->handle == TAKES_MAP && read_map(&made, &outer_file)) fail(call->name, "has no map");
     static struct text before, after;
@@ -274,7 +296,7 @@ static bool made_without(const struct call *call, long number) {
     report_table(&table, &after);
     if (status == SMAP_NO_MEMORY) {
         if (!was_refused) fail(call->name, "is out of memory where none was refused");
-        if ((call->handle != TAKES_MAP && made.at) || made_table.at || made_inners.at || made_finder.at || bytes.at) fail(call->name, "has filled a handle");
+        if ((call->handle != TAKES_MAP && made.at) || made_table.at || made_inners.at || made_finder.at || made_names.at || bytes.at) fail(call->name, "has filled a handle");
         if (why != 77 || refusal.code != 77 || encode_refusal.code != 77 || reason.value != 77 || reason.has_column != 77) fail(call->name, "reports a refusal");
         if (by_source[0] != 77 || unmapped != 77) fail(call->name, "counts bytes");
         if (!alike(&before, &after)) fail(call->name, "has changed the table");
@@ -299,6 +321,7 @@ static bool made_without(const struct call *call, long number) {
     }
     smap_map_free(&outer);
     smap_map_free(&inner);
+    smap_map_free(&named);
     smap_table_free(&table);
     smap_inners_free(&inners);
     if (live != 0) fail(call->name, "leaks");
@@ -308,6 +331,7 @@ static bool made_without(const struct call *call, long number) {
 /* The calls that take no memory, while every growth is refused. */
 static void free_calls(void) {
     if (read_map(&outer, &outer_file) || smap_map_write(&outer, &bytes) || smap_table_new(&table) || smap_inners_new(&outer, &inners) || read_map(&inner, &inner_file) || smap_url_finder_new(&made_finder)) fail("free calls", "not prepared");
+    if (read_named() || names_call()) fail("free calls", "no names are prepared");
     const smap_position position = {0, 0};
     smap_found found = {0};
     smap_count counts = {0};
@@ -327,6 +351,9 @@ static void free_calls(void) {
     uint32_t place = smap_table_look_up(&table, url, sizeof url - 1, 0, 0, &options, &found, &source, &text);
     uint32_t file = smap_file(&outer, &text);
     smap_place_url found_url = {0};
+    statuses |= smap_name_of(&made_names, (const uint8_t *)"f", 1, 0, 13, &text);
+    smap_names_free(&made_names);
+    smap_map_free(&named);
     statuses |= smap_next_place_url(&made_finder, trace, sizeof trace - 1, 0, &found_url);
     smap_url_finder_free(&made_finder);
     uint32_t source_asked = 77;

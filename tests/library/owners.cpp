@@ -126,11 +126,24 @@ static void ids() {
     insist(smap::read_with_id("[]", "", 64, 1 << 20, map, id, why) == SMAP_REFUSED && !map && !id && why.code == SMAP_CODE_M3, "no map");
 }
 
+static void names() {
+    const std::string file = "function f(){g()}", function = "async f";
+    smap::map map = read(R"({"version":3,"sources":["a.ts"],"names":["main"],"mappings":"SAAAA"})");
+    smap::names names;
+    smap_code why = 0;
+    names.fill([&](smap_names *to) { return smap_names_new(map.get(), smap::bytes(file), file.size(), to, &why); }, why);
+    map.reset();
+    smap_text name = SMAP_TEXT;
+    const uint32_t status = smap_name_of(names.get(), smap::bytes(function), function.size(), 0, 13, &name);
+    insist(status == SMAP_DONE && smap::view(name) == "main", "the name of a function");
+}
+
 int main(int count, char **words) {
     if (count != 2) return 2;
     maps(words[1]);
     refusals();
     texts();
     ids();
+    names();
     std::printf("owners %d\n", checks);
 }

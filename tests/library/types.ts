@@ -33,6 +33,7 @@ const saved: EncodedSourceMap = map.toJSON();
 const debugId: string | undefined = map.toJSON({ debugId: true }).debugId || map.debugId;
 const { sources, unmapped } = map.bytesBySource('x');
 const { fits, past, inside, same }: Fit = map.fit('x');
+const functionName: string | null = map.withGenerated('x').functionName(1, 0, 'async f');
 const generated: number | null = generatedPositionFor(map, { source: 'a', line: 1, column: 0 }).column;
 const standing: number[] = allGeneratedPositionsFor(map, { source: 'a', line: 1, column: 0, bias: 1 }).map(({ column }) => column);
 const spans: Generated[] = [...generatedOn(map, 0, 1), ...generatedOn(map, 'a', 1, 0, true)];
@@ -64,7 +65,7 @@ const waiting: Promise<Buffer> = rewriteAsync(kept, 'x', { stripAnsi: true });
 names.push(...frameUrls('x', { anywhere: true }), context ? context.before.join(context.line) : '', String(inFolder.get('x')));
 table[Symbol.dispose]();
 map.close();
-export const all = [fits, past + inside + same, waiting, kept.lookUp('x', 1, 0), kept.load(['x']), line, original, answers, columns, lines, text, written, list, names, content, ignored, total, made, places, saved, new Refused('x').code];
+export const all = [functionName, fits, past + inside + same, waiting, kept.lookUp('x', 1, 0), kept.load(['x']), line, original, answers, columns, lines, text, written, list, names, content, ignored, total, made, places, saved, new Refused('x').code];
 
 // What no call takes.
 // @ts-expect-error

@@ -6,9 +6,11 @@ pub use Rattle.smap_command.specs.Runnable.{IsRunnable}
 use Rattle.smap_map_answers.specs.Check.{ChecksAll, form_of, paths_of}
 use Rattle.smap_map_answers.specs.Explain.{ReportsCode}
 use Rattle.smap_map_answers.specs.Fit.{FitsAll}
-use Rattle.smap_map_answers.specs.Compose.{ReportsComposed}
-use Rattle.smap_map_answers.specs.ComposeAll.{ReportsAllComposed}
-use Rattle.smap_map_answers.specs.Show.{shown_result}
+use Rattle.smap_io.specs.Device.{SinkSeen}
+use Rattle.smap_lines.specs.Editing.{DevicesSeen}
+use Rattle.smap_map_answers.specs.Compose.{ReportsComposed, WarnsComposed}
+use Rattle.smap_map_answers.specs.ComposeAll.{ReportsAllComposed, WarnsAll}
+use Rattle.smap_map_answers.specs.Show.{ReportsShown}
 use Rattle.smap_text_answers.specs.Locate.{RunsLocate}
 use Rattle.smap_map_answers.specs.Generated.{generated_result}
 use Rattle.smap_map_answers.specs.Lookup.{lookup_print}
@@ -20,14 +22,23 @@ use Rattle.smap_command.specs.Options.{direction_of}
 use Rattle.smap_replies.specs.Files.{MayRead}
 use Rattle.smap_replies.specs.Map.{IsLine, IsResult, ReportsMap}
 use Rattle.smap_replies.specs.Runs.{ReportsAside, ReportsUnread, RunsOne}
+use Rattle.smap_replies.specs.Outcome.{Report}
 use Rattle.smap_replies.specs.Streams.{Streams}
+use Rattle.smap_text_answers.specs.Dotted.{with_errors}
 use Rattle.smap_replies.specs.Why.{ReportsChosen, ReportsMapWhy}
 use Rattle.smap_io.specs.Sequences.{IsWaiting, most_sequences}
 use Rattle.smap_io.specs.WithoutSequences.{without_seen}
 use Rattle.smap_text_answers.specs.Rewrite.{RunsRewrite}
+use Rattle.smap_answers.specs.Telling.{Tells}
 use Rattle.smap_command.specs.declared.command.Command.{Command}
 use Rattle.smap_command.specs.declared.command.Command.TheVariants.{Raw, Check, Show, Lookup, Generated, Positions, Mappings, Sources, SourceContent, Rewrite, Locate}
 use Rattle.smap_command.specs.declared.command.Command.TheVariants.{Compose, ComposeAll, Fit, Explain}
+
+-- a run warns standard error so, and then says one thing
+abbrev pub RunsWarned : (Warns : (before after : SinkSeen) → Type 0) → (Reports : (before after : DevicesSeen) → Report → Type 0)
+    → (status : ℕ) → (before after : Streams) → Type 0
+RunsWarned Warns Reports status before after =
+    (warned : SinkSeen) × Warns before.sinks.errors warned × RunsOne Reports status (with_errors warned before) after
 
 -- a run of a command over files of which reading gives this, and over an input as it is read, with a terminal that is told of what
 -- is passed over, where it is to be; and the status with which it ends
@@ -35,7 +46,7 @@ abbrev pub Runs : MayRead → (hint : Bool) → Command → (status : ℕ) → (
 Runs Reads hint (Raw line column interval) = RunsOne (RawReports line column)
 Runs Reads hint (Check path base interval options) = λ status before after. (after.input ≡ before.input)
     × ChecksAll Reads base interval (form_of options) options.explain 0 (paths_of (string_bytes path) options) status before.sinks after.sinks
-Runs Reads hint (Show path base options) = RunsOne (ReportsAside (ReportsMap Reads 0 (string_bytes path) base usual_interval (IsResult (shown_result options))))
+Runs Reads hint (Show path base options) = RunsOne (ReportsAside (ReportsShown Reads (string_bytes path) base options))
 Runs Reads hint (Lookup path line column base interval after options) =
     RunsOne (ReportsAside (ReportsMapWhy Reads options.explain 0 (string_bytes path) base interval (IsLine (lookup_print (direction_of after) options line column))))
 Runs Reads hint (Generated asked) =
@@ -48,11 +59,18 @@ Runs Reads hint (SourceContent asked) =
     RunsOne (ReportsAside (ReportsMap Reads 0 (string_bytes asked.path) None usual_interval (IsResult (content_result asked.source))))
 Runs Reads hint (Rewrite maps base interval hide_ignored options) = RunsRewrite Reads base interval maps.items hide_ignored options hint
 Runs Reads hint (Locate asked) = RunsLocate Reads asked
-Runs Reads hint (Compose outer source inner base options) =
-    RunsOne (ReportsAside (ReportsComposed Reads options (string_bytes outer) source (string_bytes inner) base))
-Runs Reads hint (ComposeAll asked) = RunsOne (ReportsAside (ReportsAllComposed Reads asked))
+Runs Reads hint (Compose outer source inner base options) = RunsWarned (WarnsComposed Reads (string_bytes outer) source (string_bytes inner) base)
+    (ReportsAside (ReportsComposed Reads options (string_bytes outer) source (string_bytes inner) base))
+Runs Reads hint (ComposeAll asked) = RunsWarned WarnsAll (ReportsAside (ReportsAllComposed Reads asked))
 Runs Reads hint (Fit asked) = λ status before after. (after.input ≡ before.input) × FitsAll Reads asked status before.sinks after.sinks
 Runs Reads hint (Explain asked) = RunsOne (ReportsAside (ReportsCode (option_map string_bytes asked.code)))
+
+-- and behind that what is told of its files
+abbrev pub RunsTold : MayRead → (hint : Bool) → Command → (status : ℕ) → (before after : Streams) → Type 0
+RunsTold Reads hint command status before after =
+    (between : Streams) × Runs Reads hint command status before between × (after.input ≡ between.input)
+    × (after.sinks.output ≡ between.sinks.output) × (after.sinks.code ≡ between.sinks.code)
+    × Tells Reads hint command status between.sinks.errors after.sinks.errors
 
 -- the streams, with an input without its control sequences, where `held` came of it and was not read, and `most` are still left out
 abbrev pub without_input : (held : List ℕ) → (most : ℕ) → Streams → Streams
@@ -63,6 +81,6 @@ without_input held most streams = record streams { input = without_seen held mos
 abbrev pub RunsOver : MayRead → (hint : Bool) → Command → (status : ℕ) → (before after : Streams) → Type 0
 RunsOver Reads hint command status before after =
     MatchBool (strips_ansi command)
-    ((held : List ℕ) × (most : ℕ) × Runs Reads hint command status (without_input [] most_sequences before) (without_input held most after)
+    ((held : List ℕ) × (most : ℕ) × RunsTold Reads hint command status (without_input [] most_sequences before) (without_input held most after)
     × (after.input.failed ≡ true → IsWaiting held))
-    (Runs Reads hint command status before after)
+    (RunsTold Reads hint command status before after)

@@ -11,6 +11,7 @@
 
 mod limits;
 mod running;
+mod telling;
 
 pub use running::{run, run_reading};
 pub use smap_replies::{Failure, FileReader, Loaded, Reply, UnreadCause, print_error, report};

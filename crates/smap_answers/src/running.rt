@@ -2,10 +2,11 @@
 ghost use Rattle.std.specs.Prelude.{◌≡◌, false, None, Option, option_copied};
 ghost use Rattle.smap_replies.specs.Files.{gives_loaded};
 ghost use Rattle.smap_answers.specs.Private.Place.{place_of};
-ghost use Rattle.smap_answers.specs.Run.{Runs, RunsOver};
+ghost use Rattle.smap_answers.specs.Run.{Runs, RunsOver, RunsTold};
 ghost use Rattle.smap_command.specs.Runnable.{IsRunnable, strips_ansi};
 ghost use Rattle.smap_replies.specs.Streams.{streams_seen};
 
+use crate::telling::tell;
 use smap_codes::Code;
 use smap_command::{Command, Direction, USUAL_INTERVAL, Url};
 use smap_io::{ByteSink, ByteSource, WithoutSequences};
@@ -34,12 +35,12 @@ pub fn run<R: ByteSource, W: ByteSink, E: ByteSink>(
     requires input_works { (R.seen input.old).failed ≡ false }
     requires output_works { (W.seen output.old).failed ≡ false }
     requires errors_work { (E.seen errors.old).failed ≡ false }
-    ensures { (first : Option Code) × Runs (gives_loaded files.now) false command.now result
+    ensures { (first : Option Code) × RunsTold (gives_loaded files.now) false command.now result
         (streams_seen (R.seen input.old) (W.seen output.old) (E.seen errors.old) None)
         (streams_seen (R.seen input.new) (W.seen output.new) (E.seen errors.new) first) }
 {
     let mut first = None;
-    run_over(
+    run_told(
         alloc,
         &LoadedFiles(files),
         command,
@@ -58,7 +59,7 @@ pub fn run<R: ByteSource, W: ByteSink, E: ByteSink>(
 /// command asks for it, the control sequences of a terminal are left out of the input before anything else looks at it. The
 /// caller gives a command at whose interval checkpoints may stand and whose numbers of bytes are in their ranges, and
 /// devices that have not failed. With `hint` standard error is told at the end, where nothing else was said, that `rewrite`
-/// mapped nothing, and which option takes the places of lines that are no frames.
+/// mapped nothing, and which option takes the places of lines that are no frames; and why a file can't be read or is no map.
 pub fn run_reading<F: FileReader, R: ByteSource, W: ByteSink, E: ByteSink>(
     alloc: Global,
     reader: &F,
@@ -78,13 +79,13 @@ pub fn run_reading<F: FileReader, R: ByteSource, W: ByteSink, E: ByteSink>(
         (streams_seen (R.seen result.1) (W.seen output.new) (E.seen errors.new) first.new) }
 {
     if !command.strips_ansi() {
-        let status = run_over(
+        let status = run_told(
             alloc, reader, command, hint, &mut input, output, errors, first,
         );
         return (status, input);
     }
     let mut text = WithoutSequences::new(input);
-    let status = run_over(
+    let status = run_told(
         alloc, reader, command, hint, &mut text, output, errors, first,
     );
     (status, text.into_inner())
@@ -104,6 +105,30 @@ fn place_of(command: &Command) -> (Option<&Url>, u32)
         }
         _ => (None, USUAL_INTERVAL),
     }
+}
+
+// Runs a command over an input as it is read, and tells behind that what is to be told of its files.
+fn run_told<F: FileReader, R: ByteSource, W: ByteSink, E: ByteSink>(
+    alloc: Global,
+    reader: &F,
+    command: &Command,
+    hint: bool,
+    input: &mut R,
+    output: &mut W,
+    errors: &mut E,
+    first: &mut Option<Code>,
+) -> u8
+    requires command { IsRunnable command.now }
+    requires input_works { (R.seen input.old).failed ≡ false }
+    requires output_works { (W.seen output.old).failed ≡ false }
+    requires errors_work { (E.seen errors.old).failed ≡ false }
+    ensures { RunsTold (F.gives reader.now) hint command.now result
+        (streams_seen (R.seen input.old) (W.seen output.old) (E.seen errors.old) first.old)
+        (streams_seen (R.seen input.new) (W.seen output.new) (E.seen errors.new) first.new) }
+{
+    let status = run_over(alloc, reader, command, hint, input, output, errors, first);
+    tell(alloc, reader, command, hint, status, errors);
+    status
 }
 
 // Runs a command over an input as it is read.
@@ -185,8 +210,8 @@ fn run_over<F: FileReader, R: ByteSource, W: ByteSink, E: ByteSink>(
             inner,
             options,
             ..
-        } => answer_compose(alloc, &maps, outer, *source, inner, *options),
-        Command::ComposeAll(asked) => answer_compose_all(alloc, reader, asked),
+        } => answer_compose(alloc, &maps, outer, *source, inner, *options, errors),
+        Command::ComposeAll(asked) => answer_compose_all(alloc, reader, asked, errors),
         Command::Fit(asked) => {
             return answer_fit(alloc, reader, asked, output, errors, first);
         }

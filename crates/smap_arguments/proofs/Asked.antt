@@ -23,7 +23,7 @@ use Rattle.clap.specs.declared.error.Error.{Error}
 use Rattle.clap.specs.declared.error.kind.ErrorKind.{ErrorKind}
 use Rattle.clap.specs.declared.error.kind.ErrorKind.TheVariants.{OutOfMemory}
 use Rattle.smap_arguments.specs.CommandLine.{base_rule, bytes_number, bytes_rule, check, compose, content_rule, context_number, context_rule, flag_rule, interval_number, interval_rule}
-use Rattle.smap_arguments.specs.CommandLine.{explain, fit, generated, list_rule, locate, lookup, mappings, named, number, order_rule, positions, raw, repeated_rule, rewrite, show, smap, smap_with, source_number, sources}
+use Rattle.smap_arguments.specs.CommandLine.{explain, fit, generated, list_rule, locate, lookup, mappings, missing_rule, named, number, order_rule, percent_number, positions, raw, repeated_rule, required_rule, rewrite, show, smap, smap_with, source_number, sources}
 use Rattle.smap_arguments.specs.CommandLine.{whole_name}
 use Rattle.smap_arguments.specs.Line.{asks_generated, is_lookup, line_for, line_of}
 use Rattle.smap_arguments.specs.declared.usage.Usage.{Usage}
@@ -149,7 +149,7 @@ module _ (parser_at : Text → ValueParser) where
 
 abbrev flags : List Text
 flags = codes "after" ∷ codes "anywhere" ∷ codes "fit" ∷ codes "json" ∷ codes "explain" ∷ codes "summary" ∷ codes "strip-ansi" ∷ codes "hide-ignored"
-    ∷ codes "prune" ∷ codes "no-content" ∷ codes "paths" ∷ codes "generated" ∷ []
+    ∷ codes "prune" ∷ codes "no-content" ∷ codes "paths" ∷ codes "generated" ∷ codes "names" ∷ codes "keep-debug-id" ∷ []
 
 -- lines, columns, sources, intervals, bytes and lines around one are numbers, flags are true or false, and the other arguments are any text
 abbrev at_argument : Text → ValueParser
@@ -159,13 +159,20 @@ at_argument id = cond (list_any (bytes_eq id) flags) parser.Bool
     (cond (bytes_eq id (codes "K")) interval_number
     (cond (bytes_eq id (codes "cache")) (bytes_number 0)
     (cond (bytes_eq id (codes "limit")) (bytes_number 1)
-    (cond (bytes_eq id (codes "N")) context_number parser.String))))))
+    (cond (bytes_eq id (codes "PERCENT")) percent_number
+    (cond (bytes_eq id (codes "N")) context_number parser.String)))))))
 
 base_plain : (i : ℕ) → IsPlain at_argument (with_index i (filled base_rule))
 base_plain i = option at_argument i (codes "URL") (codes "base")
 
 order_plain : (i : ℕ) → IsPlain at_argument (with_index i (filled order_rule))
 order_plain i = option at_argument i (codes "BY") (codes "sort")
+
+missing_plain : (i : ℕ) → IsPlain at_argument (with_index i (filled missing_rule))
+missing_plain i = option at_argument i (codes "HOW") (codes "missing")
+
+required_plain : (i : ℕ) → IsPlain at_argument (with_index i (filled required_rule))
+required_plain i = option at_argument i (codes "PERCENT") (codes "require-mapped")
 
 content_plain : (i : ℕ) → IsPlain at_argument (with_index i (filled content_rule))
 content_plain i = option at_argument i (codes "INDEX") (codes "content")
@@ -257,12 +264,21 @@ rewrite_plain = (
               (
                 flag_plain 2 (codes "paths") refl,
                 (
-                  cache_plain 2,
+                  flag_plain 2 (codes "names") refl,
                   (
-                    limit_plain 2,
+                    required_plain 2,
                     (
-                      flag_plain 2 (codes "summary") refl,
-                      (flag_plain 2 (codes "explain") refl, (flag_plain 2 (codes "strip-ansi") refl, (help_plain, tt))),
+                      missing_plain 2,
+                      (
+                        cache_plain 2,
+                        (
+                          limit_plain 2,
+                          (
+                            flag_plain 2 (codes "summary") refl,
+                            (flag_plain 2 (codes "explain") refl, (flag_plain 2 (codes "strip-ansi") refl, (help_plain, tt))),
+                          ),
+                        ),
+                      ),
                     ),
                   ),
                 ),
@@ -286,7 +302,13 @@ locate_plain = (
         interval_plain 2,
         (
           flag_plain 2 (codes "paths") refl,
-          (cache_plain 2, (flag_plain 2 (codes "after") refl, (flag_plain 2 (codes "json") refl, (context_plain 2, (help_plain, tt))))),
+          (
+            cache_plain 2,
+            (
+              flag_plain 2 (codes "after") refl,
+              (flag_plain 2 (codes "json") refl, (context_plain 2, (help_plain, tt))),
+            ),
+          ),
         ),
       ),
     ),
@@ -302,7 +324,10 @@ check_plain = (
 show_plain : Each (IsPlain at_argument) (built_leaf show.top).rules
 show_plain = (
   value at_argument 1 (codes "PATH") true,
-  (base_plain 2, (flag_plain 2 (codes "prune") refl, (flag_plain 2 (codes "no-content") refl, (help_plain, tt)))),
+  (
+    base_plain 2,
+    (flag_plain 2 (codes "prune") refl, (flag_plain 2 (codes "no-content") refl, (flag_plain 2 (codes "keep-debug-id") refl, (help_plain, tt)))),
+  ),
 )
 
 compose_plain : Each (IsPlain at_argument) (built_leaf compose.top).rules
@@ -316,7 +341,13 @@ compose_plain = (
         pairs_plain 4,
         (
           list_plain 4 (codes "inners"),
-          (base_plain 4, (flag_plain 4 (codes "prune") refl, (flag_plain 4 (codes "no-content") refl, (help_plain, tt)))),
+          (
+            base_plain 4,
+            (
+              flag_plain 4 (codes "prune") refl,
+              (flag_plain 4 (codes "no-content") refl, (flag_plain 4 (codes "keep-debug-id") refl, (help_plain, tt))),
+            ),
+          ),
         ),
       ),
     ),

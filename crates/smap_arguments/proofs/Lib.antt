@@ -8,4 +8,5 @@ mod Stops
 mod Texts
 mod Asked
 mod SpreadLaws
+mod NumberedLaws
 mod Lines

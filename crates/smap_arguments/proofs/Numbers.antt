@@ -1,5 +1,5 @@
 -- A number that clap reads for an argument.
-use Rattle.std.proofs.Common.{◌≡◌, ◌∙◌, ◌≤◌, ◌<◌, ◌^◌, ◌+◌, ℕ, Option, Some, None, sym, subst, pos, codes, List, refl, leb, arith, true, false, ap, is_some}
+use Rattle.std.proofs.Common.{◌≡◌, ◌∙◌, ◌≤◌, ◌<◌, ◌^◌, ◌+◌, ℕ, Option, Some, None, sym, subst, pos, codes, List, refl, leb, arith, false, ap, is_some}
 use Rattle.std.proofs.Common.{Result}
 use Rattle.std.specs.Option.{IsSome}
 use Rattle.std.specs.Prelude.{IfSome, option_map, unwrap_or}

@@ -21,6 +21,8 @@ use Rattle.smap_command.specs.declared.asked.Locate as asked
 use Rattle.smap_command.specs.declared.asked.MapChoice.{MapChoice}
 use Rattle.smap_command.specs.declared.options.AnswerOptions.{AnswerOptions}
 use Rattle.smap_command.specs.declared.options.FurtherOptions.{FurtherOptions}
+use Rattle.smap_command.specs.declared.options.Required.{Required}
+use Rattle.smap_command.specs.declared.options.Required.TheVariants.{One, Percent}
 use Rattle.smap_command.specs.declared.options.WriteOptions.{WriteOptions}
 use Rattle.smap_arguments.specs.CommandLine.{named, whole_name}
 use Rattle.smap_arguments.specs.Excludes.{excluded_line}
@@ -129,6 +131,10 @@ GivesList rows = GivesTextIfGiven rows (codes "LIST")
 abbrev pub HasMaps : {A B : Type 0} → (maps : List A) → (list : Option B) → Type 0
 HasMaps maps list = (maps ≢ []) ⊎ IsSome list
 
+-- an option is given, which takes this word alone
+abbrev pub GivesWord : List Row → (name word : Text) → Bool → Type 0
+GivesWord rows name word given = first_of name rows ≡ (if given then Some word else None)
+
 -- ---- the arguments of `rewrite`
 
 -- the number of bytes that an option names, where it is given
@@ -139,13 +145,21 @@ bytes_given rows name = option_map (λ text. digits_value 10 (without_leading_pl
 abbrev pub GivesBytes : List Row → (name : Text) → (least : ℕ) → Option ℕ → Type 0
 GivesBytes rows name least given = (given ≡ bytes_given rows name) × IfSome given (λ bytes. (least ≤ bytes) × (bytes ≤ most_bytes))
 
+-- how many of the frames are to get their places, where that is asked for: of a hundred as many as the number that is given, and
+-- with 0 at least one
+abbrev pub GivesRequired : List Row → Option Required → Type 0
+GivesRequired rows None = one_of (codes "PERCENT") rows ≡ None
+GivesRequired rows (Some One) = GivesNumber rows (codes "PERCENT") 0
+GivesRequired rows (Some (Percent n)) = GivesNumber rows (codes "PERCENT") n × (1 ≤ n) × (n ≤ 100)
+
 -- the further options of `rewrite`
 abbrev pub GivesFurther : List Row → FurtherOptions → Type 0
 GivesFurther rows options = GivesList rows options.list × GivesFlag rows (codes "anywhere") options.anywhere
     × GivesBytes rows (codes "cache") 0 options.cache_bytes × GivesBytes rows (codes "limit") 1 options.limit_bytes
     × GivesFlag rows (codes "summary") options.summary × GivesFlag rows (codes "strip-ansi") options.strip_ansi
     × (texts options.hide.items ≡ words_of rows (codes "TEXT")) × GivesFlag rows (codes "explain") options.explain
-    × GivesFlag rows (codes "paths") options.paths
+    × GivesFlag rows (codes "paths") options.paths × GivesFlag rows (codes "names") options.names
+    × GivesRequired rows options.required × GivesWord rows (codes "HOW") (codes "ok") options.missing_ok
 
 -- ---- the arguments of `positions` and `locate`
 
@@ -165,10 +179,10 @@ GivesLocate rows asked = GivesPairs rows (codes "URL=FILE") asked.maps.items × 
 
 -- ---- the arguments of `show` and `compose`
 
--- what is left out
+-- what is left out, and whether the debug id is written
 abbrev pub GivesOptions : List Row → WriteOptions → Type 0
-GivesOptions rows options =
-    GivesFlag rows (codes "prune") options.prune × GivesFlag rows (codes "no-content") options.no_content
+GivesOptions rows options = GivesFlag rows (codes "prune") options.prune × GivesFlag rows (codes "no-content") options.no_content
+    × GivesFlag rows (codes "keep-debug-id") options.keep_debug_id
 
 -- no source's map is given by the source's name
 abbrev pub HasNoInners : List Row → Type 0
@@ -192,7 +206,7 @@ GivesInners rows inners list = GivesPairs rows (codes "NAME=FILE") inners × Giv
 
 -- the sources that make most come first: an order is given, which is `bytes`
 abbrev pub GivesOrder : List Row → Bool → Type 0
-GivesOrder rows by_bytes = first_of (codes "BY") rows ≡ (if by_bytes then Some (codes "bytes") else None)
+GivesOrder rows = GivesWord rows (codes "BY") (codes "bytes")
 
 -- it is asked only where there is a generated file: that they are put in order by what they make of it, or what does not fit it
 abbrev pub IsAskedOver : {A : Type 0} → (generated : Option A) → (asked : Bool) → Type 0

@@ -30,6 +30,10 @@ interval_number = parser.Signed (pos 1) (pos most_interval)
 abbrev pub context_number : ValueParser
 context_number = parser.Signed (pos 0) (pos most_context)
 
+-- how many of a hundred
+abbrev pub percent_number : ValueParser
+percent_number = parser.Signed (pos 0) (pos 100)
+
 -- a number of bytes, from this one on
 abbrev pub bytes_number : (least : ℕ) → ValueParser
 bytes_number least = parser.Unsigned least most_bytes
@@ -70,6 +74,14 @@ source_rule = optional_number_rule source_number (codes "SOURCE")
 abbrev pub order_rule : Rule
 order_rule = record (new_rule (codes "BY")) { long = Some (codes "sort") }
 
+-- the option that is what a map may be that is not there, of any text
+abbrev pub missing_rule : Rule
+missing_rule = record (new_rule (codes "HOW")) { long = Some (codes "missing") }
+
+-- the option that is how many of a hundred frames are to get their places
+abbrev pub required_rule : Rule
+required_rule = record (new_rule (codes "PERCENT")) { long = Some (codes "require-mapped"); parser = Some percent_number }
+
 -- the option that is the number of the source whose content is written
 abbrev pub content_rule : Rule
 content_rule = record (new_rule (codes "INDEX")) { long = Some (codes "content"); parser = Some source_number }
@@ -105,58 +117,100 @@ IsLocalArgument rule argument = (rule_of argument ≡ rule) × (argument.global 
 abbrev pub with_rules : Text → List Rule → App
 with_rules name rules = fold with_rule (new_app name) rules
 
-abbrev pub lookup : App
-lookup = with_rules (codes "lookup") (text_rule (codes "PATH") ∷ number_rule number (codes "LINE")
+abbrev pub lookup_rules : List Rule
+lookup_rules = text_rule (codes "PATH") ∷ number_rule number (codes "LINE")
     ∷ number_rule number (codes "COLUMN") ∷ base_rule ∷ interval_rule ∷ flag_rule (codes "after") ∷ flag_rule (codes "json")
-    ∷ flag_rule (codes "explain") ∷ flag_rule (codes "generated") ∷ [])
+    ∷ flag_rule (codes "explain") ∷ flag_rule (codes "generated") ∷ []
+
+abbrev pub lookup : App
+lookup = with_rules (codes "lookup") lookup_rules
 
 -- `lookup` with `--generated`, whose words are a map and a place in one of its sources
-abbrev pub generated : App
-generated = with_rules (codes "lookup") (text_rule (codes "PATH") ∷ text_rule (codes "SOURCE") ∷ number_rule number (codes "LINE")
+abbrev pub generated_rules : List Rule
+generated_rules = text_rule (codes "PATH") ∷ text_rule (codes "SOURCE") ∷ number_rule number (codes "LINE")
     ∷ optional_number_rule number (codes "COLUMN") ∷ base_rule ∷ flag_rule (codes "after") ∷ flag_rule (codes "json")
-    ∷ flag_rule (codes "explain") ∷ flag_rule (codes "generated") ∷ [])
+    ∷ flag_rule (codes "explain") ∷ flag_rule (codes "generated") ∷ []
+
+abbrev pub generated : App
+generated = with_rules (codes "lookup") generated_rules
+
+abbrev pub positions_rules : List Rule
+positions_rules = text_rule (codes "MAP") ∷ base_rule ∷ interval_rule ∷ flag_rule (codes "after")
+    ∷ flag_rule (codes "json") ∷ []
 
 abbrev pub positions : App
-positions = with_rules (codes "positions") (text_rule (codes "MAP") ∷ base_rule ∷ interval_rule ∷ flag_rule (codes "after")
-    ∷ flag_rule (codes "json") ∷ [])
+positions = with_rules (codes "positions") positions_rules
+
+abbrev pub mappings_rules : List Rule
+mappings_rules = text_rule (codes "MAP") ∷ optional_number_rule number (codes "LINE") ∷ base_rule
+    ∷ flag_rule (codes "json") ∷ []
 
 abbrev pub mappings : App
-mappings = with_rules (codes "mappings") (text_rule (codes "MAP") ∷ optional_number_rule number (codes "LINE") ∷ base_rule
-    ∷ flag_rule (codes "json") ∷ [])
+mappings = with_rules (codes "mappings") mappings_rules
+
+abbrev pub sources_rules : List Rule
+sources_rules = text_rule (codes "MAP") ∷ optional_rule (codes "GENERATED") ∷ base_rule ∷ order_rule
+    ∷ flag_rule (codes "fit") ∷ flag_rule (codes "json") ∷ content_rule ∷ []
 
 abbrev pub sources : App
-sources = with_rules (codes "sources") (text_rule (codes "MAP") ∷ optional_rule (codes "GENERATED") ∷ base_rule ∷ order_rule
-    ∷ flag_rule (codes "fit") ∷ flag_rule (codes "json") ∷ content_rule ∷ [])
+sources = with_rules (codes "sources") sources_rules
+
+abbrev pub rewrite_rules : List Rule
+rewrite_rules = texts_rule false (codes "URL=FILE") ∷ list_rule (codes "maps") ∷ base_rule ∷ interval_rule
+    ∷ flag_rule (codes "hide-ignored") ∷ repeated_rule (codes "TEXT") (codes "hide") ∷ flag_rule (codes "anywhere")
+    ∷ flag_rule (codes "paths") ∷ flag_rule (codes "names") ∷ required_rule ∷ missing_rule ∷ bytes_rule 0 (codes "cache")
+    ∷ bytes_rule 1 (codes "limit") ∷ flag_rule (codes "summary") ∷ flag_rule (codes "explain") ∷ flag_rule (codes "strip-ansi") ∷ []
 
 abbrev pub rewrite : App
-rewrite = with_rules (codes "rewrite") (texts_rule false (codes "URL=FILE") ∷ list_rule (codes "maps") ∷ base_rule ∷ interval_rule
-    ∷ flag_rule (codes "hide-ignored") ∷ repeated_rule (codes "TEXT") (codes "hide") ∷ flag_rule (codes "anywhere")
-    ∷ flag_rule (codes "paths") ∷ bytes_rule 0 (codes "cache") ∷ bytes_rule 1 (codes "limit") ∷ flag_rule (codes "summary")
-    ∷ flag_rule (codes "explain") ∷ flag_rule (codes "strip-ansi") ∷ [])
+rewrite = with_rules (codes "rewrite") rewrite_rules
+
+abbrev pub locate_rules : List Rule
+locate_rules = texts_rule false (codes "URL=FILE") ∷ list_rule (codes "maps") ∷ base_rule ∷ interval_rule
+    ∷ flag_rule (codes "paths") ∷ bytes_rule 0 (codes "cache") ∷ flag_rule (codes "after")
+    ∷ flag_rule (codes "json") ∷ context_rule ∷ []
 
 abbrev pub locate : App
-locate = with_rules (codes "locate") (texts_rule false (codes "URL=FILE") ∷ list_rule (codes "maps") ∷ base_rule ∷ interval_rule
-    ∷ flag_rule (codes "paths") ∷ bytes_rule 0 (codes "cache") ∷ flag_rule (codes "after") ∷ flag_rule (codes "json") ∷ context_rule ∷ [])
+locate = with_rules (codes "locate") locate_rules
+
+abbrev pub check_rules : List Rule
+check_rules = texts_rule true (codes "PATH") ∷ base_rule ∷ interval_rule ∷ flag_rule (codes "json")
+    ∷ flag_rule (codes "explain") ∷ []
 
 abbrev pub check : App
-check = with_rules (codes "check") (texts_rule true (codes "PATH") ∷ base_rule ∷ interval_rule ∷ flag_rule (codes "json")
-    ∷ flag_rule (codes "explain") ∷ [])
+check = with_rules (codes "check") check_rules
+
+abbrev pub show_rules : List Rule
+show_rules = text_rule (codes "PATH") ∷ base_rule ∷ flag_rule (codes "prune") ∷ flag_rule (codes "no-content")
+    ∷ flag_rule (codes "keep-debug-id") ∷ []
 
 abbrev pub show : App
-show = with_rules (codes "show") (text_rule (codes "PATH") ∷ base_rule ∷ flag_rule (codes "prune") ∷ flag_rule (codes "no-content") ∷ [])
+show = with_rules (codes "show") show_rules
+
+abbrev pub compose_rules : List Rule
+compose_rules = text_rule (codes "OUTER") ∷ source_rule ∷ optional_rule (codes "INNER") ∷ repeated_rule (codes "NAME=FILE") (codes "inner")
+    ∷ list_rule (codes "inners") ∷ base_rule ∷ flag_rule (codes "prune") ∷ flag_rule (codes "no-content")
+    ∷ flag_rule (codes "keep-debug-id") ∷ []
 
 abbrev pub compose : App
-compose = with_rules (codes "compose") (text_rule (codes "OUTER") ∷ source_rule ∷ optional_rule (codes "INNER") ∷ repeated_rule (codes "NAME=FILE") (codes "inner")
-    ∷ list_rule (codes "inners") ∷ base_rule ∷ flag_rule (codes "prune") ∷ flag_rule (codes "no-content") ∷ [])
+compose = with_rules (codes "compose") compose_rules
+
+abbrev pub fit_rules : List Rule
+fit_rules = texts_rule true (codes "MAP GENERATED") ∷ flag_rule (codes "json") ∷ flag_rule (codes "explain") ∷ []
 
 abbrev pub fit : App
-fit = with_rules (codes "fit") (texts_rule true (codes "MAP GENERATED") ∷ flag_rule (codes "json") ∷ flag_rule (codes "explain") ∷ [])
+fit = with_rules (codes "fit") fit_rules
+
+abbrev pub explain_rules : List Rule
+explain_rules = optional_rule (codes "CODE") ∷ []
 
 abbrev pub explain : App
-explain = with_rules (codes "explain") (optional_rule (codes "CODE") ∷ [])
+explain = with_rules (codes "explain") explain_rules
+
+abbrev pub raw_rules : List Rule
+raw_rules = number_rule number (codes "LINE") ∷ number_rule number (codes "COLUMN") ∷ interval_rule ∷ []
 
 abbrev pub raw : App
-raw = with_rules (codes "raw") (number_rule number (codes "LINE") ∷ number_rule number (codes "COLUMN") ∷ interval_rule ∷ [])
+raw = with_rules (codes "raw") raw_rules
 
 -- `smap`, which has a version and wants a subcommand, without one
 abbrev pub smap_alone : App

@@ -4,3 +4,4 @@ pub mod Excludes
 pub mod Arguments
 pub mod Refusals
 pub mod Spread
+pub mod Numbered

@@ -106,9 +106,23 @@ ReportsNoMaps command rows text =
 abbrev pub ReportsMaps : (command : Text) → List Row → Text → Type 0
 ReportsMaps command rows text = ReportsBadPair rows (codes "URL=FILE") text ⊎ ReportsNoMaps command rows text
 
+-- it is reported by this line that an option is given another word than this one, which it takes alone
+abbrev pub ReportsBadWord : List Row → (name word line : Text) → Text → Type 0
+ReportsBadWord rows name word line text =
+    (text ≡ line) × ((given : Text) × GivesText rows name given × (given ≢ word))
+
 -- these are the pairs, and nothing of them is refused
 abbrev pub GivesMaps : List Row → List (String Global × String Global) → Type 0
 GivesMaps rows maps = GivesPairs rows (codes "URL=FILE") maps × HasMaps maps (first_of (codes "LIST") rows)
+
+-- a map that is not there may be something else than `ok`
+abbrev pub bad_missing_line : Text
+bad_missing_line = codes "usage: --missing takes ok alone" ++ 10 ∷ []
+
+-- it is reported that it may not, where nothing of the maps is refused
+abbrev pub ReportsBadMissing : List Row → Text → Type 0
+ReportsBadMissing rows text = (maps : List (String Global × String Global)) × GivesMaps rows maps
+    × ReportsBadWord rows (codes "HOW") (codes "ok") bad_missing_line text
 
 -- it is reported that what `rewrite` is given excludes each other, where nothing of its maps is refused
 abbrev pub ReportsExcluded : List Row → Text → Type 0
@@ -117,9 +131,9 @@ ReportsExcluded rows text = (maps : List (String Global × String Global)) × (b
     × GivesFlag rows (codes "hide-ignored") hide_ignored × GivesFurther rows options
     × (excluded_line maps (is_some base) hide_ignored options ≡ Some text)
 
--- what `rewrite` refuses after its base: its maps, and then what excludes each other
+-- what `rewrite` refuses after its base: its maps, then what a map may be that is not there, and what excludes each other
 abbrev pub ReportsRewrite : List Row → Text → Type 0
-ReportsRewrite rows text = ReportsMaps (codes "rewrite") rows text ⊎ ReportsExcluded rows text
+ReportsRewrite rows text = ReportsMaps (codes "rewrite") rows text ⊎ ReportsBadMissing rows text ⊎ ReportsExcluded rows text
 
 -- it is reported that `locate` is given a base, and is to name sources by paths
 abbrev pub ReportsBaseAndPaths : List Row → Text → Type 0
@@ -188,8 +202,7 @@ ReportsContentWithMore rows text = (text ≡ content_with_more_line) × IsSome (
 
 -- it is reported that there is no such order
 abbrev pub ReportsBadOrder : List Row → Text → Type 0
-ReportsBadOrder rows text =
-    (text ≡ bad_order_line) × ((order : Text) × GivesText rows (codes "BY") order × (order ≢ codes "bytes"))
+ReportsBadOrder rows = ReportsBadWord rows (codes "BY") (codes "bytes") bad_order_line
 
 -- it is reported that the generated file is missing that they are to be put in order by
 abbrev pub ReportsSortAlone : List Row → Text → Type 0

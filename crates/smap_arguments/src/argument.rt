@@ -1,8 +1,10 @@
 //! The kinds of arguments that commands have, as clap gets them.
-ghost use Rattle.smap_arguments.specs.CommandLine.{IsLocalArgument, base_rule, bytes_rule, content_rule, context_rule, flag_rule, interval_rule, list_rule, number, number_rule};
-ghost use Rattle.smap_arguments.specs.CommandLine.{optional_number_rule, optional_rule, order_rule, repeated_rule, source_rule, text_rule, texts_rule};
+ghost use Rattle.smap_arguments.specs.CommandLine.{IsLocalArgument, base_rule, bytes_rule, content_rule, context_rule, flag_rule, interval_rule, list_rule, missing_rule, number, number_rule};
+ghost use Rattle.smap_arguments.specs.CommandLine.{optional_number_rule, optional_rule, order_rule, repeated_rule, required_rule, source_rule, text_rule, texts_rule};
 
-use crate::help::{CONTENT_HELP, CONTEXT_HELP, INTERVAL_HELP, ORDER_HELP, SOURCE_HELP};
+use crate::help::{
+    CONTENT_HELP, CONTEXT_HELP, INTERVAL_HELP, MISSING_HELP, ORDER_HELP, REQUIRED_HELP, SOURCE_HELP,
+};
 use clap::builder::ValueParser;
 use clap::{Arg, ArgAction, value_parser};
 use smap_command::{LIMIT, MOST_CONTEXT, MOST_INTERVAL, MOST_OPTION_BYTES};
@@ -74,6 +76,23 @@ pub fn order<'a>(alloc: Global) -> Arg<'a>
     ensures { IsLocalArgument order_rule result }
 {
     Arg::new(alloc, "BY").long("sort").help(ORDER_HELP)
+}
+
+/// The option that is what a map may be that is not there.
+pub fn missing<'a>(alloc: Global) -> Arg<'a>
+    ensures { IsLocalArgument missing_rule result }
+{
+    Arg::new(alloc, "HOW").long("missing").help(MISSING_HELP)
+}
+
+/// The option that is how many of a hundred frames are to get their places.
+pub fn required<'a>(alloc: Global) -> Arg<'a>
+    ensures { IsLocalArgument required_rule result }
+{
+    Arg::new(alloc, "PERCENT")
+        .long("require-mapped")
+        .value_parser(value_parser!(u32).range(0..=100))
+        .help(REQUIRED_HELP)
 }
 
 /// The option that is the number of the source whose content is written.

@@ -59,7 +59,8 @@ fn has_generated(words: &[String]) -> bool
     false
 }
 
-fn ends_options(word: &str) -> bool
+/// Whether all words behind this one are no options.
+pub fn ends_options(word: &str) -> bool
     ensures { result ≡ bytes_eq word.now (codes "--") }
 {
     word == "--"

@@ -315,6 +315,8 @@ pub const PRUNE_HELP: &str =
 
 pub const NO_CONTENT_HELP: &str = "Leave out the texts of the sources (`sourcesContent`)";
 
+pub const DEBUG_ID_HELP: &str = "Write the debug id of the map, or of OUTER, too (`debugId`)";
+
 pub const INTERVAL_HELP: &str = "\
 Checkpoints in the index stand at every K-th segment of a line, 1 to 4096, else 64. A
 smaller K answers look-ups faster and takes more memory; their answers are the same";
@@ -344,6 +346,16 @@ pub const ANYWHERE_HELP: &str =
 
 pub const PATHS_OF_SOURCES_HELP: &str =
     "Name sources by paths, from the folder of the map's URL on, where that is a path";
+
+pub const NAMES_HELP: &str = "\
+Name functions as they were written, where the generated file beside a map, FILE without its
+last `.map`, says it; not with --anywhere";
+
+pub const REQUIRED_HELP: &str = "\
+Report it, with status 1, where the text has frames and none gets its place or, written
+--require-mapped=PERCENT, fewer than so many of a hundred, 1 to 100";
+
+pub const MISSING_HELP: &str = "Report a map that is not there, and change no status: `ok`";
 
 pub const URLS_HELP: &str = "Say at the end which map each URL of the text has, or why it has none";
 

@@ -15,6 +15,7 @@ mod line;
 mod locate;
 mod lookups;
 mod mistakes;
+mod numbered;
 mod pairs;
 mod parsing;
 mod rewrite;

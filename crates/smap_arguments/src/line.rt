@@ -7,20 +7,21 @@ ghost use Rattle.smap_arguments.specs.CommandLine.{mappings, next_commands, posi
 ghost use Rattle.smap_arguments.specs.CommandLine.{with_commands, with_rules};
 
 use crate::argument::{
-    base_url, bytes, content, context, flag, interval, list, optional, optional_position_number,
-    order, position_number, repeated, source, text, texts,
+    base_url, bytes, content, context, flag, interval, list, missing, optional,
+    optional_position_number, order, position_number, repeated, required, source, text, texts,
 };
 use crate::help::{
     AFTER_HELP, ALIKE_HELP, ANYWHERE_HELP, CACHE_HELP, CHECK_ABOUT, CHECK_NOTES, CODE_HELP,
-    COLUMN_HELP, COMPOSE_ABOUT, COMPOSE_NOTES, EXPLAIN_ABOUT, EXPLAIN_NOTES, FIT_ABOUT, FIT_HELP,
-    FIT_NOTES, GENERATED_ABOUT, GENERATED_HELP, GENERATED_NOTES, HIDE_HELP, INNER_HELP,
-    INNER_LIST_HELP, INNER_PAIRS_HELP, JSON_HELP, LIMIT_HELP, LINE_HELP, LIST_HELP, LOCATE_ABOUT,
-    LOCATE_NOTES, LOOKUP_ABOUT, LOOKUP_NOTES, MAPPINGS_ABOUT, MAPPINGS_NOTES, MISFIT_COUNT_HELP,
-    MISFITS_HELP, NEAREST_HELP, NO_CONTENT_HELP, ONE_LINE_HELP, OUTER_HELP, PAIRS_HELP, PATH_HELP,
-    PATHS_HELP, PATHS_OF_SOURCES_HELP, POSITIONS_ABOUT, POSITIONS_NOTES, PRUNE_HELP, RAW_ABOUT,
-    RAW_NOTES, REWRITE_ABOUT, REWRITE_NOTES, SHOW_ABOUT, SHOW_NOTES, SOURCE_AFTER_HELP,
-    SOURCE_COLUMN_HELP, SOURCE_LINE_HELP, SOURCE_NAME_HELP, SOURCES_ABOUT, SOURCES_NOTES, STATUSES,
-    STRIP_HELP, SUMMARY_HELP, TEXT_HELP, TO_GENERATED_HELP, URLS_HELP, WHY_HELP,
+    COLUMN_HELP, COMPOSE_ABOUT, COMPOSE_NOTES, DEBUG_ID_HELP, EXPLAIN_ABOUT, EXPLAIN_NOTES,
+    FIT_ABOUT, FIT_HELP, FIT_NOTES, GENERATED_ABOUT, GENERATED_HELP, GENERATED_NOTES, HIDE_HELP,
+    INNER_HELP, INNER_LIST_HELP, INNER_PAIRS_HELP, JSON_HELP, LIMIT_HELP, LINE_HELP, LIST_HELP,
+    LOCATE_ABOUT, LOCATE_NOTES, LOOKUP_ABOUT, LOOKUP_NOTES, MAPPINGS_ABOUT, MAPPINGS_NOTES,
+    MISFIT_COUNT_HELP, MISFITS_HELP, NAMES_HELP, NEAREST_HELP, NO_CONTENT_HELP, ONE_LINE_HELP,
+    OUTER_HELP, PAIRS_HELP, PATH_HELP, PATHS_HELP, PATHS_OF_SOURCES_HELP, POSITIONS_ABOUT,
+    POSITIONS_NOTES, PRUNE_HELP, RAW_ABOUT, RAW_NOTES, REWRITE_ABOUT, REWRITE_NOTES, SHOW_ABOUT,
+    SHOW_NOTES, SOURCE_AFTER_HELP, SOURCE_COLUMN_HELP, SOURCE_LINE_HELP, SOURCE_NAME_HELP,
+    SOURCES_ABOUT, SOURCES_NOTES, STATUSES, STRIP_HELP, SUMMARY_HELP, TEXT_HELP, TO_GENERATED_HELP,
+    URLS_HELP, WHY_HELP,
 };
 use clap::{Arg, Command};
 use std::alloc::{AllocError, Global};
@@ -185,6 +186,9 @@ fn rewrite_command<'a>(alloc: Global) -> Result<Command<'a>, AllocError>
         repeated(alloc, "TEXT", "hide", TEXT_HELP),
         flag(alloc, "anywhere", ANYWHERE_HELP),
         flag(alloc, "paths", PATHS_OF_SOURCES_HELP),
+        flag(alloc, "names", NAMES_HELP),
+        required(alloc),
+        missing(alloc),
         bytes(alloc, "cache", CACHE_HELP, 0),
         bytes(alloc, "limit", LIMIT_HELP, 1),
         flag(alloc, "summary", SUMMARY_HELP),
@@ -232,6 +236,7 @@ fn show_command<'a>(alloc: Global) -> Result<Command<'a>, AllocError>
         base_url(alloc),
         flag(alloc, "prune", PRUNE_HELP),
         flag(alloc, "no-content", NO_CONTENT_HELP),
+        flag(alloc, "keep-debug-id", DEBUG_ID_HELP),
     ]?;
     described(alloc, "show", SHOW_ABOUT, SHOW_NOTES, arguments)
 }
@@ -248,6 +253,7 @@ fn compose_command<'a>(alloc: Global) -> Result<Command<'a>, AllocError>
         base_url(alloc),
         flag(alloc, "prune", PRUNE_HELP),
         flag(alloc, "no-content", NO_CONTENT_HELP),
+        flag(alloc, "keep-debug-id", DEBUG_ID_HELP),
     ]?;
     described(alloc, "compose", COMPOSE_ABOUT, COMPOSE_NOTES, arguments)
 }

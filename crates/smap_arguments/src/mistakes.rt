@@ -21,6 +21,8 @@ pub const MANY_HIDDEN: &str = "usage: more than 16 --hide\n";
 
 pub const HIDDEN_ANYWHERE: &str = "usage: not together: --hide, --anywhere\n";
 
+pub const NAMES_ANYWHERE: &str = "usage: not together: --names, --anywhere\n";
+
 /// Standard error: a URL is `*` alone, which each place has, as times of day are.
 pub const ANY_URL: &str = "usage: not together: *=FILE, --anywhere\n";
 
@@ -57,6 +59,9 @@ For more information, try '--help'.
 /// Standard error: `sources` is to write the content of a source and to do something else.
 pub const CONTENT_WITH_MORE: &str =
     "usage: not together: --content, and GENERATED, --base, --fit, --json or --sort\n";
+
+/// Standard error: a map that is not there may be something else than `ok`.
+pub const BAD_MISSING: &str = "usage: --missing takes ok alone\n";
 
 /// Standard error: `sources` has an order that there is none of.
 pub const BAD_ORDER: &str = "usage: --sort takes bytes alone\n";

@@ -3,11 +3,13 @@ ghost use Rattle.std.specs.Prelude.{IfErr, IfOk};
 ghost use Rattle.clap.specs.Words.{kind_of};
 ghost use Rattle.smap_command.specs.Runnable.{IsRunnable};
 ghost use Rattle.smap_arguments.specs.Arguments.{ArgumentsAskFor, texts};
+ghost use Rattle.smap_arguments.specs.Numbered.{with_numbers};
 ghost use Rattle.smap_arguments.specs.Refusals.{IsRead, IsRefusalOf, IsUsageOf};
 ghost use Rattle.smap_arguments.specs.Spread.{read_arguments};
 
 use crate::commands::command_in;
 use crate::generated::{asks_generated, is_lookup, line_of};
+use crate::numbered::with_numbers;
 use crate::spread::spread;
 use crate::usage::Usage;
 use clap::Error;
@@ -15,14 +17,26 @@ use clap::error::ErrorKind;
 use smap_command::Command;
 use std::alloc::Global;
 
-/// The command that the arguments ask for, where the first argument is the program's name and a position of `lookup` may be
-/// one word. An `Err` has the text for the user, as clap writes it.
+/// The command that the arguments ask for, where the first argument is the program's name, a position of `lookup` may be one
+/// word, and the number of `--require-mapped` may be left out. An `Err` has the text for the user, as clap writes it.
 pub fn parse(alloc: Global, arguments: Vec<String>) -> Result<Command, Usage>
-    ensures asked { IfOk result (ArgumentsAskFor (read_arguments (texts arguments.items))) }
+    ensures asked { IfOk result
+        (ArgumentsAskFor (read_arguments (with_numbers (texts arguments.items)))) }
     ensures can_run { IfOk result IsRunnable }
-    ensures refused { IfErr result (IsRefusalOf (read_arguments (texts arguments.items))) }
+    ensures refused { IfErr result
+        (IsRefusalOf (read_arguments (with_numbers (texts arguments.items)))) }
 {
-    match read_arguments(alloc, &arguments) {
+    let words = with_numbers(alloc, arguments)?;
+    parse_words(alloc, &words)
+}
+
+// The command that the words ask for, with the number of each `--require-mapped`.
+fn parse_words(alloc: Global, arguments: &[String]) -> Result<Command, Usage>
+    ensures asked { IfOk result (ArgumentsAskFor (read_arguments (texts arguments.now))) }
+    ensures can_run { IfOk result IsRunnable }
+    ensures refused { IfErr result (IsRefusalOf (read_arguments (texts arguments.now))) }
+{
+    match read_arguments(alloc, arguments) {
         Ok(read) => read,
         Err(error) => Err(usage_of(alloc, &error)),
     }

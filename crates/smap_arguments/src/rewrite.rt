@@ -1,18 +1,20 @@
 //! What `rewrite` is asked.
 ghost use Rattle.std.specs.Prelude.{◌≡◌, IfErr, IfOk, codes, option_map};
 ghost use Rattle.clap.specs.Words.{found_of, rows_of};
-ghost use Rattle.smap_arguments.specs.CommandLine.{named};
-ghost use Rattle.smap_arguments.specs.Arguments.{GivesBase, GivesFurther, HasArguments, NamedAsksFor};
+ghost use Rattle.smap_arguments.specs.CommandLine.{named, percent_number};
+ghost use Rattle.smap_arguments.specs.Arguments.{GivesBase, GivesFurther, GivesRequired, HasArguments, HasValueIfGiven, NamedAsksFor};
 ghost use Rattle.smap_arguments.specs.Excludes.{excluded_line, has_any_url, is_any_url};
-ghost use Rattle.smap_arguments.specs.Refusals.{IsNamedRefusal, ReportsRewrite};
+ghost use Rattle.smap_arguments.specs.Refusals.{IsNamedRefusal, ReportsBadWord, ReportsRewrite, bad_missing_line};
 
-use crate::mistakes::{ANY_URL, BASE_AND_PATHS, BOTH_FLAGS, HIDDEN_ANYWHERE, MANY_HIDDEN};
+use crate::mistakes::{
+    ANY_URL, BAD_MISSING, BASE_AND_PATHS, BOTH_FLAGS, HIDDEN_ANYWHERE, MANY_HIDDEN, NAMES_ANYWHERE,
+};
 use crate::pairs::maps_in;
 use crate::usage::Usage;
-use crate::values::{bytes_in, flag_in, interval_in, text_if_given, words_in};
+use crate::values::{bytes_in, flag_in, interval_in, percent_in, text_if_given, word_in, words_in};
 use clap::ArgMatches;
-use smap_command::{Command, FurtherOptions, MOST_HIDDEN};
-use std::alloc::{AllocError, Global};
+use smap_command::{Command, FurtherOptions, MOST_HIDDEN, Required};
+use std::alloc::Global;
 use url::Url;
 
 /// What `rewrite` is asked. It needs maps, and some of what it takes excludes each other.
@@ -42,6 +44,18 @@ pub fn rewrite_in(
     })
 }
 
+// How many of the frames are to get their places, where that is asked for.
+fn required_in(matches: &ArgMatches<'_>) -> Option<Required>
+    requires { HasValueIfGiven percent_number (rows_of (found_of matches.now)) (codes "PERCENT") }
+    ensures { GivesRequired (rows_of (found_of matches.now)) result }
+{
+    match percent_in(matches) {
+        None => None,
+        Some(0) => Some(Required::One),
+        Some(percent) => Some(Required::Percent(percent)),
+    }
+}
+
 // The line that is reported of words and options that exclude each other.
 fn excluded_line(
     maps: &[(String, String)],
@@ -62,6 +76,8 @@ fn excluded_line(
         Some(BOTH_FLAGS)
     } else if !options.hide.is_empty() {
         Some(HIDDEN_ANYWHERE)
+    } else if options.names {
+        Some(NAMES_ANYWHERE)
     } else if has_any_url(maps) {
         Some(ANY_URL)
     } else {
@@ -83,10 +99,13 @@ fn is_any_url(url: &str) -> bool
     url == "*"
 }
 
-fn further_in(alloc: Global, matches: &ArgMatches<'_>) -> Result<FurtherOptions, AllocError>
+fn further_in(alloc: Global, matches: &ArgMatches<'_>) -> Result<FurtherOptions, Usage>
     requires { HasArguments (named (codes "rewrite")) (rows_of (found_of matches.now)) }
     ensures given { IfOk result (GivesFurther (rows_of (found_of matches.now))) }
+    ensures refused { IfErr result (IsNamedRefusal (ReportsBadWord
+        (rows_of (found_of matches.now)) (codes "HOW") (codes "ok") bad_missing_line)) }
 {
+    let missing_ok = word_in(alloc, matches, "HOW", "ok", BAD_MISSING)?;
     Ok(FurtherOptions {
         strip_ansi: flag_in(matches, "strip-ansi"),
         list: text_if_given(alloc, matches, "LIST")?,
@@ -97,5 +116,8 @@ fn further_in(alloc: Global, matches: &ArgMatches<'_>) -> Result<FurtherOptions,
         hide: words_in(alloc, matches, "TEXT")?,
         explain: flag_in(matches, "explain"),
         paths: flag_in(matches, "paths"),
+        names: flag_in(matches, "names"),
+        required: required_in(matches),
+        missing_ok,
     })
 }

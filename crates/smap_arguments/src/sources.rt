@@ -8,7 +8,7 @@ ghost use Rattle.smap_arguments.specs.Refusals.{IsNamedRefusal, ReportsBadOrder,
 
 use crate::mistakes::{BAD_ORDER, CONTENT_WITH_MORE, FIT_ALONE, SORT_ALONE};
 use crate::usage::Usage;
-use crate::values::{flag_in, form_in, has_text_in, source_in, text_if_given, text_in};
+use crate::values::{flag_in, form_in, has_text_in, source_in, text_if_given, text_in, word_in};
 use clap::ArgMatches;
 use smap_command::{Command, MapChoice, SourceContent, SourceOptions, Sources, USUAL_INTERVAL};
 use std::alloc::Global;
@@ -87,9 +87,5 @@ fn order_in(alloc: Global, matches: &ArgMatches<'_>) -> Result<bool, Usage>
     ensures refused { IfErr result (IsNamedRefusal
         (ReportsBadOrder (rows_of (found_of matches.now)))) }
 {
-    match matches.get_str("BY") {
-        None => Ok(false),
-        Some("bytes") => Ok(true),
-        Some(_) => Err(Usage::Words(String::from_str(alloc, BAD_ORDER)?)),
-    }
+    word_in(alloc, matches, "BY", "bytes", BAD_ORDER)
 }

@@ -3,11 +3,11 @@ ghost use Rattle.std.specs.Prelude.{◌≡◌, ◌≤◌, ◌<◌, IfErr, IfOk, 
 ghost use Rattle.clap.specs.Words.{first_of, found_of, rows_of};
 ghost use Rattle.smap_command.specs.Limits.{most_context};
 ghost use Rattle.smap_command.specs.Options.{is_json};
-ghost use Rattle.smap_arguments.specs.CommandLine.{bytes_number, context_number, interval_number, number, source_number};
+ghost use Rattle.smap_arguments.specs.CommandLine.{bytes_number, context_number, interval_number, number, percent_number, source_number};
 ghost use Rattle.smap_arguments.specs.Arguments.{GivesBase, GivesBytes, GivesFlag, GivesInterval, GivesNumberIfGiven, GivesPosition};
-ghost use Rattle.smap_arguments.specs.Arguments.{GivesPositionIfGiven, GivesText, GivesTextIfGiven, GivesTexts, HasValue};
+ghost use Rattle.smap_arguments.specs.Arguments.{GivesPositionIfGiven, GivesText, GivesTextIfGiven, GivesTexts, GivesWord, HasValue};
 ghost use Rattle.smap_arguments.specs.Arguments.{HasValueIfGiven, texts, words_of};
-ghost use Rattle.smap_arguments.specs.Refusals.{IsNamedRefusal, ReportsOfBase};
+ghost use Rattle.smap_arguments.specs.Refusals.{IsNamedRefusal, ReportsBadWord, ReportsOfBase};
 ghost use Rattle.clap.specs.declared.builder.value_parser.ValueParser.TheVariants as parser;
 
 use crate::mistakes::{BAD_BASE, LONG_BASE, LONG_BASE_BYTES};
@@ -70,6 +70,15 @@ pub fn context_in(matches: &ArgMatches<'_>) -> Option<u32>
     matches.get_one::<u32>("N")
 }
 
+/// How many of a hundred frames are to get their places, where that is given.
+pub fn percent_in(matches: &ArgMatches<'_>) -> Option<u32>
+    requires { HasValueIfGiven percent_number (rows_of (found_of matches.now)) (codes "PERCENT") }
+    ensures given { GivesNumberIfGiven (rows_of (found_of matches.now)) (codes "PERCENT") result }
+    ensures in_range { IfSome result (λ percent. percent ≤ 100) }
+{
+    matches.get_one::<u32>("PERCENT")
+}
+
 /// The interval of the option `--interval`, or the usual one where it is not given.
 pub fn interval_in(matches: &ArgMatches<'_>) -> u32
     requires { HasValueIfGiven interval_number (rows_of (found_of matches.now)) (codes "K") }
@@ -126,6 +135,27 @@ pub fn has_text_in(matches: &ArgMatches<'_>, name: &str) -> bool
     ensures { result ≡ is_some (first_of name.now (rows_of (found_of matches.now))) }
 {
     matches.get_str(name).is_some()
+}
+
+/// Whether this option is given, which takes this word alone: another is reported by this line.
+pub fn word_in(
+    alloc: Global,
+    matches: &ArgMatches<'_>,
+    name: &str,
+    word: &str,
+    line: &str,
+) -> Result<bool, Usage>
+    ensures given { IfOk result (GivesWord (rows_of (found_of matches.now)) name.now word.now) }
+    ensures refused { IfErr result (IsNamedRefusal (ReportsBadWord
+        (rows_of (found_of matches.now)) name.now word.now line.now)) }
+{
+    let Some(given) = matches.get_str(name) else {
+        return Ok(false);
+    };
+    if given != word {
+        return Err(Usage::Words(String::from_str(alloc, line)?));
+    }
+    Ok(true)
 }
 
 /// None where the argument is not given.

@@ -101,16 +101,19 @@ fn has_inner(matches: &ArgMatches<'_>) -> bool
     source_in(matches, "SOURCE").is_some() || has_text_in(matches, "INNER")
 }
 
-// What is left out of the map.
+// What is left out of the map, and whether its debug id is written.
 fn options_in(matches: &ArgMatches<'_>) -> WriteOptions
     requires prune { HasValueIfGiven parser.Bool (rows_of (found_of matches.now))
         (codes "prune") }
     requires no_content { HasValueIfGiven parser.Bool (rows_of (found_of matches.now))
         (codes "no-content") }
+    requires keep_debug_id { HasValueIfGiven parser.Bool (rows_of (found_of matches.now))
+        (codes "keep-debug-id") }
     ensures { GivesOptions (rows_of (found_of matches.now)) result }
 {
     WriteOptions {
         prune: flag_in(matches, "prune"),
         no_content: flag_in(matches, "no-content"),
+        keep_debug_id: flag_in(matches, "keep-debug-id"),
     }
 }

@@ -6,7 +6,7 @@ use Rattle.smap_codes.specs.declared.code.Code.TheVariants.{M1, M2, M3, M4, M5, 
 use Rattle.smap_codes.specs.declared.code.Code.TheVariants.{F1, F2, F3, F4, F5, F6, F7, F8, F9, F10, F11}
 use Rattle.smap_codes.specs.declared.code.Code.TheVariants.{B1, B2, B3, B4, B5}
 use Rattle.smap_codes.specs.declared.code.Code.TheVariants.{O1, O2, C1, C2, C3, C4, E1, E2, E3, E4, U1, U2}
-use Rattle.smap_codes.specs.declared.code.Code.TheVariants.{A1, A2, A3, P1, P2, X1, X2, X3, X4, X5}
+use Rattle.smap_codes.specs.declared.code.Code.TheVariants.{A1, A2, A3, A4, P1, P2, X1, X2, X3, X4, X5, X6}
 use Rattle.smap_codes.specs.declared.code.Code.TheVariants.{TextTooLong, NotUtf8, Device, Memory, Usage, Refused}
 use Rattle.smap_c.specs.Codes.{code_at, code_number}
 
@@ -62,6 +62,7 @@ numbers_have_codes U2 = refl
 numbers_have_codes A1 = refl
 numbers_have_codes A2 = refl
 numbers_have_codes A3 = refl
+numbers_have_codes A4 = refl
 numbers_have_codes P1 = refl
 numbers_have_codes P2 = refl
 numbers_have_codes X1 = refl
@@ -69,6 +70,7 @@ numbers_have_codes X2 = refl
 numbers_have_codes X3 = refl
 numbers_have_codes X4 = refl
 numbers_have_codes X5 = refl
+numbers_have_codes X6 = refl
 numbers_have_codes TextTooLong = refl
 numbers_have_codes NotUtf8 = refl
 numbers_have_codes Device = refl

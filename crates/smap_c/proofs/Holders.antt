@@ -8,11 +8,13 @@ use Rattle.smap_piecewise.specs.contracts.kept_maps.KeptMaps as kept_maps
 use Rattle.smap_store.specs.contracts.url_table.UrlTable as url_table
 use Rattle.smap_c.specs.contracts.bytes.Bytes as handed
 use Rattle.smap_c.specs.contracts.inners.Inners as inner_maps
+use Rattle.smap_c.specs.contracts.names.NamedFunctions as named_functions
 use Rattle.smap_c.specs.declared.handles.MapHandle.{MapHandle}
 use Rattle.smap_c.specs.declared.handles.TableHandle.{TableHandle}
 use Rattle.smap_c.specs.declared.handles.InnersHandle.{InnersHandle}
 use Rattle.smap_c.specs.declared.handles.BytesHandle.{BytesHandle}
 use Rattle.smap_c.specs.declared.handles.OriginalsHandle.{OriginalsHandle}
+use Rattle.smap_c.specs.declared.handles.NamesHandle.{NamesHandle}
 use Rattle.smap_c.specs.declared.handles.UrlFinderHandle.{UrlFinderHandle}
 use Rattle.smap_c.specs.declared.handles.StoreHandle.{StoreHandle}
 use Rattle.smap_c.specs.declared.handles.RewritingHandle.{RewritingHandle}
@@ -21,6 +23,7 @@ use Rattle.smap_c.specs.contracts.handles.TableHandle as table_handle
 use Rattle.smap_c.specs.contracts.handles.InnersHandle as inners_handle
 use Rattle.smap_c.specs.contracts.handles.BytesHandle as bytes_handle
 use Rattle.smap_c.specs.contracts.handles.OriginalsHandle as originals_handle
+use Rattle.smap_c.specs.contracts.handles.NamesHandle as names_handle
 use Rattle.smap_c.specs.contracts.handles.UrlFinderHandle as url_finder_handle
 use Rattle.smap_c.specs.contracts.handles.StoreHandle as store_handle
 use Rattle.smap_c.specs.contracts.handles.RewritingHandle as rewriting_handle
@@ -94,6 +97,20 @@ originals = record {
   at_made = λ p o. refl;
   held_made = λ p o. refl;
   codes = originals_handle.the_codes;
+}
+
+abbrev pub names : Kind
+names = record {
+  R = named_functions.the_row;
+  name = names_handle.the_type.name;
+  D = NamesHandle;
+  at = λ h. h.at;
+  held = λ h. h.held;
+  make = λ p o. record { at = p; held = o };
+  eta = λ h. refl;
+  at_made = λ p o. refl;
+  held_made = λ p o. refl;
+  codes = names_handle.the_codes;
 }
 
 abbrev pub finder : Kind

@@ -10,6 +10,7 @@ pub mod Lines
 pub mod Look
 pub mod Many
 pub mod Mappings
+pub mod Names
 pub mod Originals
 pub mod Piecewise
 pub mod PlaceUrls

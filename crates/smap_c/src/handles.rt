@@ -1,5 +1,5 @@
-//! What C holds: handles, each a pointer that owns a map, a table, a store, a rewriting, inner maps, originals, a finder of
-//! URLs or bytes.
+//! What C holds: handles, each a pointer that owns a map, a table, a store, a rewriting, inner maps, originals, names of
+//! functions, a finder of URLs or bytes.
 ghost use Rattle.std.specs.Prelude.{◌≡◌, List, ℕ, Option, Some, IfErr, IfOk};
 ghost use Rattle.std.specs.Coded.{coded_option};
 ghost use Rattle.smap_record.specs.MapFile.{Map};
@@ -17,6 +17,8 @@ ghost use Rattle.smap_store.specs.contracts.url_table.UrlTable as url_table;
 ghost use Rattle.smap_c.specs.contracts.bytes.Bytes as handed;
 ghost use Rattle.smap_c.specs.contracts.inners.Inners as inner_maps;
 ghost use Rattle.smap_c.specs.Inners.{Places};
+ghost use Rattle.smap_c.specs.contracts.names.NamedFunctions as named_functions;
+ghost use Rattle.smap_c.specs.declared.names.NamedFunctions.{NamedFunctions};
 ghost use Rattle.smap_c.specs.Owned.{owns_held};
 
 mod lending;
@@ -25,6 +27,7 @@ mod making;
 use crate::bytes::Bytes;
 use crate::inners::Inners;
 use crate::loose::Loose;
+use crate::names::NamedFunctions;
 use smap_anywhere::UrlFinder;
 use smap_originals::Originals;
 use smap_piecewise::{KeptMaps, Rewriting};
@@ -146,6 +149,30 @@ impl OriginalsHandle {
     {
         let Loose { at, alloc: _ } = loose;
         OriginalsHandle { at: at as *mut u8 }
+    }
+}
+
+/// A handle of names of functions, or an empty one.
+#[repr(C)]
+#[derive(Drop)]
+pub struct NamesHandle {
+    at: *mut u8,
+    pub ghost held: { Option NamedFunctions } by { coded_option named_functions.the_row.coded },
+}
+
+impl Model for NamesHandle {
+    ghost also_owns = { λ handle. owns_held named_functions.the_row handle.at handle.held };
+}
+
+unsafe impl Send for NamesHandle {}
+
+impl NamesHandle {
+    // The handle of these names.
+    fn of(loose: Loose<NamedFunctions, Global>) -> NamesHandle
+        ensures { result.held ≡ Some loose.value }
+    {
+        let Loose { at, alloc: _ } = loose;
+        NamesHandle { at: at as *mut u8 }
     }
 }
 

@@ -1,8 +1,8 @@
 //! Source maps for C, and for what calls C: maps are read, explained where they are refused, looked up, counted, written and
 //! composed, mappings encoded, and stack traces rewritten, by the calls of the crates below. What is decided here is which
 //! map a composition in steps asks for next. A map, a table of maps, a store of them, a rewriting, the inner maps of a map,
-//! its originals, a finder of URLs and bytes that are handed out stand behind handles, each a pointer that owns what it
-//! leads to.
+//! its originals, names of functions, a finder of URLs and bytes that are handed out stand behind handles, each a pointer
+//! that owns what it leads to.
 //!
 //! ```text
 //! if smap_map_read(alloc, bytes, base, 64, &mut map, &mut refusal) == 0 {
@@ -33,6 +33,7 @@ mod look_up;
 mod loose;
 mod many;
 mod mappings;
+mod names;
 mod originals;
 mod paths;
 mod piecewise;

@@ -9,6 +9,7 @@ mod encoding;
 mod explaining;
 mod fit;
 mod mappings;
+mod names;
 mod originals;
 mod paths;
 mod place_urls;

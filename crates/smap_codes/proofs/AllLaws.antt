@@ -7,7 +7,7 @@ use Rattle.smap_codes.specs.declared.code.Code.TheVariants.{M1, M2, M3, M4, M5, 
 use Rattle.smap_codes.specs.declared.code.Code.TheVariants.{F1, F2, F3, F4, F5, F6, F7, F8, F9, F10, F11}
 use Rattle.smap_codes.specs.declared.code.Code.TheVariants.{B1, B2, B3, B4, B5}
 use Rattle.smap_codes.specs.declared.code.Code.TheVariants.{O1, O2, C1, C2, C3, C4, E1, E2, E3, E4, U1, U2}
-use Rattle.smap_codes.specs.declared.code.Code.TheVariants.{A1, A2, A3, P1, P2, X1, X2, X3, X4, X5}
+use Rattle.smap_codes.specs.declared.code.Code.TheVariants.{A1, A2, A3, A4, P1, P2, X1, X2, X3, X4, X5, X6}
 use Rattle.smap_codes.specs.declared.code.Code.TheVariants.{TextTooLong, NotUtf8, Device, Memory, Usage, Refused}
 
 pub each_code : (code : Code) → Contains all_codes code
@@ -61,16 +61,18 @@ each_code U2 = (45, omega arith, refl)
 each_code A1 = (46, omega arith, refl)
 each_code A2 = (47, omega arith, refl)
 each_code A3 = (48, omega arith, refl)
-each_code P1 = (49, omega arith, refl)
-each_code P2 = (50, omega arith, refl)
-each_code X1 = (51, omega arith, refl)
-each_code X2 = (52, omega arith, refl)
-each_code X3 = (53, omega arith, refl)
-each_code X4 = (54, omega arith, refl)
-each_code X5 = (55, omega arith, refl)
-each_code TextTooLong = (56, omega arith, refl)
-each_code NotUtf8 = (57, omega arith, refl)
-each_code Device = (58, omega arith, refl)
-each_code Memory = (59, omega arith, refl)
-each_code Usage = (60, omega arith, refl)
-each_code Refused = (61, omega arith, refl)
+each_code A4 = (49, omega arith, refl)
+each_code P1 = (50, omega arith, refl)
+each_code P2 = (51, omega arith, refl)
+each_code X1 = (52, omega arith, refl)
+each_code X2 = (53, omega arith, refl)
+each_code X3 = (54, omega arith, refl)
+each_code X4 = (55, omega arith, refl)
+each_code X5 = (56, omega arith, refl)
+each_code X6 = (57, omega arith, refl)
+each_code TextTooLong = (58, omega arith, refl)
+each_code NotUtf8 = (59, omega arith, refl)
+each_code Device = (60, omega arith, refl)
+each_code Memory = (61, omega arith, refl)
+each_code Usage = (62, omega arith, refl)
+each_code Refused = (63, omega arith, refl)

@@ -5,7 +5,7 @@ use Rattle.smap_codes.specs.declared.code.Code.TheVariants.{M1, M2, M3, M4, M5, 
 use Rattle.smap_codes.specs.declared.code.Code.TheVariants.{F1, F2, F3, F4, F5, F6, F7, F8, F9, F10, F11}
 use Rattle.smap_codes.specs.declared.code.Code.TheVariants.{B1, B2, B3, B4, B5}
 use Rattle.smap_codes.specs.declared.code.Code.TheVariants.{O1, O2, C1, C2, C3, C4, E1, E2, E3, E4, U1, U2}
-use Rattle.smap_codes.specs.declared.code.Code.TheVariants.{A1, A2, A3, P1, P2, X1, X2, X3, X4, X5}
+use Rattle.smap_codes.specs.declared.code.Code.TheVariants.{A1, A2, A3, A4, P1, P2, X1, X2, X3, X4, X5, X6}
 use Rattle.smap_codes.specs.declared.code.Code.TheVariants.{TextTooLong, NotUtf8, Device, Memory, Usage, Refused}
 
 -- a label, as `M14`, of which this is the number, and a name, as `Text`, and both as they are printed
@@ -77,6 +77,7 @@ called U2 = coded (codes "U2") 2 (codes "Memory")
 called A1 = coded (codes "A1") 1 (codes "BadUrl")
 called A2 = coded (codes "A2") 2 (codes "Twice")
 called A3 = coded (codes "A3") 3 (codes "Memory")
+called A4 = coded (codes "A4") 4 (codes "Misfit")
 called P1 = coded (codes "P1") 1 (codes "BadPosition")
 called P2 = coded (codes "P2") 2 (codes "LongLine")
 called X1 = coded (codes "X1") 1 (codes "Read")
@@ -84,6 +85,7 @@ called X2 = coded (codes "X2") 2 (codes "Write")
 called X3 = coded (codes "X3") 3 (codes "TooMuch")
 called X4 = coded (codes "X4") 4 (codes "Memory")
 called X5 = coded (codes "X5") 5 (codes "LongOutput")
+called X6 = coded (codes "X6") 6 (codes "FewMapped")
 called TextTooLong = alone (codes "TextTooLong")
 called NotUtf8 = alone (codes "NotUtf8")
 called Device = alone (codes "device")
@@ -125,7 +127,7 @@ writing_codes = O1 ∷ O2 ∷ C1 ∷ C2 ∷ C3 ∷ C4 ∷ E1 ∷ E2 ∷ E3 ∷ E
 
 -- why a trace or positions are not answered to their end, and why a word of `rewrite` gives no map
 abbrev pub trace_codes : List Code
-trace_codes = A1 ∷ A2 ∷ A3 ∷ P1 ∷ P2 ∷ X1 ∷ X2 ∷ X3 ∷ X4 ∷ X5 ∷ []
+trace_codes = A1 ∷ A2 ∷ A3 ∷ A4 ∷ P1 ∷ P2 ∷ X1 ∷ X2 ∷ X3 ∷ X4 ∷ X5 ∷ X6 ∷ []
 
 -- what is reported by a word alone
 abbrev pub word_codes : List Code

@@ -28,6 +28,15 @@ pub const A3: &Row = &Row {
     remedy: "Give the process more memory.",
 };
 
+pub const A4: &Row = &Row {
+    code: Code::A4,
+    meaning: "\
+        The map is not that of the generated file that a caller of the library gives for the names of \
+        functions.",
+    cause: "The map or the file is of another release, or the file was changed after it was built.",
+    remedy: "`smap fit MAP FILE` says where they differ. Give the two of one build.",
+};
+
 pub const P1: &Row = &Row {
     code: Code::P1,
     meaning: "The line of standard input whose number follows is the first that is no position.",
@@ -79,4 +88,13 @@ pub const X5: &Row = &Row {
         no such bound.",
     cause: "The map has very long names of sources, which stand in the place of short URLs.",
     remedy: "Raise the bound if the map is trusted, or hand the text over in parts.",
+};
+
+pub const X6: &Row = &Row {
+    code: Code::X6,
+    meaning: "\
+        `rewrite --require-mapped`: fewer of the frames got their places than were asked for. All \
+        output was written.",
+    cause: "The maps are of other URLs or releases, or are missing.",
+    remedy: "`--explain` says of each URL why its frames stay.",
 };

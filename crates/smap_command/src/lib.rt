@@ -25,6 +25,6 @@ pub use limits::{
 };
 pub use options::{
     AnswerOptions, CheckOptions, Direction, FitOptions, Form, FurtherOptions, LookupOptions,
-    MappingsOptions, SourceOptions, WriteOptions,
+    MappingsOptions, Required, SourceOptions, WriteOptions,
 };
 pub use url::Url;

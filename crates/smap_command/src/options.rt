@@ -129,6 +129,8 @@ pub struct WriteOptions {
     pub prune: bool,
     /// Whether the contents of the sources are left out.
     pub no_content: bool,
+    /// Whether the debug id of the map, or of the outer one, is written too.
+    pub keep_debug_id: bool,
 }
 
 impl WriteOptions {
@@ -138,6 +140,15 @@ impl WriteOptions {
     {
         self.prune || self.no_content
     }
+}
+
+/// How many of the frames of a text are to get their places.
+#[derive(Clone, Copy)]
+pub enum Required {
+    /// At least one of them.
+    One,
+    /// So many of a hundred, 1 to 100.
+    Percent(u32),
 }
 
 /// How a text is rewritten. With one of them, the first aside, it is over maps that are read only when it names them.
@@ -163,6 +174,12 @@ pub struct FurtherOptions {
     pub explain: bool,
     /// Whether the sources of a map whose URL is a path are named by paths that go on from its folder.
     pub paths: bool,
+    /// Whether frames get the names of functions that were written, where the generated files beside the maps say them.
+    pub names: bool,
+    /// How many of the frames are to get their places, where it is reported if fewer do.
+    pub required: Option<Required>,
+    /// Whether a map that is not there changes no status.
+    pub missing_ok: bool,
 }
 
 impl FurtherOptions {
@@ -182,6 +199,9 @@ impl FurtherOptions {
             hide: Vec::new(alloc),
             explain: false,
             paths: false,
+            names: false,
+            required: None,
+            missing_ok: false,
         }
     }
 
@@ -197,5 +217,8 @@ impl FurtherOptions {
             || !self.hide.is_empty()
             || self.explain
             || self.paths
+            || self.names
+            || self.required.is_some()
+            || self.missing_ok
     }
 }

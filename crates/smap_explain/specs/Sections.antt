@@ -28,10 +28,6 @@ count_at key entries = option_map_or length (option_and_then list_in (field_of k
 abbrev pub map_of : Data → Option Members
 map_of section = option_and_then (object_at (codes "map")) (as_object section)
 
--- the entries of an index map; none of a regular map
-abbrev pub entries_of_index : Members → Option (List Data)
-entries_of_index entries = option_and_then list_in (field_of (codes "sections") entries)
-
 -- the entry with this number, from 0
 abbrev pub entry_at : ℕ → Data → Option Data
 entry_at number sections = option_and_then (λ entries. slice_get entries number) (list_in sections)

@@ -21,7 +21,9 @@ mod among;
 use crate::answer::{Answer, Neighbours};
 use crate::bound::{Bound, Side};
 use crate::checkpoints::Checkpoints;
-use crate::encode::{encode_only, length_of_parts, only_text, write_parts};
+use crate::encode::{
+    encode_only, length_of_parts, only_text, within_limit, write_at_once, write_parts,
+};
 use crate::interval::is_interval;
 use crate::joined::{JoinedMappings, joined};
 use crate::mark::mark_parts;
@@ -226,8 +228,9 @@ impl Index {
 
     /// All mappings as one canonical text (ECMA-426, Mappings structure), which decodes to them: each difference in its
     /// shortest spelling, `,` between the segments of a line, one `;` for each line passed, nothing at the end. No list
-    /// is made: the texts are gone through twice, and room is made once. The text of an only part that begins at the
-    /// start is copied where it is canonical as it stands. A text past 67,108,864 bytes is refused.
+    /// is made: the texts are gone through once, or twice where they have so many segments, or stand on such lines, that
+    /// their text may be too long. The text of an only part that begins at the start is copied where it is canonical as it
+    /// stands. A text past 67,108,864 bytes is refused.
     pub fn encode_all(&self, alloc: Global) -> Result<String, EncodeAllRefusal>
         ensures text { IsExactOr EncodeAllRefusal.Memory result
             (encode_all_fault (joined self.now.parts))
@@ -241,6 +244,9 @@ impl Index {
         lists_in_order_have_no_fault();
         if let Some(text) = only_text(&self.parts) {
             return encode_only(alloc, text);
+        }
+        if let Some(written) = write_at_once(alloc, &self.parts, self.segments) {
+            return within_limit(written?.into_text());
         }
         let length = length_of_parts(alloc, &self.parts);
         let Some(bytes) = length.bytes() else {

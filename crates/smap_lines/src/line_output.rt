@@ -5,8 +5,8 @@ ghost use Rattle.smap_io.specs.Device.{Takes, TakesFront};
 ghost use Rattle.smap_lines.specs.LineOutput.{IsPut, IsSameOutput};
 ghost use Rattle.smap_lines.specs.Lines.{end_in};
 
+use crate::bytes::end_of_line;
 use crate::gathered::Gathered;
-use crate::line_end::end_of_line;
 use smap_io::{ByteSink, DeviceFault};
 
 /// An output that lines are put into: its sink, and the bytes that wait to be written. To put bytes takes no memory. Where

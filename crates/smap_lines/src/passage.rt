@@ -3,9 +3,9 @@ ghost use Rattle.std.specs.Prelude.{◌≡◌, ◌+◌, ◌<◌, ◌≤◌, ◌^
 ghost use Rattle.smap_lines.specs.LineOutput.{IsSameOutput};
 ghost use Rattle.smap_lines.specs.Private.Passage.{IsThrough, TakesEditedFront};
 
+use crate::bytes::cut_at_line_end;
 use crate::counts::LineCounts;
 use crate::editor::LineEditor;
-use crate::line_end::cut_at_line_end;
 use crate::line_output::LineOutput;
 use crate::open_line::OpenLine;
 use smap_io::{ByteSink, DeviceFault};

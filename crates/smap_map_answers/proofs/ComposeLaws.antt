@@ -5,22 +5,17 @@ use Rattle.smap_compose.specs.declared.refusal.ComposeRefusal.{ComposeRefusal}
 use Rattle.smap_compose.specs.declared.refusal.ComposeRefusal.TheVariants.{Memory}
 use Rattle.smap_mappings.specs.Exact.{GivesOr}
 use Rattle.smap_record.specs.Record.{MapRecord, record_of}
-use Rattle.smap_record.specs.declared.refusal.MapRefusal.{MapRefusal}
 use Rattle.smap_map_answers.specs.Compose.{ReportsComposed, compose_refusal_result, compose_result}
 use Rattle.smap_replies.specs.Files.{MayRead}
 use Rattle.smap_replies.specs.Map.{IsResult, Never, ReportsFound, refusal_result}
 use Rattle.smap_replies.specs.Outcome.{OrMemory, Report, reply_report}
+use Rattle.smap_map_answers.specs.WithId.{id_where}
 use Rattle.smap_map_answers.specs.Written.{report_or}
+use Rattle.smap_map_answers.proofs.WithIdLaws.{refused_so}
 use Rattle.smap_replies.specs.declared.outcome.Reply.{Reply}
 use Rattle.smap_command.specs.Limits.{usual_interval}
 use Rattle.smap_command.specs.declared.options.WriteOptions.{WriteOptions}
 use Rattle.url.specs.Parts.{Parts}
-
-refused_so : (refusal_of : MapRefusal → Report) (found : Result MapRecord MapRefusal) (Reports : MapRecord → Report → Type 0) (report : Report)
-    → ReportsFound refusal_of found Never report → ReportsFound refusal_of found Reports report
-refused_so refusal_of (Err refused) Reports report reported = reported
-refused_so refusal_of (Ok stated) Reports report (inl reported) = inl reported
-refused_so refusal_of (Ok stated) Reports report (inr never) = absurd never
 
 pub inner_refused : (Reads : MayRead) (options : WriteOptions) (outer : List ℕ) (source : ℕ) (inner : List ℕ) (base : Option Parts) (first second : List ℕ)
     (stated : MapRecord) (report : Report)
@@ -35,7 +30,7 @@ inner_refused Reads options outer source inner base first second stated report o
       inr (
         second,
         other,
-        (rw is (inr (refused_so (refusal_result inner) (record_of second base usual_interval) (IsResult (compose_result options stated source)) report reported))),
+        (rw is (inr (refused_so (refusal_result inner) (record_of second base usual_interval) (IsResult (compose_result options (id_where options.keep_debug_id first) stated source)) report reported))),
       ),
     ))
 

@@ -66,11 +66,11 @@ one_stated inners inner = map-append (option_map (λ (read : Map). read.stated))
 
 -- ---- all of it
 
-module _ (Reads : MayRead) (options : WriteOptions) (words : List (List ℕ × List ℕ)) (list : Option (List ℕ)) (outer : MapRecord)
-    (report : Report) where
+module _ (Reads : MayRead) (options : WriteOptions) (words : List (List ℕ × List ℕ)) (list : Option (List ℕ)) (id : Option (List ℕ))
+    (outer : MapRecord) (report : Report) where
   -- an inner map is refused
   pub inners_failed : (◌≡◌ {A = Result (List (Option MapRecord)) Report} (Err report) (Err out_of_memory))
-      ⊎ GathersInners Reads outer.sources words list (Err report) → OrMemory (ReportsInners Reads options words list outer) report
+      ⊎ GathersInners Reads outer.sources words list (Err report) → OrMemory (ReportsInners Reads options words list id outer) report
   inners_failed (inl no_memory) = inl (same_reported no_memory)
     where
       same_reported : ◌≡◌ {A = Result (List (Option MapRecord)) Report} (Err report) (Err out_of_memory) → report ≡ out_of_memory
@@ -80,8 +80,8 @@ module _ (Reads : MayRead) (options : WriteOptions) (words : List (List ℕ × L
   -- or all are composed
   pub inners_composed : (inners : List (Option MapRecord))
       → (◌≡◌ {A = Result (List (Option MapRecord)) Report} (Ok inners) (Err out_of_memory)) ⊎ GathersInners Reads outer.sources words list (Ok inners)
-      → OrMemory (λ reported. reported ≡ report_or compose_refusal_result (written_of options (all_composed outer inners))) report
-      → OrMemory (ReportsInners Reads options words list outer) report
+      → OrMemory (λ reported. reported ≡ report_or compose_refusal_result (written_of options id (all_composed outer inners))) report
+      → OrMemory (ReportsInners Reads options words list id outer) report
   inners_composed inners (inl no_memory) reported = cc
   inners_composed inners (inr gathers) reported = inr (Ok inners, gathers, reported)
 

@@ -9,3 +9,4 @@ mod FitLaws
 mod JsonLaws
 mod MisfitLaws
 mod ReplyLaws
+mod WithIdLaws

@@ -26,13 +26,16 @@ use Rattle.smap_map_answers.specs.Compose.{compose_refusal_result}
 use Rattle.smap_replies.specs.Files.{MayRead, IsUnread}
 use Rattle.smap_replies.specs.Lines.{argument_refused_line}
 use Rattle.smap_map_answers.specs.ComposedLines.{no_source_named_text}
-use Rattle.smap_replies.specs.Map.{ReportsMap, refusal_result, refused_file}
+use Rattle.smap_replies.specs.Map.{refusal_result, refused_file}
 use Rattle.smap_replies.specs.Outcome.{OrMemory, Report, misuse, out_of_memory, refusal}
 use Rattle.smap_replies.specs.Lists.{list_bytes_refusal, list_refusal}
 use Rattle.smap_replies.specs.Arguments.{argument_of, argument_text}
 use Rattle.smap_replies.specs.Standing.{record_standing}
 use Rattle.smap_replies.specs.Standing.StandingSeen.{at_url}
+use Rattle.smap_map_answers.specs.WithId.{ReportsMapWithId}
 use Rattle.smap_map_answers.specs.Written.{written_result}
+use Rattle.smap_io.specs.Device.{SinkSeen}
+use Rattle.smap_map_answers.specs.Warning.{IsWarned, warnings}
 
 -- ---- which sources have an inner map
 
@@ -145,17 +148,22 @@ GathersInners Reads sources words list result =
     × OrRefused named (λ named. ReadsInners Reads named sources []) result
 
 -- what is said of them: a refusal, or the composed map
-abbrev pub inners_result : WriteOptions → (outer : MapRecord) → Result (List (Option MapRecord)) Report → Report
-inners_result options outer (Err refused) = refused
-inners_result options outer (Ok inners) = written_result compose_refusal_result options (all_composed outer inners)
+abbrev pub inners_result : WriteOptions → (id : Option (List ℕ)) (outer : MapRecord) → Result (List (Option MapRecord)) Report → Report
+inners_result options id outer (Err refused) = refused
+inners_result options id outer (Ok inners) = written_result compose_refusal_result options id (all_composed outer inners)
 
--- what is said of an outer map that states this
-abbrev pub ReportsInners : MayRead → WriteOptions → List (List ℕ × List ℕ) → (list : Option (List ℕ)) → (outer : MapRecord) → Report → Type 0
-ReportsInners Reads options words list outer report =
+-- what is said of an outer map that has this debug id, where it is written, and states this
+abbrev pub ReportsInners : MayRead → WriteOptions → List (List ℕ × List ℕ) → (list : Option (List ℕ)) → (id : Option (List ℕ)) → (outer : MapRecord)
+    → Report → Type 0
+ReportsInners Reads options words list id outer report =
     (gathered : Result (List (Option MapRecord)) Report) × GathersInners Reads outer.sources words list gathered
-    × OrMemory (λ reported. reported ≡ inners_result options outer gathered) report
+    × OrMemory (λ reported. reported ≡ inners_result options id outer gathered) report
 
 -- what is said of the outer map, which is read first
 abbrev pub ReportsAllComposed : MayRead → ComposeAll → Report → Type 0
-ReportsAllComposed Reads asked = ReportsMap Reads 0 (string_bytes asked.outer) asked.base usual_interval
+ReportsAllComposed Reads asked = ReportsMapWithId Reads 0 (string_bytes asked.outer) asked.base usual_interval asked.options.keep_debug_id
     (ReportsInners Reads asked.options (map argument_of asked.inners.items) (option_map string_bytes asked.list))
+
+-- standard error is warned of those that do not fit their sources, where all files are maps
+abbrev pub WarnsAll : (before after : SinkSeen) → Type 0
+WarnsAll before after = (after ≡ before) ⊎ ((outer : MapRecord) × (inners : List (Option MapRecord)) × IsWarned (warnings outer.sources inners) before after)

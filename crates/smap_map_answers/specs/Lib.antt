@@ -11,8 +11,10 @@ pub mod ComposeAll
 pub mod ComposedLines
 pub mod Show
 pub mod Written
+pub mod WithId
 pub mod Check
 pub mod Explain
 pub mod CheckLines
 pub mod Misfits
 pub mod Fit
+pub mod Warning

@@ -1,6 +1,6 @@
 //! Composing the map of a file with those of several of its sources.
-ghost use Rattle.std.specs.Prelude.{◌≡◌, ◌≤◌, ◌⊎◌, Err, length, map, option_map, string_bytes, IfOk};
-ghost use Rattle.smap_map_answers.specs.ComposeAll.{GathersInners, ReportsAllComposed, ReportsInners};
+ghost use Rattle.std.specs.Prelude.{◌≡◌, ◌≤◌, ◌⊎◌, Err, length, map, option_copied, option_map, string_bytes, IfOk};
+ghost use Rattle.smap_map_answers.specs.ComposeAll.{GathersInners, ReportsAllComposed, ReportsInners, WarnsAll};
 ghost use Rattle.smap_replies.specs.Outcome.{OrMemory, out_of_memory, reply_report, report_of};
 ghost use Rattle.smap_map_answers.specs.Private.Inners.{inners_reported, inners_stated};
 ghost use Rattle.smap_replies.specs.Arguments.{argument_of};
@@ -13,40 +13,53 @@ ghost use Rattle.smap_mappings.specs.Exact.{GivesOr};
 use crate::compose::reported;
 use crate::inners::{named_inners, read_inners};
 use crate::outer_map::OuterMap;
+use crate::warning::warn_all;
+use crate::with_id::read_map_with_id;
 use crate::written::{left_out_of, written};
 use smap_command::{ComposeAll, WriteOptions};
 use smap_compose::{ComposeRefusal, Composed, compose_all};
+use smap_io::ByteSink;
 use smap_record::MapFile;
-use smap_replies::{Failure, FileReader, MapReader, Reply, read_map};
+use smap_replies::{Failure, FileReader, MapReader, Reply};
 use std::alloc::{AllocError, Global};
 
 /// Reads the map that the file of number 0 is, then the list of number 1, where there is one, then the maps of sources,
-/// which have the number 2, and composes them, without what the options leave out.
-pub fn answer_compose_all<F: FileReader>(
+/// which have the number 2, and composes them, without what the options leave out, and with the debug id of the first, where
+/// they keep that. Where the outer map has the content of a source, and the map of that does not fit it, standard error is
+/// warned.
+pub fn answer_compose_all<F: FileReader, E: ByteSink>(
     alloc: Global,
     reader: &F,
     asked: &ComposeAll,
+    errors: &mut E,
 ) -> Result<Reply, Failure>
-    ensures { OrMemory (ReportsAllComposed (F.gives reader.now) asked.now) (report_of result) }
+    ensures reported { OrMemory (ReportsAllComposed (F.gives reader.now) asked.now)
+        (report_of result) }
+    ensures warned { WarnsAll (E.seen errors.old) (E.seen errors.new) }
 {
     let maps = MapReader::usual(reader, asked.base.as_ref());
-    let outer = read_map(alloc, &maps, 0, &asked.outer)?;
-    composed_with(alloc, reader, asked, outer)
+    let keeps = asked.options.keep_debug_id;
+    let (outer, id) = read_map_with_id(alloc, &maps, 0, &asked.outer, keeps)?;
+    composed_with(alloc, reader, asked, outer, id.as_deref(), errors)
 }
 
 // The outer map composed with those of its sources.
-fn composed_with<F: FileReader>(
+fn composed_with<F: FileReader, E: ByteSink>(
     alloc: Global,
     reader: &F,
     asked: &ComposeAll,
     outer: MapFile,
+    id: Option<&str>,
+    errors: &mut E,
 ) -> Result<Reply, Failure>
-    ensures { OrMemory (ReportsInners (F.gives reader.now) asked.now.options
+    ensures reported { OrMemory (ReportsInners (F.gives reader.now) asked.now.options
         (map argument_of asked.now.inners.items) (option_map string_bytes asked.now.list)
-        outer.stated) (report_of result) }
+        (option_copied id.entry) outer.stated) (report_of result) }
+    ensures warned { WarnsAll (E.seen errors.old) (E.seen errors.new) }
 {
     let inners = gathered_inners(alloc, reader, asked, &outer)?;
-    reported(alloc, all_line(alloc, outer, inners, asked.options))
+    warn_all(alloc, &outer, &inners, errors);
+    reported(alloc, all_line(alloc, outer, inners, id, asked.options))
 }
 
 // The maps of the sources of the outer map, where they have one.
@@ -73,14 +86,16 @@ fn all_line(
     alloc: Global,
     outer: MapFile,
     inners: Vec<Option<MapFile>>,
+    id: Option<&str>,
     options: WriteOptions,
 ) -> Result<Reply, ComposeRefusal>
     requires { length inners.items ≤ length outer.stated.sources }
     ensures { GivesOr ComposeRefusal.Memory reply_report result
-        (written_of options (all_composed outer.stated (inners_stated inners.items))) }
+        (written_of options (option_copied id.entry)
+        (all_composed outer.stated (inners_stated inners.items))) }
 {
     let composed = composed_all(alloc, outer, inners, options)?;
-    Ok(written(alloc, composed)?)
+    Ok(written(alloc, composed, id)?)
 }
 
 // The composed map, without what the options leave out.

@@ -189,8 +189,8 @@ fn is_called(alloc: Global, text: &str, name: &str) -> Result<bool, AllocError>
     Ok(name.as_str() == text)
 }
 
-// An index in brackets.
-fn bracketed(alloc: Global, index: u32) -> Result<String, AllocError>
+/// An index in brackets.
+pub fn bracketed(alloc: Global, index: u32) -> Result<String, AllocError>
     ensures { IfOk result (λ text. string_bytes text ≡ bracketed index) }
 {
     format!(in alloc; "[{index}]")

@@ -5,7 +5,8 @@
 //! ```text
 //! let options = LookupOptions { form: Form::Text, explain: false };
 //! let outcome = answer_lookup(alloc, &maps, "app.js.map", (0, 5), Direction::AtOrBefore, options);
-//! let outcome = answer_show(alloc, &maps, "app.js.map", WriteOptions { prune: true, no_content: false });
+//! let options = WriteOptions { prune: true, no_content: false, keep_debug_id: true };
+//! let outcome = answer_show(alloc, &rt, "app.js.map", None, options);
 //! let status = answer_fit(alloc, &reader, &fit, &mut output, &mut errors, &mut first);
 //! ```
 #![tactic(auto)]
@@ -28,6 +29,8 @@ mod positions;
 mod raw;
 mod show;
 mod sources;
+mod warning;
+mod with_id;
 mod written;
 
 pub use check::answer_check;

@@ -1,6 +1,6 @@
 -- What is printed of the mappings of a map: a line each, in their order. Lines and columns count from 1 in what is printed,
 -- indices from 0.
-use Rattle.std.specs.Prelude.{ℕ, ◌+◌, ◌==◌, Bool, true, List, ◌++◌, Option, Some, None, codes, if◌then◌else◌, filter, option_and_then, slice_get}
+use Rattle.std.specs.Prelude.{ℕ, ◌+◌, ◌==◌, Bool, true, List, [], ◌++◌, Option, Some, None, codes, if◌then◌else◌, filter, option_and_then, slice_get}
 use Rattle.std.specs.Fmt.{decimal}
 use Rattle.std.specs.List.{flat_map}
 use Rattle.serde_json.specs.Data.{Data, boolean, string, object, no_members, member}
@@ -8,6 +8,7 @@ use Rattle.smap_mappings.specs.declared.mapping.Mapping.{Mapping}
 use Rattle.smap_mappings.specs.declared.mapping.Origin.{Origin}
 use Rattle.smap_index.specs.Answer.{answer_of}
 use Rattle.smap_index.specs.Parts.{joined}
+use Rattle.smap_record.specs.DebugId.{id_member}
 use Rattle.smap_record.specs.Record.{MapRecord}
 use Rattle.smap_record.specs.Sources.{StatedSource}
 use Rattle.smap_record.specs.Written.{is_ignored_where}
@@ -68,3 +69,17 @@ printed_mappings form line stated mappings = flat_map (printed_mapping form stat
 -- what is printed of the mappings of a map
 unfoldable pub mappings_text : MappingsOptions → MapRecord → List ℕ
 mappings_text options stated = printed_mappings options.form options.line stated (joined stated.parts)
+
+-- ---- and a debug id
+
+abbrev pub id_value : (id : List ℕ) → Data
+id_value id = object (id_member id)
+
+-- the line for a debug id, where one is told
+abbrev pub printed_id : Option (List ℕ) → List ℕ
+printed_id None = []
+printed_id (Some id) = json_line (id_value id)
+
+-- what is printed of the mappings of a map and, behind them, of a debug id
+abbrev pub text_with_id : MappingsOptions → (id : Option (List ℕ)) → MapRecord → List ℕ
+text_with_id options id stated = mappings_text options stated ++ printed_id id

@@ -8,7 +8,7 @@
 //! let options = AnswerOptions { direction: Direction::AtOrAfter, form: Form::Json, context: Some(2) };
 //! let summary = answer_position_lines(alloc, &mut input, &mut output, &map, options)?;
 //! let options = MappingsOptions { line: Some(0), form: Form::Text };
-//! print_mappings(alloc, &map, options, &mut output)?;
+//! print_mappings(alloc, &map, None, options, &mut output)?;
 //! let options = SourceOptions { by_bytes: true, form: Form::Text };
 //! let text = sources_text(alloc, &map, Some(generated), options)?;
 //! ```

@@ -1,10 +1,12 @@
 //! Printing the mappings of a map.
-ghost use Rattle.std.specs.Prelude.{◌≡◌, ◌⊎◌, [], false, true, IfErr, IfSome, OnErr, OnOk, if◌then◌else◌, nat_lt};
+ghost use Rattle.std.specs.Prelude.{◌≡◌, ◌⊎◌, [], false, option_copied, true, IfErr, IfSome, OnErr, OnOk, if◌then◌else◌, nat_lt};
 ghost use Rattle.smap_io.specs.Device.{Takes, TakesFront};
 ghost use Rattle.smap_lines.specs.RunEnds.{is_write_fault};
 ghost use Rattle.smap_lines.specs.LineOutput.{IsPut};
 ghost use Rattle.smap_lines.specs.declared.fault.LineFault.TheVariants.{Memory, Write};
-ghost use Rattle.smap_printing.specs.Mappings.{is_on_line, line_with, mappings_text, printed_mapping};
+ghost use Rattle.smap_printing.specs.Json.{json_line};
+ghost use Rattle.smap_printing.specs.Mappings.{id_value, is_on_line, line_with, mappings_text, printed_id, printed_mapping};
+ghost use Rattle.smap_printing.specs.Mappings.{text_with_id};
 ghost use Rattle.smap_printing.specs.Private.GatheredLine.{Gathers};
 ghost use Rattle.smap_printing.specs.Private.Past.{is_past_line};
 ghost use Rattle.smap_printing.specs.Private.Plain.{IsKept};
@@ -13,6 +15,7 @@ use crate::answer::from_one;
 use crate::gathered_line::GatheredLine;
 use crate::json_form::put_mapping_object;
 use crate::kept_source::{KeptSource, keep_source};
+use crate::map_text::put_json_text;
 use crate::output::{Output, put_number};
 use crate::short_text::ShortText;
 use crate::text_form::{UNMAPPED, put_origin_line};
@@ -22,8 +25,8 @@ use smap_lines::{Gathered, LineFault, LineOutput};
 use smap_record::{MapFile, Mapping};
 use std::alloc::Global;
 
-/// Prints the mappings of a map that the options ask for, a line each in their order. The caller gives an output that has
-/// not failed.
+/// Prints the mappings of a map that the options ask for, a line each in their order, and behind them the debug id, where one
+/// is given, as a JSON object. The caller gives an output that has not failed.
 ///
 /// It walks through the map's mappings and holds none of them. A room of 65,536 bytes is made before the first write, lines
 /// are gathered in it and written when it is full, and at the end, and no line takes memory. The first failure ends it, and
@@ -31,15 +34,16 @@ use std::alloc::Global;
 pub fn print_mappings<W: ByteSink>(
     alloc: Global,
     map: &MapFile,
+    id: Option<&str>,
     options: MappingsOptions,
     output: &mut W,
 ) -> Result<(), LineFault>
     requires output_works { (W.seen output.old).failed ≡ false }
     ensures printed { OnOk result (Takes (W.seen output.old).taken (W.seen output.new).taken
-        (mappings_text options map.now.stated)) }
+        (text_with_id options (option_copied id.entry) map.now.stated)) }
     ensures flushed { OnOk result ((W.seen output.new).flushed ≡ true) }
     ensures front { OnErr result (TakesFront (W.seen output.old).taken (W.seen output.new).taken
-        (mappings_text options map.now.stated)) }
+        (text_with_id options (option_copied id.entry) map.now.stated)) }
     ensures faults { IfErr result (λ fault. (fault ≡ Write) ⊎ (fault ≡ Memory)) }
     ensures output_failure { (W.seen output.new).failed ≡ is_write_fault result }
     ensures memory_output { IfErr result (λ fault. fault ≡ Memory → output.new ≡ output.old) }
@@ -47,7 +51,7 @@ pub fn print_mappings<W: ByteSink>(
     let Ok(mut gathered) = Gathered::new(alloc) else {
         return Err(LineFault::Memory);
     };
-    let Ok(()) = write_mappings(alloc, map, options, &mut gathered, output) else {
+    let Ok(()) = write_mappings(alloc, map, id, options, &mut gathered, output) else {
         return Err(LineFault::Write);
     };
     match output.flush() {
@@ -60,34 +64,37 @@ pub fn print_mappings<W: ByteSink>(
 fn write_mappings<W: ByteSink>(
     alloc: Global,
     map: &MapFile,
+    id: Option<&str>,
     options: MappingsOptions,
     gathered: &mut Gathered,
     output: &mut W,
 ) -> Result<(), DeviceFault>
     requires none { gathered.old ≡ [] }
     ensures written { OnOk result (Takes (W.seen output.old).taken (W.seen output.new).taken
-        (mappings_text options map.now.stated)) }
+        (text_with_id options (option_copied id.entry) map.now.stated)) }
     ensures no_failure { OnOk result ((W.seen output.new).failed ≡ (W.seen output.old).failed) }
     ensures front { OnErr result (TakesFront (W.seen output.old).taken (W.seen output.new).taken
-        (mappings_text options map.now.stated)) }
+        (text_with_id options (option_copied id.entry) map.now.stated)) }
     ensures failure { OnErr result ((W.seen output.new).failed ≡ true) }
 {
     let mut lent = LineOutput {
         gathered,
         sink: output,
     };
-    put_mappings(alloc, map, options, &mut lent)?;
+    put_mappings(alloc, map, id, options, &mut lent)?;
     lent.write()
 }
 
-// Puts the lines after the bytes that wait. They are joined in one short text, so that the output is seldom asked for room.
+// Puts the lines, and that of a debug id, after the bytes that wait. They are joined in one short text, so that the output is
+// seldom asked for room.
 fn put_mappings<W: ByteSink>(
     alloc: Global,
     map: &MapFile,
+    id: Option<&str>,
     options: MappingsOptions,
     output: &mut LineOutput<'_, W>,
 ) -> Result<(), DeviceFault>
-    ensures { IsPut W.seen output.old output.new (mappings_text options map.now.stated) result }
+    ensures { IsPut W.seen output.old output.new (text_with_id options (option_copied id.entry) map.now.stated) result }
 {
     let mut lines = GatheredLine {
         output,
@@ -95,6 +102,7 @@ fn put_mappings<W: ByteSink>(
         done: Ok(()),
     };
     gather_mappings(alloc, map, options, &mut lines);
+    put_debug_id(id, &mut lines);
     lines.hand_on();
     lines.done
 }
@@ -121,6 +129,24 @@ fn gather_mappings<W: ByteSink>(
         keep_source(map, &mapping, &mut kept);
         put_asked(map, options, &mapping, &kept, lines);
     }
+}
+
+// Puts the line for a debug id, where one is given.
+fn put_debug_id<O: Output>(id: Option<&str>, output: &mut O)
+    ensures { O.Puts output.old output.new (printed_id (option_copied id.entry)) }
+{
+    if let Some(id) = id {
+        put_id_object(id, output);
+    }
+}
+
+fn put_id_object<O: Output>(id: &str, output: &mut O)
+    ensures { O.Puts output.old output.new (json_line (id_value id.now)) }
+{
+    output.put(b"{\"debugId\":");
+    put_json_text(Some(id), output);
+    output.put(b"}");
+    output.put(b"\n");
 }
 
 // Whether a mapping stands past this line, where one is given.

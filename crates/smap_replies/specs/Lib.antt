@@ -9,3 +9,4 @@ pub mod Runs
 pub mod Standing
 pub mod Streams
 pub mod Why
+pub mod Telling

@@ -44,11 +44,17 @@ inline_text bytes explanation =
 
 -- ---- a map that is refused
 
--- the line of a refusal, and then why the map is refused
-pub record IsWhyLine (bytes path : List ℕ) (refused : MapRefusal) (line : List ℕ) : Type 0 where
+-- why the map is refused
+pub record IsWhyText (bytes : List ℕ) (refused : MapRefusal) (text : List ℕ) : Type 0 where
   pub explanation : Explanation
   pub known : IsExplained bytes refused explanation
-  pub text : line ≡ map_refused_line path (refusal_text refused) ++ (explanation_text explanation ++ inline_text bytes explanation)
+  pub lines : text ≡ explanation_text explanation ++ inline_text bytes explanation
+
+-- the line of a refusal, and then why the map is refused
+pub record IsWhyLine (bytes path : List ℕ) (refused : MapRefusal) (line : List ℕ) : Type 0 where
+  pub why : List ℕ
+  pub explained : IsWhyText bytes refused why
+  pub text : line ≡ map_refused_line path (refusal_text refused) ++ why
 
 -- a refusal is reported on standard error, and why, where that is asked
 abbrev pub IsRefused : (bytes path : List ℕ) → (explain : Bool) → MapRefusal → Report → Type 0
@@ -57,17 +63,24 @@ IsRefused bytes path true refused report = (line : List ℕ) × IsWhyLine bytes 
 
 -- ---- a file that can't be read
 
--- why not
-abbrev pub cause_text : UnreadCause → List ℕ
-cause_text causes.Missing = codes "  there is no such file\n"
-cause_text causes.Folder = codes "  the path is that of a folder\n"
-cause_text causes.NoPermission = codes "  the file may not be read: permission is denied\n"
-cause_text causes.Other = codes "  reading the file failed for another cause\n"
+-- there is no file; of a path that is a URL, that only files are read
+abbrev pub missing_text : (path : List ℕ) → List ℕ
+missing_text path =
+    if has_bytes path (codes "://") then codes "  the path is a URL, and only files are read: swapped? in URL=FILE the URL stands first\n"
+    else codes "  there is no such file\n"
+
+-- why the file at a path can't be read
+abbrev pub cause_text : (path : List ℕ) → UnreadCause → List ℕ
+cause_text path causes.Missing = missing_text path
+cause_text path causes.Folder =
+    codes "  the path is that of a folder: to rewrite and locate a folder of maps is PREFIX/=FOLDER/, to check FOLDER/*.map\n"
+cause_text path causes.NoPermission = codes "  the file may not be read: permission is denied\n"
+cause_text path causes.Other = codes "  reading the file failed for another cause\n"
 
 -- the file at a path can't be read, and that is reported, and why, where that is asked: the machine says the cause
 abbrev pub IsUnreadFor : (path : List ℕ) → (explain : Bool) → Report → Type 0
 IsUnreadFor path false report = report ≡ failure (file_failed_line path)
-IsUnreadFor path true report = (cause : UnreadCause) × (report ≡ failure (file_failed_line path ++ cause_text cause))
+IsUnreadFor path true report = (cause : UnreadCause) × (report ≡ failure (file_failed_line path ++ cause_text path cause))
 
 -- that is so of the file of this number and path
 abbrev pub IsUnreadWhy : MayRead → (explain : Bool) → (number : ℕ) (path : List ℕ) → Report → Type 0

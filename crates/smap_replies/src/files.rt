@@ -19,6 +19,14 @@ pub trait FileReader {
         ensures read { IfOk result (λ bytes. gives self.now number path.now (Ok bytes.items)) }
         ensures failure { IfErr result (λ failure. gives self.now number path.now (Err failure)) };
 
+    /// The same of a regular file. No device, no pipe and no folder is opened.
+    fn read_regular(&self, alloc: Global, number: usize, path: &str) -> Result<Vec<u8>, ReadFailure>
+        ensures read { IfOk result (λ bytes. gives self.now number path.now (Ok bytes.items)) }
+        ensures failure { IfErr result (λ failure. gives self.now number path.now (Err failure)) }
+    {
+        self.read_file(alloc, number, path)
+    }
+
     /// Why the file at this path, which could not be read, can't be.
     fn unread_cause(&self, path: &str) -> UnreadCause;
 }
@@ -49,17 +57,37 @@ impl FileReader for HostRuntime {
         }
     }
 
-    // The file is asked about anew.
-    fn unread_cause(&self, path: &str) -> UnreadCause {
+    // It is asked about before it is opened.
+    fn read_regular(
+        &self,
+        alloc: Global,
+        number: usize,
+        path: &str,
+    ) -> Result<Vec<u8>, ReadFailure> {
         if let Ok(found) = metadata(self, path)
-            && found.is_dir()
+            && found.is_file()
         {
-            return UnreadCause::Folder;
+            return self.read_file(alloc, number, path);
         }
-        match File::open(self, path) {
+        Err(ReadFailure::Device)
+    }
+
+    // The file is asked about anew, and opened only where it is a regular one.
+    fn unread_cause(&self, path: &str) -> UnreadCause {
+        match metadata(self, path) {
+            Ok(found) if found.is_dir() => UnreadCause::Folder,
+            Ok(found) if found.is_file() => opening_cause(self, path),
             Ok(_) => UnreadCause::Other,
             Err(error) => cause_of(error.kind()),
         }
+    }
+}
+
+// Why a regular file can't be read, which opening it may say.
+fn opening_cause(rt: &HostRuntime, path: &str) -> UnreadCause {
+    match File::open(rt, path) {
+        Ok(_) => UnreadCause::Other,
+        Err(error) => cause_of(error.kind()),
     }
 }
 
@@ -103,7 +131,12 @@ impl FileReader for LoadedFiles<'_> {
         Err(ReadFailure::Device)
     }
 
-    fn unread_cause(&self, _path: &str) -> UnreadCause {
-        UnreadCause::Missing
+    fn unread_cause(&self, path: &str) -> UnreadCause {
+        let LoadedFiles(files) = *self;
+        if files.iter().any(|file| file.path.as_str() == path) {
+            UnreadCause::Other
+        } else {
+            UnreadCause::Missing
+        }
     }
 }

@@ -18,6 +18,7 @@ mod outcome;
 mod refusal;
 mod reporting;
 mod standing;
+mod telling;
 mod text;
 mod why;
 
@@ -29,5 +30,6 @@ pub use outcome::{DONE, FAILED, Failure, REFUSED, Reply};
 pub use refusal::{refusal_of, refused_argument, refused_by};
 pub use reporting::{print_error, report};
 pub use standing::{Standing, map_of, read_standing};
+pub use telling::{NamedFile, tell_cause, tell_no_map};
 pub use text::{read_text, text_of};
 pub use why::{file_bytes_explained, read_map_explained, refused_map};

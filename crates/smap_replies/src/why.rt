@@ -8,7 +8,7 @@ ghost use Rattle.smap_replies.specs.Lines.{file_failed_line};
 ghost use Rattle.smap_replies.specs.Map.{IsStated, Never, ReportsRead};
 ghost use Rattle.smap_replies.specs.Outcome.{OrMemory, failure_report};
 ghost use Rattle.smap_replies.specs.Why.{IsRefused, IsUnreadFor, IsUnreadWhy, IsWhyLine, ReportsMapWhy, cause_text};
-ghost use Rattle.smap_replies.specs.Why.{inline_text, is_of_script, is_script};
+ghost use Rattle.smap_replies.specs.Why.{IsWhyText, inline_text, is_of_script, is_script, missing_text};
 
 use crate::files::{FileReader, UnreadCause};
 use crate::lines::file_failed_line;
@@ -28,6 +28,14 @@ const TAKE_OUT: &str =
     "  a sourceMappingURL in it is a data: URL, which holds the map; if that is base64, this takes it out:
   sed -n 's/^.*sourceMappingURL=data:[^,]*base64,//p' FILE | base64 -d > FILE.map
 ";
+
+// The path of a file is that of a folder.
+const FOLDER: &str =
+    "  the path is that of a folder: to rewrite and locate a folder of maps is PREFIX/=FOLDER/, to check FOLDER/*.map\n";
+
+// The path of a file that is not there is a URL.
+const URL: &str =
+    "  the path is a URL, and only files are read: swapped? in URL=FILE the URL stands first\n";
 
 /// The map that the file of this number and path is. Where it is none, and `explain` asks for that, why is reported too: for
 /// that the bytes of the file are kept until its map is read.
@@ -104,10 +112,18 @@ fn why_line(
     ensures not_memory { IfOk result (λ _. refused ≢ Memory) }
 {
     let line = refusal_line(alloc, path, refused)?;
+    let why = why_text(alloc, bytes, refused)?;
+    format!(in alloc; "{line}{why}")
+}
+
+/// The lines that say why the map of the file of these bytes is refused.
+pub fn why_text(alloc: Global, bytes: &[u8], refused: MapRefusal) -> Result<String, AllocError>
+    ensures { IfOk result (λ text. IsWhyText bytes.now refused (string_bytes text)) }
+{
     let explanation = explain(alloc, bytes, refused)?;
     let why = explanation_text(alloc, &explanation)?;
     let inline = inline_text(bytes, &explanation);
-    format!(in alloc; "{line}{why}{inline}")
+    format!(in alloc; "{why}{inline}")
 }
 
 // How to take the map out of the bytes of a script that holds one; of anything else nothing.
@@ -136,6 +152,17 @@ fn is_script(begins_as: Beginning) -> bool
     match begins_as {
         Beginning::Script => true,
         _ => false,
+    }
+}
+
+// That there is no file at a path; of a URL, that only files are read.
+fn missing_text(path: &str) -> &'static str
+    ensures { result.now ≡ missing_text path.now }
+{
+    if has_bytes(path.as_bytes(), b"://") {
+        URL
+    } else {
+        "  there is no such file\n"
     }
 }
 
@@ -184,19 +211,19 @@ fn unread_file<F: FileReader>(
 
 fn cause_line(alloc: Global, path: &str, cause: UnreadCause) -> Result<String, AllocError>
     ensures { IfOk result (λ line. string_bytes line
-        ≡ file_failed_line path.now ++ cause_text cause) }
+        ≡ file_failed_line path.now ++ cause_text path.now cause) }
 {
-    let (line, cause) = (file_failed_line(alloc, path)?, cause_text(cause));
+    let (line, cause) = (file_failed_line(alloc, path)?, cause_text(path, cause));
     format!(in alloc; "{line}{cause}")
 }
 
-// Why a file can't be read, in a sentence.
-fn cause_text(cause: UnreadCause) -> &'static str
-    ensures { result.now ≡ cause_text cause }
+/// Why the file at a path can't be read, in a sentence.
+pub fn cause_text(path: &str, cause: UnreadCause) -> &'static str
+    ensures { result.now ≡ cause_text path.now cause }
 {
     match cause {
-        UnreadCause::Missing => "  there is no such file\n",
-        UnreadCause::Folder => "  the path is that of a folder\n",
+        UnreadCause::Missing => missing_text(path),
+        UnreadCause::Folder => FOLDER,
         UnreadCause::NoPermission => "  the file may not be read: permission is denied\n",
         UnreadCause::Other => "  reading the file failed for another cause\n",
     }

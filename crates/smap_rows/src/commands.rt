@@ -1,7 +1,7 @@
 //! Commands as texts.
 use smap_command::{
     CheckOptions, Command, ComposeAll, Direction, Fit, Form, FurtherOptions, Generated, Locate,
-    MapChoice, Mappings, Positions, Sources, USUAL_CACHE_BYTES, USUAL_LIMIT_BYTES, Url,
+    MapChoice, Mappings, Positions, Required, Sources, USUAL_CACHE_BYTES, USUAL_LIMIT_BYTES, Url,
     WriteOptions,
 };
 use std::alloc::{AllocError, Global};
@@ -170,7 +170,20 @@ fn reading_flags_text(alloc: Global, options: &FurtherOptions) -> Result<String,
     let summary = flag_text(options.summary, " in sum");
     let explain = explain_text(options.explain);
     let paths = flag_text(options.paths, " by paths");
-    format!(in alloc; "{anywhere}{summary}{explain}{paths}")
+    let read = reading_more_text(alloc, options)?;
+    format!(in alloc; "{anywhere}{summary}{explain}{paths}{read}")
+}
+
+// The options of what is read beside the maps, and of the status.
+fn reading_more_text(alloc: Global, options: &FurtherOptions) -> Result<String, AllocError> {
+    let names = flag_text(options.names, " by names");
+    let missing = flag_text(options.missing_ok, " if there");
+    let required = match options.required {
+        Some(Required::One) => String::from_str(alloc, " one")?,
+        Some(Required::Percent(percent)) => number_text(alloc, " percent ", Some(percent))?,
+        None => String::new(alloc),
+    };
+    format!(in alloc; "{names}{missing}{required}")
 }
 
 fn locating_text(alloc: Global, asked: &Locate) -> Result<String, AllocError> {
@@ -187,8 +200,9 @@ fn locating_text(alloc: Global, asked: &Locate) -> Result<String, AllocError> {
 fn composing_text(alloc: Global, asked: &ComposeAll) -> Result<String, AllocError> {
     let outer = &asked.outer;
     let (base, options) = (base_text(&asked.base), options_text(asked.options));
+    let id = id_text(asked.options);
     let inners = pairs_text(alloc, asked.list.as_deref(), &asked.inners)?;
-    format!(in alloc; "compose all {outer}{base}{options}{inners}")
+    format!(in alloc; "compose all {outer}{base}{options}{id}{inners}")
 }
 
 fn writing_text(alloc: Global, command: &Command) -> Result<String, AllocError> {
@@ -199,7 +213,8 @@ fn writing_text(alloc: Global, command: &Command) -> Result<String, AllocError> 
             options,
         } => {
             let (base, left) = (base_text(base), left_out_text(*options));
-            format!(in alloc; "show {path}{base}{left}")
+            let id = id_text(*options);
+            format!(in alloc; "show {path}{base}{left}{id}")
         }
         Command::Compose {
             outer,
@@ -209,7 +224,8 @@ fn writing_text(alloc: Global, command: &Command) -> Result<String, AllocError> 
             options,
         } => {
             let (base, left) = (base_text(base), left_out_text(*options));
-            format!(in alloc; "compose {outer} {source} {inner}{base}{left}")
+            let id = id_text(*options);
+            format!(in alloc; "compose {outer} {source} {inner}{base}{left}{id}")
         }
         _ => String::from_str(alloc, "another command"),
     }
@@ -308,6 +324,10 @@ fn options_text(options: WriteOptions) -> &'static str {
         (false, true) => " without content",
         (true, true) => " pruned without content",
     }
+}
+
+fn id_text(options: WriteOptions) -> &'static str {
+    flag_text(options.keep_debug_id, " with its id")
 }
 
 fn base_text(base: &Option<Url>) -> &str {

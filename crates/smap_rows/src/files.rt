@@ -38,7 +38,24 @@ impl FileReader for RowFiles<'_> {
         self.rt.read_file(alloc, number, path)
     }
 
+    fn read_regular(
+        &self,
+        alloc: Global,
+        number: usize,
+        path: &str,
+    ) -> Result<Vec<u8>, ReadFailure> {
+        for (held, bytes) in &self.held {
+            if held.as_str() == path {
+                return bytes.to_vec(alloc).or(Err(ReadFailure::Memory));
+            }
+        }
+        self.rt.read_regular(alloc, number, path)
+    }
+
     fn unread_cause(&self, path: &str) -> UnreadCause {
+        if self.held.iter().any(|file| file.0.as_str() == path) {
+            return UnreadCause::Other;
+        }
         self.rt.unread_cause(path)
     }
 }

@@ -74,7 +74,7 @@ const HELD: &[(&str, &str)] = &[
 ];
 
 const CHECKED: &str =
-    "3|a.map: ok sections 1 sources 1 names 0 segments 3 lines 2 checkpoints 2\n|refused: b.map: M3 NotObject\n  the JSON value is a list, of which the length is 0, and must be an object\ndevice: read folder\n  the path is that of a folder\ndevice: read shut\n  the file may not be read: permission is denied\ndevice: read none\n  there is no such file\ndevice: read broken\n  reading the file failed for another cause\n";
+    "3|a.map: ok sections 1 sources 1 names 0 segments 3 lines 2 checkpoints 2\n|refused: b.map: M3 NotObject\n  the JSON value is a list, of which the length is 0, and must be an object\ndevice: read folder\n  the path is that of a folder: to rewrite and locate a folder of maps is PREFIX/=FOLDER/, to check FOLDER/*.map\ndevice: read shut\n  the file may not be read: permission is denied\ndevice: read none\n  there is no such file\ndevice: read broken\n  reading the file failed for another cause\n";
 
 #[test]
 fn causes_are_reported_of_each_file(rt: HostRuntime) -> Result<(), Fail> {

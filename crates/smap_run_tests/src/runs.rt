@@ -24,12 +24,22 @@ impl FileReader for HeldFiles<'_> {
         Err(ReadFailure::Device)
     }
 
+    fn read_regular(
+        &self,
+        alloc: Global,
+        number: usize,
+        path: &str,
+    ) -> Result<Vec<u8>, ReadFailure> {
+        self.read_file(alloc, number, path)
+    }
+
     // The path says why, where it is one of these words.
     fn unread_cause(&self, path: &str) -> UnreadCause {
         match path {
             "folder" => UnreadCause::Folder,
             "shut" => UnreadCause::NoPermission,
             "broken" => UnreadCause::Other,
+            _ if self.0.iter().any(|file| file.0 == path) => UnreadCause::Other,
             _ => UnreadCause::Missing,
         }
     }

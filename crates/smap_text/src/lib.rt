@@ -18,14 +18,10 @@ mod code_units;
 mod excerpts;
 mod lines;
 mod place;
-mod rest;
-mod shown_line;
 mod texts;
 
 pub use code_units::units;
 pub use excerpts::excerpt;
-pub use lines::{line_at, split_line};
+pub use lines::{line_at, rest_from, split_line};
 pub use place::{Place, unit_place};
-pub use rest::rest_from;
-pub use shown_line::shown_bytes;
-pub use texts::{shown, shown_byte};
+pub use texts::{shown, shown_byte, shown_bytes};

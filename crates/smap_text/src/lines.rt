@@ -1,11 +1,11 @@
 //! The lines of a text (ECMAScript, line terminator sequences).
-ghost use Rattle.std.specs.Prelude.{◌≡◌, ◌≤◌, ◌-◌, ◌∷◌, length, drop, take, option_copied, option_map, slice_get, IfSome};
+ghost use Rattle.std.specs.Prelude.{◌≡◌, ◌≤◌, ◌-◌, ◌∷◌, length, drop, take, option_copied, option_map, slice_get};
+ghost use Rattle.std.specs.Prelude.{IfSome, MatchOption};
 ghost use Rattle.std.specs.Str.{chars};
 ghost use Rattle.smap_text.specs.Private.Ends.{end_bytes, line_bytes};
 ghost use Rattle.smap_text.specs.Begins.{BeginsAt};
 ghost use Rattle.smap_text.specs.Lines.{IsSliceAt, lines_behind, lines_of};
-
-use crate::rest::rest_from;
+ghost use Rattle.smap_text.specs.Rest.{IsEndFrom};
 
 /// The line of this number, from 0, without its line end; `None` where there are fewer. Lines end in LF, CR LF, CR,
 /// U+2028 or U+2029, and an empty content has one empty line.
@@ -16,6 +16,18 @@ pub fn line_at(content: &str, line: u32) -> Option<&str>
 {
     let rest = rest_from(content, line)?;
     Some(split_line(rest).0)
+}
+
+/// What a text has from its line of this number on, from 0, where it has that line.
+pub fn rest_from(text: &str, line: u32) -> Option<&str>
+    ensures { MatchOption result (length (lines_of (chars text.now)) ≤ line)
+        (λ rest. IsEndFrom text.now line rest.now) }
+{
+    let mut rest = text;
+    for _passed in 0..line {
+        rest = split_line(rest).1?;
+    }
+    Some(rest)
 }
 
 /// The first line of a text, without its end, and what follows that end; `None` where the line has none.

@@ -1,8 +1,12 @@
-//! How a text that is not the program's own prints.
+//! How a text that is not the program's own prints, and how much is shown of a line.
 ghost use Rattle.std.specs.Prelude.{◌≡◌, string_bytes, IfOk};
 ghost use Rattle.smap_text.specs.Shown.{shown, shown_byte};
+ghost use Rattle.smap_text.specs.ShownLine.{IsFrontOf, shown_bytes};
 
 use std::alloc::{AllocError, Global};
+
+// How many bytes of a line are shown at most.
+const MOST_LINE_BYTES: usize = 65536;
 
 /// A text of the user's, for one line: a `?` stands for each ASCII control character.
 pub fn shown(alloc: Global, text: &str) -> Result<String, AllocError>
@@ -23,4 +27,12 @@ pub fn shown_char(char: char) -> char
     ensures { result ≡ shown_byte char }
 {
     if char.is_ascii_control() { '?' } else { char }
+}
+
+/// How many bytes of a line are shown: all or, of more than 65,536, those of the whole characters within as many.
+pub fn shown_bytes(line: &str) -> usize
+    ensures bytes { result ≡ shown_bytes line.now }
+    ensures front { IsFrontOf line.now result }
+{
+    line.floor_char_boundary(MOST_LINE_BYTES)
 }

@@ -5,6 +5,9 @@ mod BytesLaws
 mod CauseLaws
 mod Examples
 mod LocatingLaws
+mod NamedLaws
+mod NamerLaws
+mod NamingLaws
 mod NearestLaws
 mod PlaceLaws
 mod RightLaws

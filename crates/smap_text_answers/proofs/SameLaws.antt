@@ -34,6 +34,7 @@ use Rattle.smap_replies.specs.Files.{MayRead}
 use Rattle.smap_replies.specs.Standing.{IsRefusedFor}
 use Rattle.smap_text_answers.specs.Loader.{FailsBy, FailsWith, LoaderSeen, Loads, is_lost, is_of_url}
 use Rattle.smap_replies.specs.Outcome.{Report}
+use Rattle.smap_text_answers.specs.Names.{ToldSeen, nothing_told}
 use Rattle.smap_text_answers.specs.Request.{RequestSeen}
 use Rattle.smap_text_answers.specs.RewriteFrom.{AnswersByPath, IsTextOverStore, RewritesPlaces, RewritesText, RewritesTextBy, asked_of, places_asked, urls_of}
 use Rattle.smap_text_answers.specs.StoreRun.{store_start}
@@ -219,32 +220,35 @@ module _ (Reads : MayRead) (paths : Bool) (base : Option Parts) (k number : ℕ)
       (subst Settled loads.1 settled, sym (ap (stated_by paths base k url) (same path bytes read) ∙ ap stated_in is))
 
   pub same_settled : (request : RequestSeen) (sources : MapSources) (before after : DevicesSeen) (old new : StoredSeen LoaderSeen) (counts : RewriteCounts)
-      (notes others : NotesSeen) (anywhere : Bool)
-      → MatchBool anywhere (RewritesPlaces request sources (FindsIn (Loads Reads paths base k number)) before after old new counts notes others)
-      (RewritesOver (FindsIn (Loads Reads paths base k number)) found_in (asked_of request sources) before after old new counts notes
-      × (others ≡ nothing_noted))
+      (notes others : NotesSeen) (told : ToldSeen) (anywhere names : Bool) (Named : Type 0)
+      → MatchBool anywhere
+      (RewritesPlaces request sources (FindsIn (Loads Reads paths base k number)) before after old new counts notes others × (told ≡ nothing_told))
+      (MatchBool names Named (RewritesOver (FindsIn (Loads Reads paths base k number)) found_in (asked_of request sources) before after old new counts notes
+      × (told ≡ nothing_told)) × (others ≡ nothing_noted))
+      → names ≡ false
       → IsEmpty old.cache → Settled new.loader → new.cache.shortages ≡ 0
       → RewritesTextBy anywhere (stored_maps load old.exact old.locations) (parts_in (urls_of sources)) request.hide request.limit_bytes before after counts
-  same_settled request sources before after old new counts notes others true all empty settled enough =
+  same_settled request sources before after old new counts notes others told true names Named all unnamed empty settled enough =
       places_same (Loads Reads paths base k number) Settled load loads_settled (places_asked request sources) before after old new counts.summary notes others
-      all.over empty (settled, enough)
-  same_settled request sources before after old new counts notes others false all empty settled enough =
-      rewrites_same (Loads Reads paths base k number) Settled load loads_settled (asked_of request sources) before after old new counts notes all.0 empty
+      all.0.over empty (settled, enough)
+  same_settled request sources before after old new counts notes others told false true Named all unnamed empty settled enough = absurd (cc)
+  same_settled request sources before after old new counts notes others told false false Named all unnamed empty settled enough =
+      rewrites_same (Loads Reads paths base k number) Settled load loads_settled (asked_of request sources) before after old new counts notes all.0.0 empty
       (settled, enough)
 
 -- and so it is of a run
 pub same_run : (Reads : MayRead) (base : Option Parts) (k : ℕ) (request : RequestSeen) (sources : MapSources) (end : StoreEnd RewriteCounts)
-    (notes others : NotesSeen) (before after : Streams) → IsTextOverStore Reads base k request sources end notes others before after
+    (notes others : NotesSeen) (told : ToldSeen) (before after : Streams) → IsTextOverStore Reads base k request sources end notes others told before after
     → AnswersByPath Reads base k request sources end before after
-same_run Reads base k request sources end notes others before after over bytes_at same counts result settled enough =
+same_run Reads base k request sources end notes others told before after over bytes_at same unnamed counts result settled enough =
     let number : ℕ = length request.arguments + 1 in
     let first : StoredSeen LoaderSeen = store_start sources request.cache_bytes before.sinks.errors before.sinks.code in
     let P : Result RewriteCounts LineFault → Type 0 = λ result. IfOk result (λ counts.
-    RewritesText request sources (FindsIn (Loads Reads request.paths base k number)) (devices_seen before.input before.sinks.output)
-    (devices_seen after.input after.sinks.output) first over.last counts notes others) in
+    RewritesText Reads request sources (FindsIn (Loads Reads request.paths base k number)) (devices_seen before.input before.sinks.output)
+    (devices_seen after.input after.sinks.output) first over.last counts notes others told) in
     let are : AreSettled Reads number bytes_at over.last.loader.status over.last.loader.lost =
     subst (λ status. AreSettled Reads number bytes_at status over.last.loader.lost) over.status
     (subst (λ lost. AreSettled Reads number bytes_at end.status lost) over.lost settled) in
     same_settled Reads request.paths base k number bytes_at same request sources
-    (devices_seen before.input before.sinks.output) (devices_seen after.input after.sinks.output) first over.last counts notes others request.anywhere
-    (subst P result over.whole) (refl, refl) are (sym over.shortages ∙ enough)
+    (devices_seen before.input before.sinks.output) (devices_seen after.input after.sinks.output) first over.last counts notes others told request.anywhere
+    request.names _ (subst P result over.whole) unnamed (refl, refl) are (sym over.shortages ∙ enough)

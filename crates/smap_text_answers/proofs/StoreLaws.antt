@@ -1,5 +1,5 @@
 -- What reading maps from files when they are named comes to, of which a run shows what it reported.
-use Rattle.std.specs.Prelude.{◌≡◌, ◌⊎◌, ℕ, List, Option, Some, None, Result, IfErr, Err, MatchOption, option_copied}
+use Rattle.std.specs.Prelude.{◌≡◌, ◌⊎◌, ℕ, List, Option, Some, None, Result, IfErr, Err, MatchOption, ⊤, option_copied}
 use Rattle.std.specs.Result.{result_ok}
 use Rattle.std.proofs.Common.{ap, ◌∙◌, inl, inr, refl, subst, sym}
 use Rattle.smap_io.specs.Device.{SinkSeen}
@@ -17,10 +17,11 @@ use Rattle.smap_store.specs.Cache.{CacheSeen, IsKept, kept_under}
 use Rattle.smap_store.specs.Fileless.{known_of}
 use Rattle.smap_store.specs.Laws.Stored.{Moves, found_moves}
 use Rattle.smap_store.specs.Loaded.{Came, Outcome}
+use Rattle.smap_store.specs.Named.{FindsNamed, names_in}
+use Rattle.smap_store.specs.Names.{names_at_first}
 use Rattle.smap_store.specs.Stored.{Asks, Comes, FindsIn, GivesIn, LoadsMay, LoadsStep, MayCome, Recalled, Recalls, StoredSeen, Untouched, found_in}
 use Rattle.smap_store.specs.StoredMaps.{IsSameStore, same_store_on, same_store_self, stored_seen}
 use Rattle.smap_store.specs.declared.stored.StoredMaps.{StoredMaps}
-use Rattle.smap_trace.specs.Noted.{nothing_noted}
 use Rattle.smap_trace.specs.Rewriting.{Looked, RewritesOver}
 use Rattle.smap_trace.specs.UrlNotes.{NotesSeen}
 use Rattle.smap_trace.specs.Laws.Seen.{front_seen, looked_seen, rewrites_seen}
@@ -30,11 +31,14 @@ use Rattle.smap_text_answers.specs.Loader.{IsSameLoader, LoaderSeen, Loads, MayL
 use Rattle.smap_text_answers.specs.Locating.{BecomesAnswer, LocateStep, Locates, MayLocate}
 use Rattle.smap_text_answers.specs.UrlPlace.{UrlPlace, place_of}
 use Rattle.smap_text_answers.specs.Request.{RequestSeen}
-use Rattle.smap_text_answers.specs.RewriteFrom.{RewritesPlaces, RewritesText, RewritesTextFront, asked_of, places_asked}
+use Rattle.smap_text_answers.specs.Names.{MayNameBy, NamesBy, ToldSeen, nothing_told}
+use Rattle.smap_text_answers.specs.Naming.{RewritesNames, found_beside, named_start}
+use Rattle.smap_text_answers.specs.RewriteFrom.{RewritesPlaces, RewritesText, RewritesTextFront, asked_of, places_asked, programs_of}
 use Rattle.smap_text_answers.specs.StoreRun.{LoadsOf, MayLoadOf}
 use Rattle.smap_text_answers.specs.declared.loader.FileLoader.{FileLoader}
 use Rattle.smap_text_answers.specs.declared.sources.MapSources.{MapSources}
 use Rattle.smap_text_answers.proofs.BesideLaws.{when_both}
+use Rattle.smap_text_answers.proofs.NamedLaws.{gives_so, named_finds, names_front_so, names_seen_so}
 
 -- ---- where only some is seen of what loads maps, what is seen goes the same way
 
@@ -182,7 +186,7 @@ module _ {F E : Type 0} (gives : F → MayRead) (seen : E → SinkSeen) where
       gives_first : (url : List ℕ) (found : Option MapRecord) → GivesIn May old url found → GivesIn (MayLoadOf gives first) (see old) url found
       gives_first = gives_seen (loader_seen seen) May (MayLoadOf gives first) old may_first
 
-      module _ (request : RequestSeen) (sources : MapSources) (before after : DevicesSeen) where
+      module _ (Reads : MayRead) (request : RequestSeen) (sources : MapSources) (before after : DevicesSeen) where
         abbrev Is : StoredSeen (FileLoader F E) → Type 0
         Is maps = IsSameLoader first maps.loader
 
@@ -195,25 +199,51 @@ module _ {F E : Type 0} (gives : F → MayRead) (seen : E → SinkSeen) where
           passed = is.passed;
         }
 
-        frames_from : (counts : RewriteCounts) (notes others : NotesSeen)
-            → RewritesOver (FindsIn Steps) found_in (asked_of request sources) before after old new counts notes × (others ≡ nothing_noted)
-            → RewritesOver (FindsIn (LoadsOf gives first)) found_in (asked_of request sources) before after (see old) (see new) counts notes × (others ≡ nothing_noted)
-        frames_from counts notes others is = (
+        over_from : (counts : RewriteCounts) (notes : NotesSeen) (told : ToldSeen)
+            → RewritesOver (FindsIn Steps) found_in (asked_of request sources) before after old new counts notes × (told ≡ nothing_told)
+            → RewritesOver (FindsIn (LoadsOf gives first)) found_in (asked_of request sources) before after (see old) (see new) counts notes × (told ≡ nothing_told)
+        over_from counts notes told is = (
           rewrites_seen (FindsIn Steps) found_in (FindsIn (LoadsOf gives first)) found_in see Is finds_so (λ maps url. refl) (asked_of request sources)
               before after old new counts notes at_first is.0,
           is.1,
         )
 
-        pub text_from : (counts : RewriteCounts) (notes others : NotesSeen) → RewritesText request sources (FindsIn Steps) before after old new counts notes others
-            → RewritesText request sources (FindsIn (LoadsOf gives first)) before after (see old) (see new) counts notes others
-        text_from counts notes others = when_both request.anywhere _ _ _ _ (places_from counts notes others) (frames_from counts notes others)
+        names_from : (counts : RewriteCounts) (notes : NotesSeen) (told : ToldSeen)
+            → RewritesNames Reads (programs_of request sources) request.names_bytes (asked_of request sources) (FindsIn Steps) before after old new counts notes told
+            → RewritesNames Reads (programs_of request sources) request.names_bytes (asked_of request sources) (FindsIn (LoadsOf gives first)) before after
+            (see old) (see new) counts notes told
+        names_from counts notes told is = record {
+          last = record { stored = see is.last.stored; names = is.last.names; namer = is.last.namer };
+          named = names_seen_so (FindsNamed (FindsIn Steps) (NamesBy Reads (programs_of request sources))) found_beside names_in
+              (FindsNamed (FindsIn (LoadsOf gives first)) (NamesBy Reads (programs_of request sources))) found_beside names_in
+              (λ maps. record { stored = see maps.stored; names = maps.names; namer = maps.namer }) (λ maps. Is maps.stored × ⊤)
+              (named_finds see (λ told. told) (λ stored url. refl) (λ stored url. refl) (FindsIn Steps) (FindsIn (LoadsOf gives first)) Is finds_so
+              (NamesBy Reads (programs_of request sources)) (NamesBy Reads (programs_of request sources)) (λ told. ⊤)
+              (λ old new url stated came is names. (names, tt)))
+              (λ maps url. refl) (λ maps url. refl) (asked_of request sources) before after (named_start request.names_bytes old) is.last counts notes
+              (at_first, tt) is.named;
+          stored = ap see is.stored;
+          told_is = is.told_is;
+        }
 
-        pub front_from : (fault : LineFault) → RewritesTextFront request sources (GivesIn May old) before after fault
-            → RewritesTextFront request sources (GivesIn (MayLoadOf gives first) (see old)) before after fault
+        pub text_from : (counts : RewriteCounts) (notes others : NotesSeen) (told : ToldSeen)
+            → RewritesText Reads request sources (FindsIn Steps) before after old new counts notes others told
+            → RewritesText Reads request sources (FindsIn (LoadsOf gives first)) before after (see old) (see new) counts notes others told
+        text_from counts notes others told =
+            when_both request.anywhere _ _ _ _ (λ is. (places_from counts notes others is.0, is.1))
+            (λ is. (when_both request.names _ _ _ _ (names_from counts notes told) (over_from counts notes told) is.0, is.1))
+
+        pub front_from : (fault : LineFault) → RewritesTextFront Reads request sources (GivesIn May old) before after fault
+            → RewritesTextFront Reads request sources (GivesIn (MayLoadOf gives first) (see old)) before after fault
         front_from fault =
             when_both request.anywhere _ _ _ _
             (anywhere_front_seen (GivesIn May old) (GivesIn (MayLoadOf gives first) (see old)) gives_first (places_asked request sources) before after fault)
-            (front_seen (GivesIn May old) (GivesIn (MayLoadOf gives first) (see old)) gives_first request.hide request.limit_bytes before after fault)
+            (when_both request.names _ _ _ _
+            (names_front_so (GivesIn May old) (GivesIn (MayLoadOf gives first) (see old)) _ _
+            (gives_so (GivesIn May old) (GivesIn (MayLoadOf gives first) (see old)) gives_first (MayNameBy Reads (programs_of request sources))
+            (MayNameBy Reads (programs_of request sources)) (names_at_first request.names_bytes) nothing_told nothing_told (λ url stated kept may. may))
+            request.hide request.limit_bytes before after fault)
+            (front_seen (GivesIn May old) (GivesIn (MayLoadOf gives first) (see old)) gives_first request.hide request.limit_bytes before after fault))
 
       -- answering over it
       module _ (options : AnswerOptions) (before after : DevicesSeen) where

@@ -1,2 +1,3 @@
 pub mod Loader
+pub mod Namer
 pub mod Locator

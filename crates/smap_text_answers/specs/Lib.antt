@@ -3,7 +3,11 @@ pub mod NearestUrl
 pub mod UrlLines
 pub mod Dotted
 pub mod Loader
+pub mod Generated
+pub mod Names
+pub mod Naming
 pub mod Request
+pub mod Required
 pub mod Rewrite
 pub mod RewriteFrom
 pub mod SameBytes

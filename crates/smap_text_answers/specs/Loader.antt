@@ -23,11 +23,12 @@ use Rattle.smap_text_answers.specs.declared.loader.FileLoader.{FileLoader}
 
 -- ---- what reads maps
 
--- what it shows: standard error, the greatest status of what was reported, the code of the first refusal, how many maps could not
--- be had, how many of these were refused, and whether one was lost
+-- what it shows: standard error, the greatest status of what was reported, and that of all but files that are not there, the code
+-- of the first refusal, how many maps could not be had, how many of these were refused, and whether one was lost
 pub record LoaderSeen : Type 0 where
   pub errors : SinkSeen
   pub status : ℕ
+  pub present_status : ℕ
   pub code : Option Code
   pub reported : ℕ
   pub refused : ℕ
@@ -37,6 +38,7 @@ abbrev pub loader_seen : {F E : Type 0} → (seen : E → SinkSeen) → FileLoad
 loader_seen seen loader = record {
   errors = seen loader.errors.now;
   status = loader.status;
+  present_status = loader.present_status;
   code = loader.code;
   reported = loader.reported;
   refused = loader.refused;
@@ -45,7 +47,7 @@ loader_seen seen loader = record {
 
 -- before it read anything
 abbrev pub loader_at_first : (errors : SinkSeen) → (code : Option Code) → LoaderSeen
-loader_at_first errors code = record { errors = errors; status = 0; code = code; reported = 0; refused = 0; lost = false }
+loader_at_first errors code = record { errors = errors; status = 0; present_status = 0; code = code; reported = 0; refused = 0; lost = false }
 
 -- it reads the same files in the same way, and into the same standard error
 pub record IsSameLoader {F E : Type 0} (old new : FileLoader F E) : Type 0 where
@@ -104,6 +106,7 @@ is_lost Memory = true
 pub record Notes (old : LoaderSeen) (why : NoMap) (report : Report) (new : LoaderSeen) : Type 0 where
   pub status : new.status ≡ max old.status report.status
   pub code : new.code ≡ cond (nat_lt old.reported 100) (option_or old.code report.code) old.code
+  pub present_status : (new.present_status ≡ max old.present_status report.status) ⊎ ((why ≡ Unread) × (new.present_status ≡ old.present_status))
   pub reported : new.reported ≡ one_more old.reported
   pub refused : new.refused ≡ cond (report.status == 1) (one_more old.refused) old.refused
   pub lost : new.lost ≡ (old.lost || is_lost why)

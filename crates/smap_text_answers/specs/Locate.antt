@@ -46,7 +46,7 @@ LocatesOver Reads asked (Ok sources) status before after =
     (end : StoreEnd LineCounts) × (warned : SinkSeen) × (between : Streams)
     × TellsDotted (map argument_of asked.maps.items) before.sinks.errors warned
     × IsLocatedOverStore Reads asked sources end (with_errors warned before) between
-    × AnswersByPath Reads asked sources end (with_errors warned before) between × (after.input ≡ between.input) × EndsStore end status between.sinks after.sinks
+    × AnswersByPath Reads asked sources end (with_errors warned before) between × (after.input ≡ between.input) × EndsStore end false status between.sinks after.sinks
 
 abbrev pub RunsLocate : MayRead → Locate → (status : ℕ) → (before after : Streams) → Type 0
 RunsLocate Reads asked status before after = (gathered : Result MapSources Report)

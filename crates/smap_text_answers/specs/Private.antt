@@ -1,5 +1,7 @@
 -- What contracts of private functions alone cite.
 pub mod Causes
 pub mod Gathering
+pub mod Listing
+pub mod Naming
 pub mod Sources
 pub mod Locator

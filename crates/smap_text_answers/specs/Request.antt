@@ -1,9 +1,10 @@
 -- What is asked of `rewrite`, the base and the interval aside.
-use Rattle.std.specs.Prelude.{◌-◌, ◌^◌, ◌||◌, ℕ, Bool, List, Option, String, if◌then◌else◌, map, option_map, string_bytes, unwrap_or}
+use Rattle.std.specs.Prelude.{◌-◌, ◌/◌, ◌^◌, ◌||◌, ℕ, Bool, List, Option, String, if◌then◌else◌, map, option_map, string_bytes, unwrap_or}
 use Rattle.std.specs.List.{list_any}
 use Rattle.smap_command.specs.Limits.{usual_cache_bytes, usual_limit_bytes}
 use Rattle.smap_command.specs.Options.{are_further}
 use Rattle.smap_command.specs.declared.options.FurtherOptions.{FurtherOptions}
+use Rattle.smap_command.specs.declared.options.Required.{Required}
 use Rattle.smap_locations.specs.ListLine.{is_rule}
 use Rattle.smap_replies.specs.Arguments.{argument_of}
 use Rattle.smap_trace.specs.Hiding.{HidingSeen}
@@ -15,11 +16,19 @@ pub record RequestSeen : Type 0 where
   pub paths : Bool
   pub hide : HidingSeen
   pub anywhere : Bool
+  pub names : Bool
   pub cache_bytes : ℕ
+  pub names_bytes : ℕ
   pub limit_bytes : ℕ
   pub summary : Bool
   pub explain : Bool
+  pub required : Option Required
+  pub missing_ok : Bool
   pub hint : Bool
+
+-- how many of these bytes are for declarations, where they are listed: a quarter
+abbrev pub bytes_for_names : (names : Bool) → (bytes : ℕ) → ℕ
+bytes_for_names names bytes = if names then bytes / 4 else 0
 
 module _ {A : Type 0} (maps : List (String A × String A)) where
   -- one of the pairs is a rule: it has a folder or a pattern
@@ -38,10 +47,14 @@ module _ {A : Type 0} (maps : List (String A × String A)) where
     paths = options.paths;
     hide = record { ignored = hide; texts = map string_bytes options.hide.items };
     anywhere = options.anywhere;
-    cache_bytes = unwrap_or options.cache_bytes usual_cache_bytes;
+    names = options.names;
+    cache_bytes = unwrap_or options.cache_bytes usual_cache_bytes - bytes_for_names options.names (unwrap_or options.cache_bytes usual_cache_bytes);
+    names_bytes = bytes_for_names options.names (unwrap_or options.cache_bytes usual_cache_bytes);
     limit_bytes = unwrap_or options.limit_bytes usual_limit_bytes;
     summary = options.summary;
     explain = options.explain;
+    required = options.required;
+    missing_ok = options.missing_ok;
     hint = hint;
   }
 

@@ -25,6 +25,10 @@ use Rattle.smap_trace.specs.Noted.{nothing_noted}
 use Rattle.smap_trace.specs.Passed.{PlaceCount}
 use Rattle.smap_trace.specs.UrlNotes.{NotesSeen}
 use Rattle.smap_text_answers.specs.Dotted.{TellsDotted, with_errors}
+use Rattle.smap_text_answers.specs.Lines.{counted_text}
+use Rattle.smap_text_answers.specs.Names.{Programs, TellsNames, ToldSeen, nothing_told}
+use Rattle.smap_text_answers.specs.Naming.{RewritesNames, RewritesNamesFront}
+use Rattle.smap_text_answers.specs.Required.{Requires}
 use Rattle.smap_text_answers.specs.UrlLines.{TellsUrls}
 use Rattle.smap_trace.specs.Rewriting.{Looked, RewriteAsked, RewritesFrontOver, RewritesOver}
 use Rattle.smap_trace.specs.declared.outcome.RewriteCounts.{RewriteCounts}
@@ -34,7 +38,7 @@ use Rattle.smap_replies.specs.Lines.{memory_line}
 use Rattle.smap_replies.specs.Outcome.{Report}
 use Rattle.smap_text_answers.specs.SameBytes.{AreSettled, BytesByPath, ReadsSame, maps_at, stored_maps}
 use Rattle.smap_text_answers.specs.Sources.{GathersSources}
-use Rattle.smap_replies.specs.Streams.{Ends, IsReportedTo, Sinks, Streams}
+use Rattle.smap_replies.specs.Streams.{Ends, IsReportedTo, Sinks, Streams, sinks_seen}
 use Rattle.smap_text_answers.specs.Request.{RequestSeen, most_passed}
 use Rattle.smap_text_answers.specs.StoreRun.{EndsStore, IsOverStore}
 use Rattle.smap_text_answers.specs.declared.storing.StoreEnd.{StoreEnd}
@@ -76,34 +80,56 @@ asked_by request count = record {
 abbrev pub asked_of : RequestSeen → MapSources → RewriteAsked
 asked_of request sources = asked_by request (others_in (urls_of sources))
 
--- a text is rewritten over stored maps: its places, or the frames of a trace, and these are the notes of what they name
-abbrev pub RewritesText : {L : Type 0} → RequestSeen → MapSources → (Finds : StoredSeen L → (url : List ℕ) → StoredSeen L → Type 0)
-    → (before after : DevicesSeen) → (old new : StoredSeen L) → RewriteCounts → (notes others : NotesSeen) → Type 0
-RewritesText request sources Finds before after old new counts notes others =
-    MatchBool request.anywhere (RewritesPlaces request sources Finds before after old new counts notes others)
-    (RewritesOver Finds found_in (asked_of request sources) before after old new counts notes × (others ≡ nothing_noted))
+-- where the programs are that its maps are of
+abbrev pub programs_of : RequestSeen → MapSources → Programs
+programs_of request sources = record { number = length request.arguments + 2; arguments = request.arguments; locations = sources.locations }
 
--- or up to a fault
-abbrev pub RewritesTextFront : RequestSeen → MapSources → (Gives : (url : List ℕ) → Option MapRecord → Type 0) → (before after : DevicesSeen) → LineFault → Type 0
-RewritesTextFront request sources Gives before after fault =
-    MatchBool request.anywhere (RewritesAnywhereFront Gives (places_asked request sources) before after fault)
+-- its frames are rewritten, with the written names of functions where that is asked, and this is told of these
+abbrev pub RewritesFrames : {L : Type 0} → MayRead → RequestSeen → MapSources → (Finds : StoredSeen L → (url : List ℕ) → StoredSeen L → Type 0)
+    → (before after : DevicesSeen) → (old new : StoredSeen L) → RewriteCounts → (notes : NotesSeen) → (told : ToldSeen) → Type 0
+RewritesFrames Reads request sources Finds before after old new counts notes told =
+    MatchBool request.names
+    (RewritesNames Reads (programs_of request sources) request.names_bytes (asked_of request sources) Finds before after old new counts notes told)
+    (RewritesOver Finds found_in (asked_of request sources) before after old new counts notes × (told ≡ nothing_told))
+
+abbrev pub RewritesFramesFront : MayRead → RequestSeen → MapSources → (Gives : (url : List ℕ) → Option MapRecord → Type 0) → (before after : DevicesSeen) → LineFault
+    → Type 0
+RewritesFramesFront Reads request sources Gives before after fault =
+    MatchBool request.names
+    (RewritesNamesFront Reads (programs_of request sources) request.names_bytes Gives request.hide request.limit_bytes before after fault)
     (RewritesFrontOver Gives request.hide request.limit_bytes before after fault)
 
+-- a text is rewritten over stored maps: its places, or the frames of a trace, and these are the notes of what they name, and what is
+-- told of names
+abbrev pub RewritesText : {L : Type 0} → MayRead → RequestSeen → MapSources → (Finds : StoredSeen L → (url : List ℕ) → StoredSeen L → Type 0)
+    → (before after : DevicesSeen) → (old new : StoredSeen L) → RewriteCounts → (notes others : NotesSeen) → (told : ToldSeen) → Type 0
+RewritesText Reads request sources Finds before after old new counts notes others told =
+    MatchBool request.anywhere
+    (RewritesPlaces request sources Finds before after old new counts notes others × (told ≡ nothing_told))
+    (RewritesFrames Reads request sources Finds before after old new counts notes told × (others ≡ nothing_noted))
+
+-- or up to a fault
+abbrev pub RewritesTextFront : MayRead → RequestSeen → MapSources → (Gives : (url : List ℕ) → Option MapRecord → Type 0) → (before after : DevicesSeen) → LineFault
+    → Type 0
+RewritesTextFront Reads request sources Gives before after fault =
+    MatchBool request.anywhere (RewritesAnywhereFront Gives (places_asked request sources) before after fault)
+    (RewritesFramesFront Reads request sources Gives before after fault)
+
 -- how a run over a store of maps that are loaded so ends, and how the store stands then
-pub record EndsText {R W L : Type 0} (input_seen : R → SourceSeen) (output_seen : W → SinkSeen) (Loads : LoadsStep L) (May : LoadsMay L) (request : RequestSeen)
-    (sources : MapSources) (input_old input_new : R) (output_old output_new : W) (old new : StoredSeen L) (notes others : NotesSeen)
-    (result : Result RewriteCounts LineFault) : Type 0 where
+pub record EndsText {R W L : Type 0} (input_seen : R → SourceSeen) (output_seen : W → SinkSeen) (Reads : MayRead) (Loads : LoadsStep L) (May : LoadsMay L)
+    (request : RequestSeen) (sources : MapSources) (input_old input_new : R) (output_old output_new : W) (old new : StoredSeen L) (notes others : NotesSeen)
+    (told : ToldSeen) (result : Result RewriteCounts LineFault) : Type 0 where
   pub ends : RunEnds input_seen output_seen input_old input_new output_old output_new
-      (λ before after counts. RewritesText request sources (FindsIn Loads) before after old new counts notes others)
-      (RewritesTextFront request sources (GivesIn May old)) result
+      (λ before after counts. RewritesText Reads request sources (FindsIn Loads) before after old new counts notes others told)
+      (RewritesTextFront Reads request sources (GivesIn May old)) result
   pub looked : Looked (FindsIn Loads) old new
 
--- what rewriting over a store came to, and what was noted then
-abbrev pub IsTextOverStore : MayRead → Option Parts → (k : ℕ) → RequestSeen → MapSources → StoreEnd RewriteCounts → (notes others : NotesSeen)
+-- what rewriting over a store came to, and what was noted and told then
+abbrev pub IsTextOverStore : MayRead → Option Parts → (k : ℕ) → RequestSeen → MapSources → StoreEnd RewriteCounts → (notes others : NotesSeen) → (told : ToldSeen)
     → (before after : Streams) → Type 0
-IsTextOverStore Reads base k request sources end notes others before after =
-    IsOverStore (λ Finds before after old new counts. RewritesText request sources Finds before after old new counts notes others)
-    (RewritesTextFront request sources) Reads request.paths base k (length request.arguments + 1) request.cache_bytes sources end before after
+IsTextOverStore Reads base k request sources end notes others told before after =
+    IsOverStore (λ Finds before after old new counts. RewritesText Reads request sources Finds before after old new counts notes others told)
+    (RewritesTextFront Reads request sources) Reads request.paths base k (length request.arguments + 1) request.cache_bytes sources end before after
 
 -- a text becomes what the maps make of it that a function gives: its places, by these parts, or the frames of a trace
 abbrev pub RewritesTextBy : (anywhere : Bool) → (maps : MapsByUrl) → (parts : List ℕ → List Part) → (hide : HidingSeen) → (most : ℕ)
@@ -112,11 +138,11 @@ RewritesTextBy anywhere maps parts hide most before after counts =
     MatchBool anywhere (RewritesAnywhereBy maps parts most before after counts.summary) (RewritesBy maps hide most before after counts)
 
 -- where each path gives the same bytes whenever it is read, and nothing was reported of a map, or what fails always fails and no map
--- was lost, a text becomes what the maps make of it that the files have, however few are kept; the URL of a file that can't be read
+-- was lost, a text whose functions keep their names becomes what the maps make of it that the files have, however few are kept; the URL of a file that can't be read
 -- or whose map is refused has none
 abbrev pub AnswersByPath : MayRead → Option Parts → (k : ℕ) → RequestSeen → MapSources → StoreEnd RewriteCounts → (before after : Streams) → Type 0
 AnswersByPath Reads base k request sources end before after =
-    (bytes_at : BytesByPath) → ReadsSame Reads (length request.arguments + 1) bytes_at
+    (bytes_at : BytesByPath) → ReadsSame Reads (length request.arguments + 1) bytes_at → request.names ≡ false
     → (counts : RewriteCounts) → end.result ≡ Ok counts
     → AreSettled Reads (length request.arguments + 1) bytes_at end.status end.lost → end.shortages ≡ 0
     → RewritesTextBy request.anywhere (stored_maps (maps_at request.paths base k bytes_at) sources.exact sources.locations) (parts_in (urls_of sources)) request.hide request.limit_bytes
@@ -199,9 +225,6 @@ abbrev pub passed_line : List ℕ
 passed_line = codes "smap rewrite --anywhere takes places in lines that are no frames\n"
 
 -- how many frames there were, or places anywhere, and what says why
-abbrev pub counted_text : (anywhere : Bool) → List ℕ
-counted_text anywhere = if anywhere then codes " places" else codes " frames"
-
 abbrev pub none_mapped_line : (anywhere : Bool) → RewriteCounts → List ℕ
 none_mapped_line anywhere counts =
     line_from (codes "0 of " ∷ decimal counts.summary.frames ∷ counted_text anywhere ∷ codes " mapped; --explain says why" ∷ [])
@@ -231,14 +254,18 @@ Hints request end notes said status before after =
 abbrev pub RewritesSources : MayRead → Option Parts → (k : ℕ) → RequestSeen → Result MapSources Report → (status : ℕ) → (before after : Streams) → Type 0
 RewritesSources Reads base k request (Err refused) status before after = (after.input ≡ before.input) × Ends refused status before.sinks after.sinks
 RewritesSources Reads base k request (Ok sources) status before after =
-    (end : StoreEnd RewriteCounts) × (notes : NotesSeen) × (others : NotesSeen) × (warned : SinkSeen) × (between : Streams) × (told : Sinks)
-    × (summed : SinkSeen) × (named : SinkSeen) × (ended : ℕ) × (summing : ℕ) × (said : ℕ) × (reported : ℕ) × (hinted : ℕ)
+    (end : StoreEnd RewriteCounts) × (notes : NotesSeen) × (others : NotesSeen) × (warned : SinkSeen) × (told : ToldSeen) × (between : Streams) × (stood : Sinks)
+    × (listed : SinkSeen) × (summed : SinkSeen) × (named : SinkSeen) × (refused : Sinks) × (ended : ℕ) × (listing : ℕ) × (summing : ℕ) × (said : ℕ) × (needed : ℕ)
+    × (reported : ℕ) × (hinted : ℕ)
     × TellsDotted request.arguments before.sinks.errors warned
-    × IsTextOverStore Reads base k request sources end notes others (with_errors warned before) between
-    × AnswersByPath Reads base k request sources end (with_errors warned before) between × (after.input ≡ between.input) × EndsStore end ended between.sinks told
-    × (after.sinks.output ≡ told.output) × (after.sinks.code ≡ told.code) × SumsUp end request.summary request.anywhere summing told.errors summed
-    × SaysUrls Reads base k request sources end notes others said summed named × Hints request end notes reported hinted named after.sinks.errors
-    × (reported ≡ max (max ended summing) said) × (status ≡ max reported hinted)
+    × IsTextOverStore Reads base k request sources end notes others told (with_errors warned before) between
+    × AnswersByPath Reads base k request sources end (with_errors warned before) between × (after.input ≡ between.input) × EndsStore end request.missing_ok ended between.sinks stood
+    × TellsNames told end.result listing stood.errors listed
+    × SumsUp end request.summary request.anywhere summing listed summed
+    × SaysUrls Reads base k request sources end notes others said summed named
+    × Requires request end.result needed (sinks_seen stood.output named stood.code) refused
+    × (after.sinks.output ≡ refused.output) × (after.sinks.code ≡ refused.code) × Hints request end notes reported hinted refused.errors after.sinks.errors
+    × (reported ≡ max (max (max (max ended listing) summing) said) needed) × (status ≡ max reported hinted)
 
 abbrev pub RewritesFrom : MayRead → Option Parts → (k : ℕ) → RequestSeen → (status : ℕ) → (before after : Streams) → Type 0
 RewritesFrom Reads base k request status before after =

@@ -1,5 +1,5 @@
 -- A run over a store of maps that are read when a text names them: how it ends, and what is reported then.
-use Rattle.std.specs.Prelude.{◌≡◌, ◌⊎◌, ℕ, ◌+◌, ◌-◌, ◌^◌, ◌==◌, Bool, false, List, Option, Result, Ok, Err, IfErr, IfOk, MatchBool, [], length, max, min, option_copied}
+use Rattle.std.specs.Prelude.{◌≡◌, ◌⊎◌, ℕ, ◌+◌, ◌-◌, ◌^◌, ◌==◌, Bool, false, List, Option, Result, Ok, Err, IfErr, IfOk, MatchBool, [], if◌then◌else◌, length, max, min, option_copied}
 use Rattle.url.specs.Parts.{Parts}
 use Rattle.smap_codes.specs.declared.code.Code.{Code}
 use Rattle.smap_io.specs.Device.{SinkSeen}
@@ -66,6 +66,7 @@ pub record IsOverStore {C : Type 0} (Whole : Finding → (before after : Devices
   pub input_failed : after.input.failed ≡ is_read_fault end.result
   pub untouched : end.result ≡ Err Memory → (after.input ≡ before.input) × (after.sinks.output ≡ before.sinks.output)
   pub status : end.status ≡ last.loader.status
+  pub present_status : end.present_status ≡ last.loader.present_status
   pub maps : end.maps ≡ both_counted last.cache.read (length sources.exact)
   pub missing : end.missing ≡ last.cache.missing - last.loader.refused
   pub refused : end.refused ≡ last.loader.refused
@@ -79,13 +80,17 @@ abbrev pub ReportsShortage : (shortages status : ℕ) → (before after : SinkSe
 ReportsShortage shortages status before after =
     MatchBool (shortages == 0) ((status ≡ 0) × (after ≡ before)) ((status ≡ 3) × IsReportedTo before after memory_line)
 
--- what the run came to, and behind what it wrote that memory ran out for some maps; and the status of all
-abbrev pub EndsRun : {C : Type 0} → StoreEnd C → Result C LineFault → (status : ℕ) → (before after : Sinks) → Type 0
-EndsRun end (Ok counts) status before after =
-    (reported : ℕ) × (between : Sinks) × (short : ℕ) × Ends (answer []) reported before between × (after.output ≡ between.output) × (after.code ≡ between.code)
-    × ReportsShortage end.shortages short between.errors after.errors × (status ≡ max (max end.status reported) short)
-EndsRun end (Err fault) status before after =
-    (reported : ℕ) × Ends (fault_report fault) reported before after × (status ≡ max end.status reported)
+-- the greatest status of what was reported of maps; or of all but files that are not there, where these are passed over
+abbrev pub map_status : {C : Type 0} → StoreEnd C → (missing_ok : Bool) → ℕ
+map_status end missing_ok = if missing_ok then end.present_status else end.status
 
-abbrev pub EndsStore : {C : Type 0} → StoreEnd C → (status : ℕ) → (before after : Sinks) → Type 0
-EndsStore end status before after = EndsRun end end.result status before after
+-- what the run came to, and behind what it wrote that memory ran out for some maps; and the status of all, of these maps too
+abbrev pub EndsRun : {C : Type 0} → StoreEnd C → Result C LineFault → (maps status : ℕ) → (before after : Sinks) → Type 0
+EndsRun end (Ok counts) maps status before after =
+    (reported : ℕ) × (between : Sinks) × (short : ℕ) × Ends (answer []) reported before between × (after.output ≡ between.output) × (after.code ≡ between.code)
+    × ReportsShortage end.shortages short between.errors after.errors × (status ≡ max (max maps reported) short)
+EndsRun end (Err fault) maps status before after =
+    (reported : ℕ) × Ends (fault_report fault) reported before after × (status ≡ max maps reported)
+
+abbrev pub EndsStore : {C : Type 0} → StoreEnd C → (missing_ok : Bool) → (status : ℕ) → (before after : Sinks) → Type 0
+EndsStore end missing_ok status before after = EndsRun end end.result (map_status end missing_ok) status before after

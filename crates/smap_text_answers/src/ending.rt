@@ -1,6 +1,7 @@
 //! What is reported where rewriting over files and folders of maps ends.
 ghost use Rattle.std.specs.Prelude.{◌≡◌, string_bytes, IfOk};
-ghost use Rattle.smap_text_answers.specs.RewriteFrom.{Hints, HintsCounts, ReportsSummary, SumsUp, counted_text, has_passed};
+ghost use Rattle.smap_text_answers.specs.RewriteFrom.{Hints, HintsCounts, ReportsSummary, SumsUp, has_passed};
+ghost use Rattle.smap_text_answers.specs.Lines.{counted_text};
 ghost use Rattle.smap_text_answers.specs.RewriteFrom.{is_as_it_was, is_silent, maps_text, none_mapped_line, none_mapped_text, passed_text};
 ghost use Rattle.smap_text_answers.specs.RewriteFrom.{summary_line, trace_text};
 ghost use Rattle.smap_text_answers.specs.Request.{request_seen};
@@ -221,8 +222,8 @@ fn none_mapped_line(
     format!(in alloc; "0 of {frames}{counted} mapped; --explain says why\n")
 }
 
-// What is counted, for one line.
-fn counted_text(anywhere: bool) -> &'static str
+/// What is counted, for one line.
+pub fn counted_text(anywhere: bool) -> &'static str
     ensures { result.now ≡ counted_text anywhere }
 {
     if anywhere { " places" } else { " frames" }

@@ -11,17 +11,22 @@
 mod answering;
 mod dotted;
 mod ending;
+mod generated;
 mod lines;
 mod loader;
 mod locating;
 mod locator;
+mod namer;
+mod naming;
 mod nearest;
 mod place;
 mod request;
+mod required;
 mod rewriting;
 mod sources;
 mod standing;
 mod storing;
+mod told;
 mod trace;
 mod url_lines;
 

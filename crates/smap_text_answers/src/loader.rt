@@ -1,8 +1,9 @@
 //! The maps that are read when a text names them.
 ghost use Rattle.std.specs.Prelude.{◌≡◌, ◌⊎◌, option_copied, IfErr, IfOk};
+ghost use Rattle.std.specs.Bool.{OnTrue};
 ghost use Rattle.smap_text_answers.specs.Loader.{FailsBy, IsLoaded, IsReportFor, Notes, is_lost, is_of_url, loader_at_first, loader_seen};
 ghost use Rattle.smap_replies.specs.Outcome.{failure_report};
-ghost use Rattle.smap_store.specs.declared.loader.NoMap.TheVariants.{Memory};
+ghost use Rattle.smap_store.specs.declared.loader.NoMap.TheVariants.{Memory, Unread};
 
 use crate::lines;
 use crate::standing::standing_loaded;
@@ -10,8 +11,8 @@ use smap_codes::Code;
 use smap_io::{ByteSink, ReadFailure};
 use smap_record::MapRefusal;
 use smap_replies::{
-    DONE, Failure, FileReader, MapReader, REFUSED, file_failed_line, print_error, read_standing,
-    refusal_of,
+    DONE, Failure, FileReader, MapReader, REFUSED, UnreadCause, file_failed_line, print_error,
+    read_standing, refusal_of,
 };
 use smap_store::{LoadedMap, MapLoader, NoMap};
 use std::alloc::{AllocError, Global};
@@ -30,6 +31,8 @@ pub struct FileLoader<'m, 'r, 'e, F: FileReader, E: ByteSink> {
     pub errors: &'e mut E,
     /// The greatest status of what was reported, or would have been.
     pub status: u8,
+    /// The same, of all but files that are not there.
+    pub present_status: u8,
     /// The code of the first refusal that was reported.
     pub code: Option<Code>,
     /// How many maps could not be had.
@@ -62,6 +65,7 @@ impl<'m, 'r, 'e, F: FileReader, E: ByteSink> FileLoader<'m, 'r, 'e, F, E> {
             number,
             errors,
             status: DONE,
+            present_status: DONE,
             code,
             reported: 0,
             refused: 0,
@@ -95,8 +99,8 @@ impl<'m, 'r, 'e, F: FileReader, E: ByteSink> FileLoader<'m, 'r, 'e, F, E> {
         }
     }
 
-    // Reports why a map can't be had, and counts that.
-    fn note(&mut self, why: NoMap, failure: &Failure)
+    // Reports why a map can't be had from the file at a path, and counts that.
+    fn note(&mut self, why: NoMap, path: &str, failure: &Failure)
         ensures noted { Notes (loader_seen E.seen self.old) why (failure_report failure.now)
             (loader_seen E.seen self.new) }
         ensures maps { self.new.maps ≡ self.old.maps }
@@ -106,6 +110,9 @@ impl<'m, 'r, 'e, F: FileReader, E: ByteSink> FileLoader<'m, 'r, 'e, F, E> {
     {
         let status = failure.status();
         self.status = self.status.max(status);
+        if !self.is_missing(why, path) {
+            self.present_status = self.present_status.max(status);
+        }
         if status == REFUSED {
             self.refused = self.refused.saturating_add(1);
         }
@@ -116,6 +123,21 @@ impl<'m, 'r, 'e, F: FileReader, E: ByteSink> FileLoader<'m, 'r, 'e, F, E> {
         self.reported = self.reported.saturating_add(1);
         self.lost = self.lost || is_lost(why);
     }
+
+    // Whether a map can't be had since there is no file at a path: that is asked anew.
+    fn is_missing(&self, why: NoMap, path: &str) -> bool
+        ensures { OnTrue result (why ≡ Unread) }
+    {
+        match why {
+            NoMap::Unread => is_no_file(self.maps.files.unread_cause(path)),
+            NoMap::Unnamed | NoMap::Refused(_) | NoMap::Memory => false,
+        }
+    }
+}
+
+// Whether there is no file.
+fn is_no_file(cause: UnreadCause) -> bool {
+    matches!(cause, UnreadCause::Missing)
 }
 
 impl<F: FileReader, E: ByteSink> MapLoader for FileLoader<'_, '_, '_, F, E> {
@@ -135,7 +157,7 @@ impl<F: FileReader, E: ByteSink> MapLoader for FileLoader<'_, '_, '_, F, E> {
             Ok(loaded) => Ok(loaded),
             Err(why) => {
                 let told = unloaded_for(alloc, path, why);
-                self.note(told.why, &told.failure);
+                self.note(told.why, path, &told.failure);
                 Err(told.why)
             }
         }

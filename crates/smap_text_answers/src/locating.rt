@@ -64,7 +64,7 @@ pub fn answer_locate<F: FileReader, R: ByteSource, W: ByteSink, E: ByteSink>(
                 options: asked.options,
             };
             let end = over_store(&run, &mut work, input, output, errors, first);
-            finish(&end, output, errors, first)
+            finish(&end, false, output, errors, first)
         }
         Err(failure) => report(&Err(failure), output, errors, first),
     }

@@ -1,5 +1,6 @@
 //! How a text is rewritten.
-ghost use Rattle.std.specs.Prelude.{◌≡◌};
+ghost use Rattle.std.specs.Prelude.{◌≡◌, unwrap_or};
+ghost use Rattle.smap_command.specs.Limits.{usual_cache_bytes};
 ghost use Rattle.smap_text_answers.specs.Request.{asks_for_more, has_rule, most_passed, request_seen};
 ghost use Rattle.smap_trace.specs.Hiding.{hiding_seen};
 
@@ -46,6 +47,24 @@ impl<F: FileReader> TextRequest<'_, '_, F> {
     // How many bytes of files are kept as maps.
     pub(crate) fn cache_bytes(&self) -> u64
         ensures { result ≡ (request_seen self.now).cache_bytes }
+    {
+        self.all_bytes().saturating_sub(self.names_bytes())
+    }
+
+    // How many bytes of files are kept as declarations: a quarter of all, where they are listed.
+    pub(crate) fn names_bytes(&self) -> u64
+        ensures { result ≡ (request_seen self.now).names_bytes }
+    {
+        if self.options.names {
+            self.all_bytes() / 4
+        } else {
+            0
+        }
+    }
+
+    // How many bytes of files are kept.
+    fn all_bytes(&self) -> u64
+        ensures { result ≡ unwrap_or self.now.options.now.cache_bytes usual_cache_bytes }
     {
         self.options.cache_bytes.unwrap_or(USUAL_CACHE_BYTES)
     }

@@ -3,6 +3,7 @@ ghost use Rattle.std.specs.Prelude.{◌≡◌, ◌<◌, ◌^◌, false, true, op
 ghost use Rattle.smap_lines.specs.RunEnds.{RunEnds};
 ghost use Rattle.smap_replies.specs.Outcome.{or_reported};
 ghost use Rattle.smap_replies.specs.Streams.{streams_seen};
+ghost use Rattle.smap_text_answers.specs.Names.{TellsNames, nothing_told, told_seen};
 ghost use Rattle.smap_text_answers.specs.Request.{request_seen};
 ghost use Rattle.smap_text_answers.specs.RewriteFrom.{EndsText, RewritesFrom, SaysUrls, asked_by, says_urls};
 ghost use Rattle.smap_text_answers.specs.Sources.{GathersSources};
@@ -15,9 +16,12 @@ ghost use Rattle.smap_trace.specs.Rewriting.{Looked, RewritesNamed, RewritesName
 use crate::dotted::tell_dotted;
 use crate::ending::{hint, sum_up};
 use crate::loader::FileLoader;
+use crate::naming::rewrite_named;
 use crate::request::TextRequest;
+use crate::required::require;
 use crate::sources::{MapSources, sources_of};
 use crate::storing::{StoreEnd, StoreRun, StoreWork, finish, over_store};
+use crate::told::{NamesTold, tell_names};
 use crate::url_lines::tell_urls;
 use smap_anywhere::{LineCounter, MapUrls, PlaceNotes, PlaceOptions, rewrite_anywhere};
 use smap_codes::Code;
@@ -63,9 +67,12 @@ pub fn rewrite_from<F: FileReader, R: ByteSource, W: ByteSink, E: ByteSink>(
                 alloc,
                 request,
                 notes: PlaceNotes::new(alloc),
+                told: NamesTold::new(alloc),
             };
             let end = over_store(&store, &mut work, input, output, errors, first);
-            let ended = finish(&end, output, errors, first);
+            let missing_ok = request.options.missing_ok;
+            let ended = finish(&end, missing_ok, output, errors, first);
+            let listed = say_names(alloc, &end, &work.told, errors);
             let summed = sum_up(alloc, request, &end, errors);
             let run = TextRun {
                 alloc,
@@ -73,7 +80,8 @@ pub fn rewrite_from<F: FileReader, R: ByteSource, W: ByteSink, E: ByteSink>(
                 sources: &sources,
             };
             let said = say_urls(&run, &end, &work.notes, errors);
-            let status = ended.max(summed).max(said);
+            let needed = require(alloc, request, &end, output, errors, first);
+            let status = ended.max(listed).max(summed).max(said).max(needed);
             let hinted = hint(alloc, request, &end, &work.notes.named, status, errors);
             status.max(hinted)
         }
@@ -111,30 +119,34 @@ pub struct TextRun<'s, 'a, 'r, F: FileReader> {
     pub sources: &'s MapSources,
 }
 
-// Rewriting a text over a store of maps, with the notes of what it names.
+// Rewriting a text over a store of maps, with the notes of what it names, and what is to be told of names.
 #[derive(Drop)]
 struct Rewriting<'s, 'a, 'r, Q: FileReader> {
     alloc: Global,
     request: &'s TextRequest<'a, 'r, Q>,
     notes: PlaceNotes,
+    told: NamesTold,
 }
 
 impl<Q: FileReader> StoreWork for Rewriting<'_, '_, '_, Q> {
-    ghost use Rattle.std.specs.Prelude.{◌<◌, ◌^◌};
+    ghost use Rattle.std.specs.Prelude.{◌≡◌, ◌<◌, ◌^◌};
     ghost use Rattle.smap_anywhere.specs.Anywhere.{AreNone};
+    ghost use Rattle.smap_text_answers.specs.Names.{nothing_told, told_seen};
     ghost use Rattle.smap_text_answers.specs.Request.{request_seen};
     ghost use Rattle.smap_text_answers.specs.RewriteFrom.{RewritesText, RewritesTextFront};
     ghost use Rattle.smap_trace.specs.NotesSeen.{notes_seen};
 
     type Counts = RewriteCounts;
 
-    ghost Ready = { λ work. AreNone work.notes × ((request_seen work.request.now).limit_bytes < 2 ^ 63) };
+    ghost Ready = { λ work. AreNone work.notes × (told_seen work.told ≡ nothing_told)
+        × ((request_seen work.request.now).limit_bytes < 2 ^ 63) };
 
     ghost Whole = { λ work later sources Finds before after old new counts.
-        RewritesText (request_seen work.request.now) sources Finds before after old new counts
-        (notes_seen later.notes.named) (notes_seen later.notes.others) };
+        RewritesText (Q.gives work.request.now.maps.now.files.now) (request_seen work.request.now) sources Finds before after old new counts
+        (notes_seen later.notes.named) (notes_seen later.notes.others) (told_seen later.told) };
 
-    ghost Front = { λ work sources. RewritesTextFront (request_seen work.request.now) sources };
+    ghost Front = { λ work sources.
+        RewritesTextFront (Q.gives work.request.now.maps.now.files.now) (request_seen work.request.now) sources };
 
     fn run<F: FileReader, E: ByteSink, R: ByteSource, W: ByteSink>(
         &mut self,
@@ -149,7 +161,8 @@ impl<Q: FileReader> StoreWork for Rewriting<'_, '_, '_, Q> {
             request: self.request,
             sources,
         };
-        rewrite_text(&run, cache, loader, &mut self.notes, input, output)
+        let (notes, told) = (&mut self.notes, &mut self.told);
+        rewrite_text(&run, cache, loader, notes, told, input, output)
     }
 }
 
@@ -160,21 +173,27 @@ fn rewrite_text<F: FileReader, L: MapLoader, R: ByteSource, W: ByteSink>(
     cache: &mut MapCache,
     loader: &mut L,
     notes: &mut PlaceNotes,
+    told: &mut NamesTold,
     input: &mut R,
     output: &mut W,
 ) -> Result<RewriteCounts, RewriteFault>
     requires unnoted { AreNone notes.old }
+    requires untold { told_seen told.old ≡ nothing_told }
     requires input_works { (R.seen input.old).failed ≡ false }
     requires output_works { (W.seen output.old).failed ≡ false }
     requires limit { (request_seen run.now.request.now).limit_bytes < 2 ^ 63 }
-    ensures { EndsText R.seen W.seen L.Loads L.MayLoad (request_seen run.now.request.now)
+    ensures { EndsText R.seen W.seen (F.gives run.now.request.now.maps.now.files.now)
+        L.Loads L.MayLoad (request_seen run.now.request.now)
         run.now.sources.now input.old input.new output.old output.new
         (store_of run.now.sources.now cache.old loader.old)
         (store_of run.now.sources.now cache.new loader.new)
-        (notes_seen notes.new.named) (notes_seen notes.new.others) result }
+        (notes_seen notes.new.named) (notes_seen notes.new.others)
+        (told_seen told.new) result }
 {
     if run.request.options.anywhere {
         rewrite_places(run, cache, loader, notes, input, output)
+    } else if run.request.options.names {
+        rewrite_named(run, cache, loader, notes, told, input, output)
     } else {
         rewrite_frames(run, cache, loader, notes, input, output)
     }
@@ -190,15 +209,18 @@ fn rewrite_frames<F: FileReader, L: MapLoader, R: ByteSource, W: ByteSink>(
     output: &mut W,
 ) -> Result<RewriteCounts, RewriteFault>
     requires frames { run.now.request.now.options.now.anywhere ≡ false }
+    requires unnamed { run.now.request.now.options.now.names ≡ false }
     requires unnoted { AreNone notes.old }
     requires input_works { (R.seen input.old).failed ≡ false }
     requires output_works { (W.seen output.old).failed ≡ false }
     requires limit { (request_seen run.now.request.now).limit_bytes < 2 ^ 63 }
-    ensures { EndsText R.seen W.seen L.Loads L.MayLoad (request_seen run.now.request.now)
+    ensures { EndsText R.seen W.seen (F.gives run.now.request.now.maps.now.files.now)
+        L.Loads L.MayLoad (request_seen run.now.request.now)
         run.now.sources.now input.old input.new output.old output.new
         (store_of run.now.sources.now cache.old loader.old)
         (store_of run.now.sources.now cache.new loader.new)
-        (notes_seen notes.new.named) (notes_seen notes.new.others) result }
+        (notes_seen notes.new.named) (notes_seen notes.new.others)
+        nothing_told result }
 {
     let alloc = run.alloc;
     let MapSources { exact, locations } = run.sources;
@@ -219,8 +241,8 @@ fn rewrite_frames<F: FileReader, L: MapLoader, R: ByteSource, W: ByteSink>(
     frames_over(run, &mut stored, &mut places, named, input, output)
 }
 
-// The frames of a text over any maps, beside which places are counted.
-fn frames_over<F: FileReader, M: Maps, P: PlaceCounter, R: ByteSource, W: ByteSink>(
+/// Rewrites the frames of a text over any maps, beside which places are counted.
+pub fn frames_over<F: FileReader, M: Maps, P: PlaceCounter, R: ByteSource, W: ByteSink>(
     run: &TextRun<'_, '_, '_, F>,
     maps: &mut M,
     places: &mut P,
@@ -266,11 +288,13 @@ fn rewrite_places<F: FileReader, L: MapLoader, R: ByteSource, W: ByteSink>(
     requires input_works { (R.seen input.old).failed ≡ false }
     requires output_works { (W.seen output.old).failed ≡ false }
     requires limit { (request_seen run.now.request.now).limit_bytes < 2 ^ 63 }
-    ensures { EndsText R.seen W.seen L.Loads L.MayLoad (request_seen run.now.request.now)
+    ensures { EndsText R.seen W.seen (F.gives run.now.request.now.maps.now.files.now)
+        L.Loads L.MayLoad (request_seen run.now.request.now)
         run.now.sources.now input.old input.new output.old output.new
         (store_of run.now.sources.now cache.old loader.old)
         (store_of run.now.sources.now cache.new loader.new)
-        (notes_seen notes.new.named) (notes_seen notes.new.others) result }
+        (notes_seen notes.new.named) (notes_seen notes.new.others)
+        nothing_told result }
 {
     let (alloc, request) = (run.alloc, run.request);
     let MapSources { exact, locations } = run.sources;
@@ -296,6 +320,22 @@ fn rewrite_places<F: FileReader, L: MapLoader, R: ByteSource, W: ByteSink>(
             passed: 0,
         }),
         Err(fault) => Err(fault),
+    }
+}
+
+// Says what was told of names, where the text was rewritten to its end, and gives the status of that.
+fn say_names<E: ByteSink>(
+    alloc: Global,
+    end: &StoreEnd<RewriteCounts>,
+    told: &NamesTold,
+    errors: &mut E,
+) -> u8
+    ensures { TellsNames (told_seen told.now) end.now.result result (E.seen errors.old)
+        (E.seen errors.new) }
+{
+    match end.result {
+        Ok(_) => tell_names(alloc, told, errors),
+        Err(_) => DONE,
     }
 }
 

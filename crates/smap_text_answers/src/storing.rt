@@ -6,7 +6,7 @@ ghost use Rattle.smap_lines.specs.declared.fault.LineFault.{LineFault};
 ghost use Rattle.smap_replies.specs.Streams.{sinks_seen, streams_seen};
 ghost use Rattle.smap_store.specs.Stored.{FindsIn, GivesIn, StoredSeen};
 ghost use Rattle.smap_text_answers.specs.Loader.{LoaderSeen, loader_seen};
-ghost use Rattle.smap_text_answers.specs.StoreRun.{EndsStore, Finding, Giving, IsOverStore, LoadsOf, MayLoadOf, ReportsShortage, store_of};
+ghost use Rattle.smap_text_answers.specs.StoreRun.{EndsStore, Finding, Giving, IsOverStore, LoadsOf, MayLoadOf, ReportsShortage, map_status, store_of};
 ghost use Rattle.smap_text_answers.specs.declared.sources.MapSources.{MapSources};
 ghost use Rattle.smap_trace.specs.Rewriting.{Looked};
 
@@ -80,6 +80,8 @@ pub struct StoreEnd<C> {
     pub result: Result<C, LineFault>,
     // The greatest status of what was reported of maps.
     pub status: u8,
+    // The same, of all but files that are not there.
+    pub present_status: u8,
     // How many maps were read, those of words too.
     pub maps: u64,
     // How many URLs had no map, refused maps aside.
@@ -117,11 +119,13 @@ pub fn over_store<F: FileReader, T: StoreWork, R: ByteSource, W: ByteSink, E: By
     let number = run.arguments.len() + 1;
     let mut loader = FileLoader::new(run.maps, run.paths, number, errors, *first);
     let result = work.run(sources, &mut cache, &mut loader, input, output);
-    let (status, refused, lost) = (loader.status, loader.refused, loader.lost);
+    let (status, present_status) = (loader.status, loader.present_status);
+    let (refused, lost) = (loader.refused, loader.lost);
     *first = loader.code;
     StoreEnd {
         result,
         status,
+        present_status,
         maps: cache.read().saturating_add(sources.exact.count() as u64),
         missing: cache.missing().saturating_sub(refused),
         refused,
@@ -130,15 +134,17 @@ pub fn over_store<F: FileReader, T: StoreWork, R: ByteSource, W: ByteSink, E: By
     }
 }
 
-/// Reports what a run came to, and that memory ran out for some maps, where it did; and gives the exit status.
+/// Reports what a run came to, and that memory ran out for some maps, where it did; and gives the exit status. Files that
+/// are not there count for that, where they are not to be passed over.
 pub fn finish<C, W: ByteSink, E: ByteSink>(
     end: &StoreEnd<C>,
+    missing_ok: bool,
     output: &mut W,
     errors: &mut E,
     first: &mut Option<Code>,
 ) -> u8
     requires output_works { (W.seen output.old).failed ≡ is_write_fault end.now.result }
-    ensures { EndsStore end.now result
+    ensures { EndsStore end.now missing_ok result
         (sinks_seen (W.seen output.old) (E.seen errors.old) first.old)
         (sinks_seen (W.seen output.new) (E.seen errors.new) first.new) }
 {
@@ -146,12 +152,23 @@ pub fn finish<C, W: ByteSink, E: ByteSink>(
         Ok(_) => {
             let reported = report(&Ok(Reply::Printed), output, errors, first);
             let short = report_shortage(end.shortages, errors);
-            end.status.max(reported).max(short)
+            map_status(end, missing_ok).max(reported).max(short)
         }
         Err(fault) => {
             let reported = report(&Err(Failure::Fault(*fault)), output, errors, first);
-            end.status.max(reported)
+            map_status(end, missing_ok).max(reported)
         }
+    }
+}
+
+// The greatest status of what was reported of maps; or of all but files that are not there, where these are passed over.
+fn map_status<C>(end: &StoreEnd<C>, missing_ok: bool) -> u8
+    ensures { result ≡ map_status end.now missing_ok }
+{
+    if missing_ok {
+        end.present_status
+    } else {
+        end.status
     }
 }
 

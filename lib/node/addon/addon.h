@@ -75,7 +75,7 @@ struct place { struct held *held; uint32_t next; };
 #define ROOM (ROOM_LAST + 1)
 struct addon {
     uint32_t *room;
-    napi_ref texts; /* an Array for the name of what a look-up by URL finds */
+    napi_ref texts; /* an Array for the name of what a look-up by URL finds, and for the debug id of a map that is read into a table */
     struct place *places;
     uint32_t count, free;    /* how many places there are, and the first that is free, or as many */
     int64_t reported, swept; /* the bytes that V8 knows of, and the fewest since the last sweep */
@@ -99,6 +99,8 @@ struct held {
         struct { smap_rewriting rewriting; uint64_t time, lines; bool is_last; };
     };
     smap_originals originals; /* of a map, as soon as it was asked for generated places */
+    smap_names names;         /* of a map, as soon as its generated file was given; */
+    int64_t named;            /* and about how many bytes they have */
 };
 
 struct addon *addon_of(napi_env env);
@@ -138,12 +140,15 @@ napi_value array_of_parts(napi_env env, const struct parts *parts);
  * not found so, and false where there is no memory. */
 bool outline_of(const uint8_t *text, size_t length, char **outline, size_t *bytes);
 
-/* map.c: the map that was read of so many bytes, as an object. */
-napi_value object_of_map(napi_env env, struct held *held, size_t length);
+/* map.c: the map that was read of so many bytes, as an object, which has its debug id, if there is one. */
+napi_value object_of_map(napi_env env, struct held *held, size_t length, smap_bytes *id);
 
-/* A map that is read at this base or, with `or_at_none`, at none where that is no URL. */
-uint32_t read_so(smap_text bytes, smap_text base, bool or_at_none, uint32_t interval, uint64_t most, smap_map *map,
+/* A map that is read at this base or, with `or_at_none`, at none where that is no URL. Its debug id is handed out, if it has one. */
+uint32_t read_so(smap_text bytes, smap_text base, bool or_at_none, uint32_t interval, uint64_t most, smap_map *map, smap_bytes *id,
                  smap_refusal *refusal);
+
+/* Bytes that were handed out as a text, if there are such, which are freed. */
+napi_value text_taken(napi_env env, smap_bytes *bytes);
 
 /* Writes a debug id, if there is one, into the text of a map that was handed out, and gives the status. Where there is no memory the text is
  * freed. An id that a map has is UTF-8. */

@@ -246,6 +246,32 @@ static napi_value checked_outline(napi_env env, napi_callback_info info) {
     return outline(env, text, kept);
 }
 
+static napi_value checked_withGenerated(napi_env env, napi_callback_info info) {
+    napi_value words[WORDS];
+    struct held *map;
+    smap_text generated;
+    if (!words_of(env, info, 2, words) ||
+        !(map = held_of(env, words[0], MAP)) ||
+        !bytes_of(env, words[1], &generated))
+        return NULL;
+    return with_generated(env, map, generated);
+}
+
+static napi_value checked_functionName(napi_env env, napi_callback_info info) {
+    napi_value words[WORDS];
+    struct held *map;
+    uint32_t line;
+    uint32_t column;
+    smap_text function;
+    if (!words_of(env, info, 4, words) ||
+        !(map = held_of(env, words[0], MAP)) ||
+        !number_of(env, words[1], &line) ||
+        !number_of(env, words[2], &column) ||
+        !bytes_of(env, words[3], &function))
+        return NULL;
+    return function_name(env, map, line, column, function);
+}
+
 static napi_value checked_counts(napi_env env, napi_callback_info info) {
     napi_value words[WORDS];
     struct held *map;
@@ -700,6 +726,8 @@ const struct call calls[CALLS] = {
     {"fit", checked_fit},
     {"members", checked_members},
     {"outline", checked_outline},
+    {"withGenerated", checked_withGenerated},
+    {"functionName", checked_functionName},
     {"counts", checked_counts},
     {"size", checked_size},
     {"usePaths", checked_usePaths},

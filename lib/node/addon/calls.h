@@ -22,6 +22,8 @@ napi_value bytes_by_source(napi_env env, struct held *map, smap_text generated);
 napi_value fit(napi_env env, struct held *map, smap_text generated, double *counts);
 napi_value members(napi_env env, smap_text text, uint32_t at);
 napi_value outline(napi_env env, smap_text text, double *kept);
+napi_value with_generated(napi_env env, struct held *map, smap_text generated);
+napi_value function_name(napi_env env, struct held *map, uint32_t line, uint32_t column, smap_text function);
 napi_value counts(napi_env env, struct held *map);
 napi_value size(napi_env env, struct held *map);
 napi_value use_paths(napi_env env, struct held *map, smap_text url);
@@ -61,7 +63,7 @@ napi_value is_path(napi_env env, smap_text url);
 
 /* The calls by their names, with what checks their arguments. */
 struct call { const char *name; napi_callback call; };
-#define CALLS 56
+#define CALLS 58
 extern const struct call calls[CALLS];
 
 #endif

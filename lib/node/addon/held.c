@@ -41,7 +41,8 @@ static void give_back(struct addon *addon, int64_t size) {
 
 void let_go(napi_env env, struct held *held) {
     if (held->originals.at) smap_originals_free(&held->originals);
-    held->originals.at = NULL;
+    if (held->names.at) smap_names_free(&held->names);
+    held->originals.at = held->names.at = NULL;
     if (held->full) {
         if (held->kind == MAP) smap_map_free(&held->map);
         else if (held->kind == INNERS) smap_inners_free(&held->inners);

@@ -20,7 +20,7 @@ struct reading {
     bool has_contents;
     smap_refusal refusal;
     smap_reason reason;
-    smap_bytes why;
+    smap_bytes why, id;
 };
 
 static void free_reading(napi_env env, struct reading *reading) {
@@ -28,6 +28,7 @@ static void free_reading(napi_env env, struct reading *reading) {
     if (reading->work) napi_delete_async_work(env, reading->work);
     if (reading->held && reading->status == SMAP_DONE) smap_map_free(&reading->held->map);
     if (reading->why.at) smap_bytes_free(&reading->why);
+    if (reading->id.at) smap_bytes_free(&reading->id);
     free(reading->base);
     free(reading->held);
     free(reading->members.numbers);
@@ -59,7 +60,7 @@ static void read_beside(napi_env env, void *data) {
     (void)env;
     struct reading *r = data;
     const smap_text base = {r->base, r->base_length};
-    r->status = read_so(r->text, base, r->or_at_none, r->interval, r->most, &r->held->map, &r->refusal);
+    r->status = read_so(r->text, base, r->or_at_none, r->interval, r->most, &r->held->map, &r->id, &r->refusal);
     if (r->status == SMAP_REFUSED) {
         uint32_t explained = smap_refusal_explain(r->text.bytes, r->text.length, &r->refusal, &r->reason, &r->why);
         if (explained == SMAP_NO_MEMORY) r->status = SMAP_NO_MEMORY;
@@ -89,7 +90,7 @@ static napi_value refusal_of(napi_env env, struct reading *r) {
 static napi_value map_of_reading(napi_env env, struct reading *r) {
     struct held *held = r->held;
     r->held = NULL;
-    napi_value map = object_of_map(env, held, r->text.length);
+    napi_value map = object_of_map(env, held, r->text.length, &r->id);
     napi_value members = map ? array_of_parts(env, &r->members) : NULL;
     if (!members) return NULL;
     const napi_value values[] = {map, members, r->has_contents ? number(env, (double)(r->contents.count / 4)) : null(env)};

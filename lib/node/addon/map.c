@@ -7,35 +7,49 @@ static int64_t size_of(size_t length, const smap_count *count) {
     return (int64_t)(length + 32 * (count->checkpoints + count->sources + count->names) + 8 * count->lines);
 }
 
-napi_value object_of_map(napi_env env, struct held *held, size_t length) {
+napi_value text_taken(napi_env env, smap_bytes *bytes) {
+    smap_text text = SMAP_TEXT;
+    if (!bytes->at) return NULL;
+    smap_bytes_text(bytes, &text);
+    napi_value value = string(env, text);
+    smap_bytes_free(bytes);
+    bytes->at = NULL;
+    return value;
+}
+
+napi_value object_of_map(napi_env env, struct held *held, size_t length, smap_bytes *id) {
     smap_count count = {0};
     smap_counts(&held->map, &count);
-    return object_of(env, held, size_of(length, &count));
+    const bool has_id = id->at;
+    napi_value object = object_of(env, held, size_of(length, &count)), text = text_taken(env, id);
+    return object && (!has_id || define(env, object, "debugId", text)) ? object : NULL;
 }
 
-uint32_t read_so(smap_text bytes, smap_text base, bool or_at_none, uint32_t interval, uint64_t most, smap_map *map,
+uint32_t read_so(smap_text bytes, smap_text base, bool or_at_none, uint32_t interval, uint64_t most, smap_map *map, smap_bytes *id,
                  smap_refusal *refusal) {
-    uint32_t status = smap_map_read_within(bytes.bytes, bytes.length, base.bytes, base.length, interval, most, map, refusal);
+    uint32_t has_id = 0;
+    uint32_t status = smap_map_read_with_id(bytes.bytes, bytes.length, base.bytes, base.length, interval, most, map, id, &has_id, refusal);
     if (status != SMAP_REFUSED || refusal->code != SMAP_CODE_USAGE || !or_at_none) return status;
-    return smap_map_read_within(bytes.bytes, bytes.length, (const uint8_t *)nothing, 0, interval, most, map, refusal);
+    return smap_map_read_with_id(bytes.bytes, bytes.length, (const uint8_t *)nothing, 0, interval, most, map, id, &has_id, refusal);
 }
 
-/* read(bytes, base, orAtNone, interval, mostNames, refusal): a map, the names of whose sources may have so many bytes together; or null,
- * with the numbers of the refusal in a Float64Array of 6. */
+/* read(bytes, base, orAtNone, interval, mostNames, refusal): a map, the names of whose sources may have so many bytes together, with its
+ * `debugId`, if it has one; or null, with the numbers of the refusal in a Float64Array of 6. */
 napi_value read_map(napi_env env, smap_text bytes, smap_text base, bool or_at_none, uint32_t interval, uint64_t most,
                     double *numbers) {
     sweep(env, addon_of(env));
     struct held *held = calloc(1, sizeof *held);
     if (!held) return refuse(env, "out of memory");
     smap_refusal refusal = {0};
-    uint32_t status = read_so(bytes, base, or_at_none, interval, most, &held->map, &refusal);
+    smap_bytes id = {0};
+    uint32_t status = read_so(bytes, base, or_at_none, interval, most, &held->map, &id, &refusal);
     if (status != SMAP_DONE) {
         free(held);
         if (status != SMAP_REFUSED) return refuse(env, "out of memory");
         put_refusal(&refusal, numbers);
         return null(env);
     }
-    return object_of_map(env, held, bytes.length);
+    return object_of_map(env, held, bytes.length, &id);
 }
 
 napi_value counts(napi_env env, struct held *held) {
@@ -60,6 +74,29 @@ napi_value size(napi_env env, struct held *held) {
         bytes += 16 * count.segments + 24 * count.sources;
     }
     return number(env, (double)bytes);
+}
+
+/* withGenerated(map, generated): reads what the generated file declares, in place of what was read before; or the code of why not. */
+napi_value with_generated(napi_env env, struct held *held, smap_text generated) {
+    smap_names names = {0};
+    smap_code why = 0;
+    uint32_t status = smap_names_new(&held->map, generated.bytes, generated.length, &names, &why);
+    if (status == SMAP_REFUSED) return number(env, why);
+    if (status != SMAP_DONE) return refuse(env, "out of memory");
+    if (held->names.at) smap_names_free(&held->names);
+    held->names = names;
+    /* A name is declared in each 64 bytes or so of a minified file. */
+    const int64_t named = (int64_t)(generated.length / 2), size = held->size + named - held->named;
+    held->named = named;
+    report_size(env, held, size);
+    return NULL;
+}
+
+/* functionName(map, line, column, function): the name of a function, or null. */
+napi_value function_name(napi_env env, struct held *held, uint32_t line, uint32_t column, smap_text function) {
+    smap_text name = SMAP_TEXT;
+    if (!held->names.at) return refuse(env, "no generated file was given");
+    return smap_name_of(&held->names, function.bytes, function.length, line, column, &name) == SMAP_DONE ? string(env, name) : null(env);
 }
 
 /* usePaths(map, url): names the sources by the URL, where that is a path with a folder; whether no other holds the map. */

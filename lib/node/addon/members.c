@@ -85,8 +85,8 @@ napi_value array_of_parts(napi_env env, const struct parts *parts) {
 }
 
 /* What else is kept of a map's text: its values that a TraceMap has. */
-enum { SOURCES, SOURCE_ROOT, IGNORED, DEBUG_ID, IGNORED_BY_OTHERS, DEBUG_ID_BY_OTHERS, CONTENTS, MAPPINGS, SECTIONS, KEYS };
-static const char *const keys[KEYS] = {"\"sources\"", "\"sourceRoot\"", "\"ignoreList\"", "\"debugId\"", "\"x_google_ignoreList\"", "\"debug_id\"", "\"sourcesContent\"", "\"mappings\"", "\"sections\""};
+enum { SOURCES, SOURCE_ROOT, IGNORED, IGNORED_BY_OTHERS, CONTENTS, MAPPINGS, SECTIONS, KEYS };
+static const char *const keys[KEYS] = {"\"sources\"", "\"sourceRoot\"", "\"ignoreList\"", "\"x_google_ignoreList\"", "\"sourcesContent\"", "\"mappings\"", "\"sections\""};
 
 /* Where the values of a map's keys stand; a null is as not there. Whether they are found so: no key is escaped. */
 static bool find_values(const uint8_t *text, const struct parts *parts, smap_text *values) {
@@ -110,8 +110,6 @@ static size_t lines_behind(smap_text quoted) {
     return lines;
 }
 
-static bool is_text(smap_text value) { return value.length && value.bytes[0] == '"'; }
-
 bool outline_of(const uint8_t *text, size_t length, char **outline, size_t *bytes) {
     struct parts members = {0}, contents = {0};
     smap_text values[KEYS] = {{0}};
@@ -125,18 +123,16 @@ bool outline_of(const uint8_t *text, size_t length, char **outline, size_t *byte
     free(members.numbers);
     if (!is_found) return whole;
     if (!values[IGNORED].length) values[IGNORED] = values[IGNORED_BY_OTHERS];
-    /* What is no text is no debug id. */
-    if (!is_text(values[DEBUG_ID])) values[DEBUG_ID] = is_text(values[DEBUG_ID_BY_OTHERS]) ? values[DEBUG_ID_BY_OTHERS] : (smap_text){0};
     if (values[CONTENTS].length) whole = find_parts(values[CONTENTS].bytes, values[CONTENTS].length, 0, &contents);
     free(contents.numbers);
     *bytes = 0;
-    for (int key = SOURCES; key <= DEBUG_ID; key++) *bytes += values[key].length;
+    for (int key = SOURCES; key <= IGNORED; key++) *bytes += values[key].length;
     const size_t room = *bytes + 160;
     char *out = whole ? malloc(room) : NULL;
     if (!out) return false;
     size_t used = (size_t)snprintf(out, room, "{\"behind\":%zu", lines_behind(values[MAPPINGS]));
     if (values[CONTENTS].length) used += (size_t)snprintf(out + used, room - used, ",\"contents\":%zu", contents.count / EACH);
-    for (int key = SOURCES; key <= DEBUG_ID; key++)
+    for (int key = SOURCES; key <= IGNORED; key++)
         if (values[key].length)
             used += (size_t)snprintf(out + used, room - used, ",%s:%.*s", keys[key], (int)values[key].length, (const char *)values[key].bytes);
     snprintf(out + used, room - used, "}");

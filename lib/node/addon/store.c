@@ -82,18 +82,21 @@ napi_value put(napi_env env, struct held *table, const struct url *url, struct h
 }
 
 /* readInto(table, url, bytes, base, orAtNone, interval, mostNames, numbers): a map is read, and the store has it. What else its text has, as
- * JSON, or null where that is not found so, with how many bytes that are in the first of seven numbers, and in the last for how much the map
- * counts; or nothing, and those of the refusal. */
+ * JSON, or null where that is not found so, with how many bytes that are in the first of seven numbers, in the second whether its debug id
+ * stands in the texts, and in the last for how much the map counts; or nothing, and those of the refusal. */
 napi_value read_into(napi_env env, struct held *table, const struct url *url, smap_text bytes, smap_text base,
                      bool or_at_none, uint32_t interval, uint64_t most, double *numbers) {
-    napi_value result = NULL;
+    napi_value result = NULL, texts;
     size_t kept = 0;
     uint64_t size = 0;
     sweep(env, addon_of(env));
     smap_map map = {0};
+    smap_bytes id = {0};
     smap_refusal refusal = {0};
     char *outline = NULL;
-    uint32_t status = read_so(bytes, base, or_at_none, interval, most, &map, &refusal);
+    uint32_t status = read_so(bytes, base, or_at_none, interval, most, &map, &id, &refusal);
+    const bool has_id = id.at;
+    napi_value text = text_taken(env, &id);
     if (status == SMAP_DONE) {
         smap_map_size(&map, &size);
         bool whole = outline_of(bytes.bytes, bytes.length, &outline, &kept);
@@ -102,8 +105,9 @@ napi_value read_into(napi_env env, struct held *table, const struct url *url, sm
         report_store(env, table);
     }
     if (status == SMAP_DONE) {
-        numbers[0] = (double)kept, numbers[6] = (double)size;
-        result = outline ? string(env, (smap_text){(const uint8_t *)outline, strlen(outline)}) : null(env);
+        numbers[0] = (double)kept, numbers[1] = has_id, numbers[6] = (double)size;
+        bool is = !has_id || (text && napi_get_reference_value(env, table->addon->texts, &texts) == napi_ok && napi_set_element(env, texts, 0, text) == napi_ok);
+        if (is) result = outline ? string(env, (smap_text){(const uint8_t *)outline, strlen(outline)}) : null(env);
     } else if (status == SMAP_REFUSED) {
         put_refusal(&refusal, numbers);
     } else {

@@ -95,6 +95,32 @@ PyObject *checked_map_fit(PyObject *self, PyObject *words) {
     return map_fit(held, generated);
 }
 
+PyObject *checked_map_with_generated(PyObject *self, PyObject *words) {
+    struct held *held = (struct held *)self;
+    struct given generated;
+    if (!bytes_of(words, &generated) ||
+        !ready((struct held *[]){held}, 1))
+        return NULL;
+    return map_with_generated(held, generated);
+}
+
+PyObject *checked_map_function_name(PyObject *self, PyObject *words) {
+    struct held *held = (struct held *)self;
+    PyObject *words0;
+    uint32_t line;
+    PyObject *words1;
+    uint32_t column;
+    PyObject *words2;
+    struct given function;
+    if (!PyArg_ParseTuple(words, "OOO", &words0, &words1, &words2) ||
+        !place_of(words0, "line", &line) ||
+        !place_of(words1, "column", &column) ||
+        !bytes_of(words2, &function) ||
+        !ready((struct held *[]){held}, 1))
+        return NULL;
+    return map_function_name(held, line, column, function);
+}
+
 PyObject *checked_map_use_paths(PyObject *self, PyObject *words) {
     struct held *held = (struct held *)self;
     struct given url;

@@ -10,6 +10,8 @@ PyObject *map_lines(struct held *held, PyObject *value, uint32_t source, uint32_
 PyObject *map_written(struct held *held, bool has_id, struct given id);
 PyObject *map_bytes_by_source(struct held *held, struct given generated);
 PyObject *map_fit(struct held *held, struct given generated);
+PyObject *map_with_generated(struct held *held, struct given generated);
+PyObject *map_function_name(struct held *held, uint32_t line, uint32_t column, struct given function);
 PyObject *map_use_paths(struct held *held, struct given url);
 PyObject *map_stand_at(struct held *held, struct given path, uint64_t most_names);
 PyObject *store_key(struct held *held, struct given url);
@@ -45,6 +47,10 @@ PyObject *checked_map_bytes_by_source(PyObject *self, PyObject *words);
 #define CHECKED_map_bytes_by_source {"_bytes_by_source", checked_map_bytes_by_source, METH_O, NULL}
 PyObject *checked_map_fit(PyObject *self, PyObject *words);
 #define CHECKED_map_fit {"_fit", checked_map_fit, METH_O, NULL}
+PyObject *checked_map_with_generated(PyObject *self, PyObject *words);
+#define CHECKED_map_with_generated {"_with_generated", checked_map_with_generated, METH_O, NULL}
+PyObject *checked_map_function_name(PyObject *self, PyObject *words);
+#define CHECKED_map_function_name {"_function_name", checked_map_function_name, METH_VARARGS, NULL}
 PyObject *checked_map_use_paths(PyObject *self, PyObject *words);
 #define CHECKED_map_use_paths {"_use_paths", checked_map_use_paths, METH_O, NULL}
 PyObject *checked_map_stand_at(PyObject *self, PyObject *words);

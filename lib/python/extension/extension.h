@@ -87,6 +87,7 @@ struct held {
         struct { smap_table table; smap_store store; }; /* the table has maps where `is_named` */
     };
     smap_originals originals; /* of a map, as soon as it was asked for generated places */
+    smap_names names;         /* of a map, as soon as its generated file was given */
 };
 
 /* Waits until no call is at work with it. Returns false where a signal raised an error. */

@@ -3,9 +3,16 @@
 #include <stdlib.h>
 #include <string.h>
 
+/* Frees what was made of a map. */
+static void free_made(struct held *held) {
+    if (held->originals.at) smap_originals_free(&held->originals);
+    if (held->names.at) smap_names_free(&held->names);
+    held->originals.at = held->names.at = NULL;
+}
+
 static void map_free(PyObject *self) {
     struct held *held = (struct held *)self;
-    if (held->originals.at) smap_originals_free(&held->originals);
+    free_made(held);
     if (held->full) {
         smap_map_free(&held->map);
         give_back(held);
@@ -22,8 +29,7 @@ static PyObject *map_close(PyObject *self, PyObject *unused) {
     begin(held);
     PyThreadState *state = let_go(true);
     smap_map_free(&held->map);
-    if (held->originals.at) smap_originals_free(&held->originals);
-    held->originals.at = NULL;
+    free_made(held);
     come_back(state);
     end(held);
     give_back(held);
@@ -310,6 +316,29 @@ PyObject *map_fit(struct held *held, struct given given) {
                          (unsigned long long)fit.same);
 }
 
+/* Reads what the generated file declares, in place of what was read before, or gives the code of why not. */
+PyObject *map_with_generated(struct held *held, struct given given) {
+    smap_names names = {0};
+    smap_code refusal = 0;
+    begin(held);
+    PyThreadState *state = let_go(given.steady);
+    uint32_t status = smap_names_new(&held->map, given.bytes, given.length, &names, &refusal);
+    if (status == SMAP_DONE && held->names.at) smap_names_free(&held->names);
+    if (status == SMAP_DONE) held->names = names;
+    come_back(state);
+    end(held);
+    if (status == SMAP_REFUSED) return PyLong_FromUnsignedLong(refusal);
+    return status == SMAP_DONE ? none() : PyErr_NoMemory();
+}
+
+/* The name of a function, or None. */
+PyObject *map_function_name(struct held *held, uint32_t line, uint32_t column, struct given function) {
+    smap_text name = SMAP_TEXT;
+    if (!held->names.at) return PyErr_Format(PyExc_ValueError, "no generated file was given");
+    bool is = smap_name_of(&held->names, function.bytes, function.length, line, column, &name) == SMAP_DONE;
+    return text_if(is, name);
+}
+
 /* A method whose arguments may be given by their names. */
 #define WITH_NAMES(call) (PyCFunction)(void (*)(void))(call), METH_FASTCALL | METH_KEYWORDS
 
@@ -368,6 +397,7 @@ static PyMethodDef map_methods[] = {
     {"_look_up_many", map_look_up_many, METH_VARARGS, NULL},
     {"_generated", map_generated, METH_VARARGS, NULL},
     CHECKED_map_lines, CHECKED_map_written, CHECKED_map_bytes_by_source, CHECKED_map_fit, CHECKED_map_use_paths, CHECKED_map_stand_at,
+    CHECKED_map_with_generated, CHECKED_map_function_name,
     {"_shared", map_shared, METH_NOARGS, NULL},
     {NULL, NULL, 0, NULL},
 };

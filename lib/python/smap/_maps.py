@@ -176,6 +176,19 @@ class SourceMap(_smap.Map):
             raise refused_as(reported, name=_given.file_name(generated))
         return Fit(*reported)
 
+    def with_generated(self: _Map, generated: _given.FileData) -> _Map:
+        """The map itself, which has read what its generated file declares, for `function_name`. The file is given as a map is. Raises
+        `Refused` where it is not UTF-8 or too large, or the map can't be that of it, as `fit` says."""
+        refusal = self._with_generated(_given.file_bytes(generated, "a generated file"))
+        if refusal is not None:
+            raise refused_as(refusal, name=_given.file_name(generated))
+        return self
+
+    def function_name(self, line: int, column: int, name: str) -> Optional[str]:
+        """The name that a function has in its source, or None: it is called `name` in a frame at this generated position. A name is one
+        word, which may stand behind `async ` and `new `. Raises `ValueError` where `with_generated` was given no file."""
+        return self._function_name(line, column, _given.text(name, "name").encode(errors="surrogatepass"))
+
     @property
     def debug_id(self) -> Optional[str]:
         """The debug id, which the generated file names too: the text at `debugId`, or at `debug_id` where that is none; or None."""

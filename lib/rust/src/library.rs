@@ -9,6 +9,7 @@
 mod bytes;
 mod inners;
 mod map;
+mod names;
 mod originals;
 mod rewriting;
 mod store;
@@ -18,6 +19,7 @@ mod texts;
 pub(crate) use bytes::Bytes;
 pub(crate) use inners::Inners;
 pub(crate) use map::{encoded, Map, Reading, Source};
+pub(crate) use names::Names;
 pub(crate) use originals::Originals;
 pub(crate) use rewriting::{Rewriting, Stop};
 pub(crate) use store::{Found, Known, Store};

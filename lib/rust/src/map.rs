@@ -36,6 +36,8 @@ use std::sync::Arc;
 pub struct SourceMap {
     map: library::Map,
     texts: Arc<Texts>,
+    /// Those of functions, where the generated file was given.
+    functions: Option<library::Names>,
 }
 
 /// The names in a map.
@@ -57,8 +59,8 @@ impl SourceMap {
         ReadOptions::new().read(map)
     }
 
-    /// Another one of the same map, of which nothing is copied, for another thread. The map goes with
-    /// the last of them. It fails where memory runs out.
+    /// Another one of the same map, of which nothing is copied, for another thread, without its
+    /// generated file. The map goes with the last of them. It fails where memory runs out.
     ///
     /// ```
     /// # let map = smap::SourceMap::from_slice(br#"{"version":3,"sources":["a.ts"],"mappings":"EAAA,IAEC"}"#)?;
@@ -71,6 +73,7 @@ impl SourceMap {
         Ok(SourceMap {
             map: self.map.shared()?,
             texts: Arc::clone(&self.texts),
+            functions: None,
         })
     }
 
@@ -339,6 +342,37 @@ impl SourceMap {
         })
     }
 
+    /// The map, which has read what its generated file declares, for
+    /// [`function_name`](SourceMap::function_name). Refused where the file is not UTF-8 or too large,
+    /// or the map can't be that of it, as [`fit`](SourceMap::fit) says.
+    ///
+    /// ```
+    /// # let map = smap::SourceMap::from_slice(br#"{"version":3,"sources":["a.ts"],"names":["main"],"mappings":"SAAAA"}"#)?;
+    /// let map = map.with_generated("function f(){g()}")?;
+    /// assert_eq!(map.function_name(0, 13, "async f").as_deref(), Some("main"));
+    /// assert_eq!(map.with_generated("function").unwrap_err().code(), Some("A4"));
+    /// # Ok::<(), smap::Error>(())
+    /// ```
+    pub fn with_generated(mut self, generated: impl AsRef<[u8]>) -> Result<SourceMap, Error> {
+        self.functions = Some(library::Names::new(&self.map, generated.as_ref())?);
+        Ok(self)
+    }
+
+    /// The name that a function has in its source, which is called `name` in a frame at this generated
+    /// position: one word, which may stand behind `async ` and `new `. `None` where it has none, and
+    /// where [`with_generated`](SourceMap::with_generated) was given no file.
+    ///
+    /// ```
+    /// # let map = smap::SourceMap::from_slice(br#"{"version":3,"sources":["a.ts"],"names":["main"],"mappings":"SAAAA"}"#)?;
+    /// let map = map.with_generated("function f(){g()}")?;
+    /// assert_eq!(map.function_name(0, 13, "f").as_deref(), Some("main"));
+    /// assert_eq!(map.function_name(0, 13, "Object.f"), None);
+    /// # Ok::<(), smap::Error>(())
+    /// ```
+    pub fn function_name(&self, line: u32, column: u32, name: &str) -> Option<String> {
+        self.functions.as_ref()?.name_of(name, line, column)
+    }
+
     pub(crate) fn of(map: library::Map) -> SourceMap {
         let mut sources = Vec::new();
         while let Some(source) = map.source(sources.len() as u32) {
@@ -356,6 +390,7 @@ impl SourceMap {
         SourceMap {
             map,
             texts: Arc::new(texts),
+            functions: None,
         }
     }
 

@@ -64,19 +64,21 @@ pub const SMAP_CODE_U2: smap_code = 46;
 pub const SMAP_CODE_A1: smap_code = 47;
 pub const SMAP_CODE_A2: smap_code = 48;
 pub const SMAP_CODE_A3: smap_code = 49;
-pub const SMAP_CODE_P1: smap_code = 50;
-pub const SMAP_CODE_P2: smap_code = 51;
-pub const SMAP_CODE_X1: smap_code = 52;
-pub const SMAP_CODE_X2: smap_code = 53;
-pub const SMAP_CODE_X3: smap_code = 54;
-pub const SMAP_CODE_X4: smap_code = 55;
-pub const SMAP_CODE_X5: smap_code = 56;
-pub const SMAP_CODE_TEXT_TOO_LONG: smap_code = 57;
-pub const SMAP_CODE_NOT_UTF8: smap_code = 58;
-pub const SMAP_CODE_DEVICE: smap_code = 59;
-pub const SMAP_CODE_MEMORY: smap_code = 60;
-pub const SMAP_CODE_USAGE: smap_code = 61;
-pub const SMAP_CODE_REFUSED: smap_code = 62;
+pub const SMAP_CODE_A4: smap_code = 50;
+pub const SMAP_CODE_P1: smap_code = 51;
+pub const SMAP_CODE_P2: smap_code = 52;
+pub const SMAP_CODE_X1: smap_code = 53;
+pub const SMAP_CODE_X2: smap_code = 54;
+pub const SMAP_CODE_X3: smap_code = 55;
+pub const SMAP_CODE_X4: smap_code = 56;
+pub const SMAP_CODE_X5: smap_code = 57;
+pub const SMAP_CODE_X6: smap_code = 58;
+pub const SMAP_CODE_TEXT_TOO_LONG: smap_code = 59;
+pub const SMAP_CODE_NOT_UTF8: smap_code = 60;
+pub const SMAP_CODE_DEVICE: smap_code = 61;
+pub const SMAP_CODE_MEMORY: smap_code = 62;
+pub const SMAP_CODE_USAGE: smap_code = 63;
+pub const SMAP_CODE_REFUSED: smap_code = 64;
 
 #[repr(C)]
 pub struct smap_map {
@@ -95,6 +97,11 @@ pub struct smap_inners {
 
 #[repr(C)]
 pub struct smap_originals {
+    pub at: *mut c_void,
+}
+
+#[repr(C)]
+pub struct smap_names {
     pub at: *mut c_void,
 }
 
@@ -416,6 +423,22 @@ extern "C" {
         places: *mut smap_generated_places,
     ) -> u32;
     pub fn smap_originals_free(originals: *mut smap_originals);
+    pub fn smap_names_new(
+        map: *mut smap_map,
+        generated: *const u8,
+        length: usize,
+        names: *mut smap_names,
+        refusal: *mut smap_code,
+    ) -> u32;
+    pub fn smap_name_of(
+        names: *const smap_names,
+        function: *const u8,
+        length: usize,
+        line: u32,
+        column: u32,
+        name: *mut smap_text,
+    ) -> u32;
+    pub fn smap_names_free(names: *mut smap_names);
     pub fn smap_map_mappings(map: *mut smap_map, bytes: *mut smap_bytes) -> u32;
     pub fn smap_encode(
         mappings: *const smap_mapping,

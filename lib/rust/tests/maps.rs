@@ -285,6 +285,36 @@ fn a_map_is_put_to_a_generated_file() {
 }
 
 #[test]
+fn functions_have_the_names_of_their_sources() {
+    // `fe` was written as `main`, and `b` as it is; `c` is a property.
+    let text = "function fe(){throw x}function b(){}o.c=()=>{}";
+    let json = r#"{"version":3,"sources":["a.ts"],"names":["main"],"mappings":"SAAAA,sBAAA"}"#;
+    let map = read(json).with_generated(text).expect("its file");
+    let name_at = |column, name| map.function_name(0, column, name);
+    assert_eq!(name_at(14, "fe").as_deref(), Some("main"));
+    assert_eq!(name_at(14, "async fe").as_deref(), Some("main"));
+    assert_eq!(name_at(35, "b").as_deref(), Some("b"));
+    for (column, name) in [
+        (8, "fe"),
+        (30, "fe"),
+        (45, "c"),
+        (14, "Object.fe"),
+        (14, ""),
+    ] {
+        assert_eq!(name_at(column, name), None, "{} at {}", name, column);
+    }
+    // What another thread has of the map has no file.
+    let other = map.share().expect("memory");
+    assert_eq!(other.function_name(0, 14, "fe"), None);
+    let thread = std::thread::spawn(move || map.function_name(0, 14, "fe"));
+    assert_eq!(thread.join().expect("no panic").as_deref(), Some("main"));
+    for (file, code) in [(&b"\xff"[..], "NotUtf8"), (b"function fe", "A4")] {
+        let error = read(json).with_generated(file).expect_err("another file");
+        assert_eq!(error.code(), Some(code));
+    }
+}
+
+#[test]
 fn originals_lead_to_all_their_places() {
     let map = read(r#"{"version":3,"sources":["a","b"],"mappings":"AAAA,EAAE,EAAF,EAAI;A,ECAA"}"#);
     let originals = map.originals().expect("an index");

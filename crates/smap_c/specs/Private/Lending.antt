@@ -26,6 +26,10 @@ use Rattle.smap_c.specs.declared.handles.BytesHandle.{BytesHandle}
 use Rattle.smap_c.specs.contracts.handles.BytesHandle as bytes_handle
 use Rattle.smap_c.specs.declared.handles.OriginalsHandle.{OriginalsHandle}
 use Rattle.smap_c.specs.contracts.handles.OriginalsHandle as originals_handle
+use Rattle.smap_c.specs.declared.names.NamedFunctions.{NamedFunctions}
+use Rattle.smap_c.specs.contracts.names.NamedFunctions as named_functions
+use Rattle.smap_c.specs.declared.handles.NamesHandle.{NamesHandle}
+use Rattle.smap_c.specs.contracts.handles.NamesHandle as names_handle
 use Rattle.smap_c.specs.declared.handles.UrlFinderHandle.{UrlFinderHandle}
 use Rattle.smap_c.specs.contracts.handles.UrlFinderHandle as url_finder_handle
 use Rattle.smap_c.specs.declared.handles.StoreHandle.{StoreHandle}
@@ -62,6 +66,12 @@ with_originals handle held = record handle { held = Some held }
 
 abbrev pub LendsOriginals : MutBor OriginalsHandle → MutBor (List (List GeneratedPlace)) → Fml
 LendsOriginals handle lent = Lends originals_handle.the_row originals_index.the_row handle lent (with_originals handle.now)
+
+abbrev pub with_named : NamesHandle → NamedFunctions → NamesHandle
+with_named handle held = record handle { held = Some held }
+
+abbrev pub LendsNames : MutBor NamesHandle → MutBor NamedFunctions → Fml
+LendsNames handle lent = Lends names_handle.the_row named_functions.the_row handle lent (with_named handle.now)
 
 abbrev pub with_url_finder : UrlFinderHandle → FinderSeen → UrlFinderHandle
 with_url_finder handle held = record handle { held = Some held }

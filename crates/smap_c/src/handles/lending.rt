@@ -1,15 +1,16 @@
 //! A handle lends what it holds, and gives it up. All that follows a pointer of C's stands here.
 ghost use Rattle.std.specs.Prelude.{◌≡◌, None, Some, IsSome};
 ghost use Rattle.std.specs.Borrow.{sem};
-ghost use Rattle.smap_c.specs.Private.Lending.{LendsBytes, LendsInners, LendsMap, LendsOriginals, LendsRewriting, LendsStore, LendsTable, LendsUrlFinder};
+ghost use Rattle.smap_c.specs.Private.Lending.{LendsBytes, LendsInners, LendsMap, LendsNames, LendsOriginals, LendsRewriting, LendsStore, LendsTable, LendsUrlFinder};
 
 use super::{
-    BytesHandle, InnersHandle, MapHandle, OriginalsHandle, RewritingHandle, StoreHandle,
-    TableHandle, UrlFinderHandle,
+    BytesHandle, InnersHandle, MapHandle, NamesHandle, OriginalsHandle, RewritingHandle,
+    StoreHandle, TableHandle, UrlFinderHandle,
 };
 use crate::bytes::Bytes;
 use crate::inners::Inners;
 use crate::loose::Loose;
+use crate::names::NamedFunctions;
 use smap_anywhere::UrlFinder;
 use smap_originals::Originals;
 use smap_piecewise::{KeptMaps, Rewriting};
@@ -127,6 +128,29 @@ impl OriginalsHandle {
     {
         Loose {
             at: self.at as *mut Originals,
+            alloc,
+        }
+    }
+}
+
+impl NamesHandle {
+    /// What the handle holds, which is not empty.
+    pub(crate) fn lend(&mut self) -> &mut NamedFunctions
+        requires { IsSome self.old.held }
+        ensures* writes_back { sem 𝓛 (LendsNames self.entry result) }
+        ensures value { Some result.now ≡ self.old.held }
+    {
+        unsafe { &mut *(self.at as *mut NamedFunctions) }
+    }
+
+    // Takes out what the handle holds, and leaves it empty.
+    pub(super) fn take(&mut self, alloc: Global) -> Loose<NamedFunctions, Global>
+        requires { IsSome self.old.held }
+        ensures taken { Some result.value ≡ self.old.held }
+        ensures emptied { self.new.held ≡ None }
+    {
+        Loose {
+            at: self.at as *mut NamedFunctions,
             alloc,
         }
     }

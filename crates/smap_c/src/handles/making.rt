@@ -2,12 +2,13 @@
 ghost use Rattle.std.specs.Prelude.{◌≡◌, None, Some, IsSome, IfErr, IfOk};
 
 use super::{
-    BytesHandle, InnersHandle, MapHandle, OriginalsHandle, RewritingHandle, StoreHandle,
-    TableHandle, UrlFinderHandle,
+    BytesHandle, InnersHandle, MapHandle, NamesHandle, OriginalsHandle, RewritingHandle,
+    StoreHandle, TableHandle, UrlFinderHandle,
 };
 use crate::bytes::Bytes;
 use crate::inners::Inners;
 use crate::loose::Loose;
+use crate::names::NamedFunctions;
 use smap_anywhere::UrlFinder;
 use smap_originals::Originals;
 use smap_piecewise::{KeptMaps, Rewriting};
@@ -126,6 +127,27 @@ impl OriginalsHandle {
 
     /// Takes out what the handle holds, and frees its room.
     pub(crate) fn empty(&mut self, alloc: Global) -> Originals
+        requires { IsSome self.old.held }
+        ensures taken { Some result ≡ self.old.held }
+        ensures emptied { self.new.held ≡ None }
+    {
+        Box::into_inner(self.take(alloc).into_box())
+    }
+}
+
+impl NamesHandle {
+    pub(crate) fn new(
+        alloc: Global,
+        named: NamedFunctions,
+    ) -> Result<NamesHandle, AllocFailed<NamedFunctions>>
+        ensures made { IfOk result (λ handle. handle.held ≡ Some named) }
+        ensures back { IfErr result (λ failed. failed.value ≡ named) }
+    {
+        Ok(NamesHandle::of(Loose::of(Box::new(alloc, named)?)))
+    }
+
+    /// Takes out what the handle holds, and frees its room.
+    pub(crate) fn empty(&mut self, alloc: Global) -> NamedFunctions
         requires { IsSome self.old.held }
         ensures taken { Some result ≡ self.old.held }
         ensures emptied { self.new.held ≡ None }

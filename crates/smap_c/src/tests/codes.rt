@@ -41,13 +41,13 @@ fn codes_have_numbers(rt: HostRuntime) -> Result<(), Fail> {
     assert_code(&rt, 41, "E1 NotSorted");
     assert_code(&rt, 45, "U1 UrlTooLong");
     assert_code(&rt, 47, "A1 BadUrl");
-    assert_code(&rt, 50, "P1 BadPosition");
-    assert_code(&rt, 56, "X5 LongOutput");
-    assert_code(&rt, 58, "NotUtf8");
-    assert_code(&rt, 62, "refused");
+    assert_code(&rt, 51, "P1 BadPosition");
+    assert_code(&rt, 58, "X6 FewMapped");
+    assert_code(&rt, 60, "NotUtf8");
+    assert_code(&rt, 64, "refused");
     let mut text = Text { text: b"as it was" };
     assert_refused(&rt, smap_code_text(0, &mut text));
-    assert_refused(&rt, smap_code_text(63, &mut text));
+    assert_refused(&rt, smap_code_text(65, &mut text));
     assert_text(&rt, &text, "as it was");
     Ok(())
 }

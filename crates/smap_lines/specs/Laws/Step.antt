@@ -24,6 +24,22 @@ few_lines (x ∷ text) =
 
 -- ---- what is seen of an editor
 
+-- the same text over the same devices, with other steps
+pub with_steps : {E F : Type 0} {Steps : E → Line → List ℕ → E → Type 0} {most : ℕ} {before after : DevicesSeen} {old new : E} {counts : LineCounts}
+    (More : F → Line → List ℕ → F → Type 0) (from to : F) (done : EditsInto Steps most before after old new counts)
+    → StepsLines More from (lines_with_ends done.bytes) done.written to → EditsInto More most before after from to counts
+with_steps More from to done each = record {
+  bytes = done.bytes;
+  written = done.written;
+  read = done.read;
+  ended = done.ended;
+  fits = done.fits;
+  taken = done.taken;
+  steps = record { each = each };
+  counted = done.counted;
+  long = done.long;
+}
+
 module _ {E F : Type 0} (Steps : E → Line → List ℕ → E → Type 0) (More : F → Line → List ℕ → F → Type 0) (see : E → F) (Is : E → Type 0)
     (each : (old : E) (line : Line) (text : List ℕ) (new : E) → Is old → Steps old line text new → More (see old) line text (see new) × Is new) where
   line_seen : (b : Bool) (line : Line) (old : E) (text : List ℕ) (new : E) → Is old
@@ -43,20 +59,8 @@ module _ {E F : Type 0} (Steps : E → Line → List ℕ → E → Type 0) (More
   pub edits_seen : (most : ℕ) (before after : DevicesSeen) (old new : E) (counts : LineCounts) → Is old → EditsInto Steps most before after old new counts →
       EditsInto More most before after (see old) (see new) counts × Is new
   edits_seen most before after old new counts is done =
-      let all = lines_seen (lines_with_ends done.bytes) old done.written new is done.steps.each in (
-        record {
-          bytes = done.bytes;
-          written = done.written;
-          read = done.read;
-          ended = done.ended;
-          fits = done.fits;
-          taken = done.taken;
-          steps = record { each = all.0 };
-          counted = done.counted;
-          long = done.long;
-        },
-        all.1,
-      )
+      let all = lines_seen (lines_with_ends done.bytes) old done.written new is done.steps.each in
+      (with_steps More (see old) (see new) done all.0, all.1)
 
 -- ---- a line that may become something, may become more
 

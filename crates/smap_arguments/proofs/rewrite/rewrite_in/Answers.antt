@@ -12,7 +12,7 @@ returns-in-Some-clause-refused c =
     let of_maps = rw (c.deref.ensures.value, c.is_some.ensures) at c.excluded_line.ensures in
     let line : excluded_line maps (is_some c.args.base) hide_ignored options ≡ Some (string_bytes c.in_ok-from_str.field-0) =
     sym of_maps ∙ (ap (option_map (λ (s : Bor (List ℕ)). s.now)) c.in-Some.is ∙ ap (λ text. Some text) (sym c.in_ok-from_str.ensures.ok)) in
-    inr (
+    inr (inr (
       maps,
       c.args.base,
       hide_ignored,
@@ -22,4 +22,4 @@ returns-in-Some-clause-refused c =
       c.flag_in-hide_ignored.ensures,
       c.in_ok-options.ensures.given,
       line,
-    )
+    ))

@@ -7,7 +7,7 @@ use Rattle.smap_codes.specs.declared.code.Code.TheVariants.{M1, M2, M3, M4, M5, 
 use Rattle.smap_codes.specs.declared.code.Code.TheVariants.{F1, F2, F3, F4, F5, F6, F7, F8, F9, F10, F11}
 use Rattle.smap_codes.specs.declared.code.Code.TheVariants.{B1, B2, B3, B4, B5}
 use Rattle.smap_codes.specs.declared.code.Code.TheVariants.{O1, O2, C1, C2, C3, C4, E1, E2, E3, E4, U1, U2}
-use Rattle.smap_codes.specs.declared.code.Code.TheVariants.{A1, A2, A3, P1, P2, X1, X2, X3, X4, X5}
+use Rattle.smap_codes.specs.declared.code.Code.TheVariants.{A1, A2, A3, A4, P1, P2, X1, X2, X3, X4, X5, X6}
 use Rattle.smap_codes.specs.declared.code.Code.TheVariants.{TextTooLong, NotUtf8, Device, Memory, Usage, Refused}
 use Rattle.smap_c.specs.Codes.{code_at, code_number}
 use Rattle.smap_c.proofs.CodeLaws.{numbers_have_codes}
@@ -65,6 +65,7 @@ tag_is_place U2 = refl
 tag_is_place A1 = refl
 tag_is_place A2 = refl
 tag_is_place A3 = refl
+tag_is_place A4 = refl
 tag_is_place P1 = refl
 tag_is_place P2 = refl
 tag_is_place X1 = refl
@@ -72,6 +73,7 @@ tag_is_place X2 = refl
 tag_is_place X3 = refl
 tag_is_place X4 = refl
 tag_is_place X5 = refl
+tag_is_place X6 = refl
 tag_is_place TextTooLong = refl
 tag_is_place NotUtf8 = refl
 tag_is_place Device = refl

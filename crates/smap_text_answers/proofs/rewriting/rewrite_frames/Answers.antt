@@ -15,14 +15,14 @@ use Rattle.smap_text_answers.proofs.rewriting.rewrite_frames.Goals as goal
 
 pub returns-in_default : goal.returns-in_default
 returns-in_default g c = record {
-  ends = ends_memory c.requires.input_works c.requires.output_works (text_front_of_none (request_seen c.args.run.now.request.now) c.args.run.now.sources.now
+  ends = ends_memory c.requires.input_works c.requires.output_works (text_front_of_none (g.F.FileReader.gives c.args.run.now.request.now.maps.now.files.now) (request_seen c.args.run.now.request.now) c.args.run.now.sources.now
       (GivesIn g.L.MapLoader.MayLoad (store_of c.args.run.now.sources.now c.args.cache.now c.args.loader.now)) _);
   looked = ([], refl);
 }
 
 pub returns-in_default-new : goal.returns-in_default-new
 returns-in_default-new g c = record {
-  ends = ends_memory c.requires.input_works c.requires.output_works (text_front_of_none (request_seen c.args.run.now.request.now) c.args.run.now.sources.now
+  ends = ends_memory c.requires.input_works c.requires.output_works (text_front_of_none (g.F.FileReader.gives c.args.run.now.request.now.maps.now.files.now) (request_seen c.args.run.now.request.now) c.args.run.now.sources.now
       (GivesIn g.L.MapLoader.MayLoad (store_of c.args.run.now.sources.now c.args.cache.now c.args.loader.now)) _);
   looked = ([], refl);
 }
@@ -42,14 +42,17 @@ returns g c =
     let after = devices_seen (g.R.ByteSource.seen c.frames_over.new.input) (g.W.ByteSink.seen c.frames_over.new.output) in
     record {
       ends = ends_wider c.frames_over.result (λ counts is. when_off request.anywhere _ _ c.requires.frames (
-        subst (λ (s : StoredSeen g.row.L.Denot). RewritesOver (FindsIn g.L.MapLoader.Loads) found_in (asked_of request sources) before after
-            (store_of sources c.args.cache.now c.args.loader.now) s counts notes) stands
-            (rewrites_seen _ (λ m. found_in (stored_seen m)) (FindsIn g.L.MapLoader.Loads) found_in stored_seen (IsSameStore _)
-            (λ old new url is finds. (finds.0, same_store_on _ old new is finds.1)) (λ m url. refl) (asked_of request sources)
-            before after _ new counts notes (same_store_self _) is),
+        when_off request.names _ _ c.requires.unnamed (
+          subst (λ (s : StoredSeen g.row.L.Denot). RewritesOver (FindsIn g.L.MapLoader.Loads) found_in (asked_of request sources) before after
+              (store_of sources c.args.cache.now c.args.loader.now) s counts notes) stands
+              (rewrites_seen _ (λ m. found_in (stored_seen m)) (FindsIn g.L.MapLoader.Loads) found_in stored_seen (IsSameStore _)
+              (λ old new url is finds. (finds.0, same_store_on _ old new is finds.1)) (λ m url. refl) (asked_of request sources)
+              before after _ new counts notes (same_store_self _) is),
+          refl,
+        ),
         c.requires.unnoted.1,
       ))
-          (λ fault is. when_off request.anywhere _ _ c.requires.frames is)
+          (λ fault is. when_off request.anywhere _ _ c.requires.frames (when_off request.names _ _ c.requires.unnamed is))
           (rw (c.in-Ok-new.ensures, c.in-Ok.ensures) at c.frames_over.ensures.ends);
       looked = subst (λ (s : StoredSeen g.row.L.Denot). Looked (FindsIn g.L.MapLoader.Loads) (store_of sources c.args.cache.now c.args.loader.now) s)
           stands looked.0;

@@ -2,6 +2,7 @@ use Rattle.std.proofs.Common.{◌≡◌, length, map, option_copied, refl, rules
 use Rattle.std.proofs.lemmas.List.{length-map}
 use Rattle.std.specs.Prelude.{Ok}
 use Rattle.smap_replies.specs.Arguments.{argument_of}
+use Rattle.smap_text_answers.specs.Names.{told_seen}
 use Rattle.smap_text_answers.specs.Request.{request_seen}
 use Rattle.smap_text_answers.specs.RewriteFrom.{IsTextOverStore}
 use Rattle.smap_replies.specs.Streams.{sinks_seen, streams_seen}
@@ -17,7 +18,8 @@ returns-in-Ok g c =
     let run = c.over_store-end in
     let notes = run.new.work.notes in
     let number : length request.arguments.now ≡ length (map argument_of request.arguments.now) = sym (length-map request.arguments.now argument_of) in
-    let over : IsTextOverStore gives (option_copied maps.base) maps.interval (request_seen request) c.in-Ok.sources run.result (notes_seen notes.named) (notes_seen notes.others) _ _ =
+    let over : IsTextOverStore gives (option_copied maps.base) maps.interval (request_seen request) c.in-Ok.sources run.result (notes_seen notes.named) (notes_seen notes.others)
+    (told_seen run.new.work.told) _ _ =
     rw (number, c.cache_bytes.ensures) at run.ensures.over in (
       Ok c.in-Ok.sources,
       c.in-Ok.ensures,
@@ -26,24 +28,31 @@ returns-in-Ok g c =
         notes_seen notes.named,
         notes_seen notes.others,
         g.E.ByteSink.seen c.tell_dotted.new.errors,
+        told_seen run.new.work.told,
         streams_seen (g.R.ByteSource.seen run.new.input) (g.W.ByteSink.seen run.new.output) (g.E.ByteSink.seen run.new.errors) run.new.first,
         sinks_seen (g.W.ByteSink.seen c.finish-ended.new.output) (g.E.ByteSink.seen c.finish-ended.new.errors) c.finish-ended.new.first,
+        g.E.ByteSink.seen c.say_names-listed.new.errors,
         g.E.ByteSink.seen c.sum_up-summed.new.errors,
         g.E.ByteSink.seen c.say_urls-said.new.errors,
+        sinks_seen (g.W.ByteSink.seen c.require-needed.new.output) (g.E.ByteSink.seen c.require-needed.new.errors) c.require-needed.new.first,
         c.finish-ended.result,
+        c.say_names-listed.result,
         c.sum_up-summed.result,
         c.say_urls-said.result,
+        c.require-needed.result,
         c.max-status.result,
         c.hint-hinted.result,
         c.tell_dotted.ensures,
         over,
-        same_run gives (option_copied maps.base) maps.interval (request_seen request) c.in-Ok.sources run.result _ _ _ _ over,
+        same_run gives (option_copied maps.base) maps.interval (request_seen request) c.in-Ok.sources run.result _ _ _ _ _ over,
         refl,
         c.finish-ended.ensures,
-        refl,
-        refl,
+        c.say_names-listed.ensures,
         c.sum_up-summed.ensures,
         c.say_urls-said.ensures,
+        c.require-needed.ensures,
+        refl,
+        refl,
         c.hint-hinted.ensures,
         search rules,
         search rules,

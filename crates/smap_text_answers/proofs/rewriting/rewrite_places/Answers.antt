@@ -17,7 +17,7 @@ use Rattle.smap_text_answers.proofs.rewriting.rewrite_places.Goals as goal
 
 pub returns-in_default : goal.returns-in_default
 returns-in_default g c = record {
-  ends = ends_memory c.requires.input_works c.requires.output_works (text_front_of_none (request_seen c.args.run.now.request.now) c.args.run.now.sources.now
+  ends = ends_memory c.requires.input_works c.requires.output_works (text_front_of_none (g.F.FileReader.gives c.args.run.now.request.now.maps.now.files.now) (request_seen c.args.run.now.request.now) c.args.run.now.sources.now
       (GivesIn g.L.MapLoader.MayLoad (store_of c.args.run.now.sources.now c.args.cache.now c.args.loader.now)) _);
   looked = ([], refl);
 }
@@ -39,15 +39,18 @@ returns-in-Ok-rewrite_anywhere g c =
     let after = devices_seen (g.R.ByteSource.seen c.rewrite_anywhere.new.input) (g.W.ByteSink.seen c.rewrite_anywhere.new.output) in
     let is = rw (c.in-Ok.ensures, c.limit_bytes.ensures) at c.in-Ok-rewrite_anywhere.ensures.ends.whole in
     record {
-      ends = ends_done c.in-Ok-rewrite_anywhere.ensures.ends (when_on request.anywhere _ _ c.requires.anywhere (record {
-        over = subst (λ (s : StoredSeen g.row.L.Denot). RewritesAnywhere (FindsIn g.L.MapLoader.Loads) found_in (places_asked request sources)
-            before after (store_of sources c.args.cache.now c.args.loader.now) s summary named others) stands
-            (anywhere_seen _ (λ m. found_in (stored_seen m)) (FindsIn g.L.MapLoader.Loads) found_in stored_seen (IsSameStore _)
-            (λ old new url is finds. (finds.0, same_store_on _ old new is finds.1)) (λ m url same. refl) (places_asked request sources)
-            before after _ new summary named others (same_store_self _) is);
-        long = refl;
-        passed = refl;
-      }));
+      ends = ends_done c.in-Ok-rewrite_anywhere.ensures.ends (when_on request.anywhere _ _ c.requires.anywhere (
+        record {
+          over = subst (λ (s : StoredSeen g.row.L.Denot). RewritesAnywhere (FindsIn g.L.MapLoader.Loads) found_in (places_asked request sources)
+              before after (store_of sources c.args.cache.now c.args.loader.now) s summary named others) stands
+              (anywhere_seen _ (λ m. found_in (stored_seen m)) (FindsIn g.L.MapLoader.Loads) found_in stored_seen (IsSameStore _)
+              (λ old new url is finds. (finds.0, same_store_on _ old new is finds.1)) (λ m url same. refl) (places_asked request sources)
+              before after _ new summary named others (same_store_self _) is);
+          long = refl;
+          passed = refl;
+        },
+        refl,
+      ));
       looked = subst (λ (s : StoredSeen g.row.L.Denot). Looked (FindsIn g.L.MapLoader.Loads) (store_of sources c.args.cache.now c.args.loader.now) s)
           stands looked.0;
     }

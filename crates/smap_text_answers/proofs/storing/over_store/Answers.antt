@@ -22,6 +22,7 @@ returns-clause-over g c =
         ap g.W.ByteSink.seen (untouched_by made.result _ made.ensures.ends.memory_output memory),
       );
       status = refl;
+      present_status = refl;
       maps = rw (c.read.ensures, c.count.ensures) at c.saturating_add.ensures;
       missing = rw (c.missing.ensures) at c.saturating_sub.ensures;
       refused = refl;

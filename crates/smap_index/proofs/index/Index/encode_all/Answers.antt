@@ -18,11 +18,11 @@ use Rattle.smap_index.proofs.index.Index.encode_all.Goals.{In-Ok}
 
 pub length_of_parts-length-requires : goal.length_of_parts-length-requires
 length_of_parts-length-requires c =
-    record { in_range = ap (λ parts. list_any is_mapping_past_limit (joined parts)) c.deref-2.ensures.value ∙ c.self.invariant.holds.in_range }
+    record { in_range = ap (λ parts. list_any is_mapping_past_limit (joined parts)) c.deref-3.ensures.value ∙ c.self.invariant.holds.in_range }
 
 pub write_parts-requires : goal.write_parts-requires
 write_parts-requires c =
-    record { in_range = ap (λ parts. list_any is_mapping_past_limit (joined parts)) c.deref-3.ensures.value ∙ c.self.invariant.holds.in_range }
+    record { in_range = ap (λ parts. list_any is_mapping_past_limit (joined parts)) c.deref-4.ensures.value ∙ c.self.invariant.holds.in_range }
 
 -- the mappings of an index have no fault
 none : (c : In-Ok) → list_fault (joined c.args.self.now.parts) ≡ None
@@ -31,10 +31,10 @@ none c =
     ∙ (c.lists_in_order_have_no_fault.ensures.exact (joined c.self.inside.parts.items)).1 (c.self.invariant.holds.ordered, c.self.invariant.holds.in_range)
 
 pub returns-in-Ok-clause-decodes : goal.returns-in-Ok-clause-decodes
-returns-in-Ok-clause-decodes c = c.into_text.ensures.decodes (joined c.args.self.now.parts) (none (goal.at.returns-in-Ok-clause-decodes c).In-Ok)
+returns-in-Ok-clause-decodes c = c.into_text-in-Ok.ensures.decodes (joined c.args.self.now.parts) (none (goal.at.returns-in-Ok-clause-decodes c).In-Ok)
 
 pub returns-in-Ok-clause-accepted : goal.returns-in-Ok-clause-accepted
-returns-in-Ok-clause-accepted c = c.into_text.ensures.accepted (joined c.args.self.now.parts) (none (goal.at.returns-in-Ok-clause-accepted c).In-Ok)
+returns-in-Ok-clause-accepted c = c.into_text-in-Ok.ensures.accepted (joined c.args.self.now.parts) (none (goal.at.returns-in-Ok-clause-accepted c).In-Ok)
 
 -- what holds anyway holds of each value
 on_ok : {T E P : Type 0} (result : Result T E) → P → OnOk result P

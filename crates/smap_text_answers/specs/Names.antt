@@ -1,0 +1,169 @@
+-- The names of functions that are put into frames (this project's own): the declarations of a program are listed from the generated
+-- file beside its map, and where they are not, that is told once, at the end.
+use Rattle.std.specs.Prelude.{◌≡◌, ◌⊎◌, ℕ, ◌+◌, ◌++◌, ◌&&◌, ◌||◌, Bool, true, false, List, [], ◌∷◌, Option, Some, None, MatchBool, MatchOption, Result, Ok, Err, String}
+use Rattle.std.specs.Prelude.{codes, if◌then◌else◌, length, map, nat_le, nat_lt, not, string_bytes}
+use Rattle.std.specs.List.{list_any}
+use Rattle.std.specs.List.Sorted.{IsPermutation}
+use Rattle.std.specs.Str.{bytes_eq}
+use Rattle.std.specs.Str.Lines.{lines}
+use Rattle.smap_declarations.specs.Declarations.{Named, declarations_of}
+use Rattle.smap_io.specs.Device.{SinkSeen}
+use Rattle.smap_io.specs.declared.transfer.ReadFailure.TheVariants.{Device}
+use Rattle.smap_lines.specs.declared.fault.LineFault.{LineFault}
+use Rattle.smap_locations.specs.ListLine.{is_rule}
+use Rattle.smap_locations.specs.Locations.{LocationsSeen, path_for}
+use Rattle.smap_record.specs.Record.{MapRecord}
+use Rattle.smap_replies.specs.Arguments.{argument_of}
+use Rattle.smap_replies.specs.Files.{MayRead}
+use Rattle.smap_replies.specs.Lines.{memory_line}
+use Rattle.smap_replies.specs.Streams.{IsReportedTo}
+use Rattle.smap_store.specs.Names.{NamesCame, declared_in}
+use Rattle.smap_store.specs.declared.names_cache.NamesCache.{NamesCache}
+use Rattle.smap_text.specs.Shown.{shown}
+use Rattle.smap_text_answers.specs.Generated.{generated_path, is_generated}
+use Rattle.smap_text_answers.specs.declared.namer.FileNamer.{FileNamer}
+use Rattle.smap_text_answers.specs.declared.told.NamesTold.{NamesTold}
+
+-- ---- what is told
+
+-- lines of text, each once, and whether memory ran out
+pub record ToldSeen : Type 0 where
+  pub text : List ℕ
+  pub short : Bool
+
+abbrev pub told_seen : NamesTold → ToldSeen
+told_seen told = record { text = string_bytes told.text; short = told.is_short }
+
+abbrev pub nothing_told : ToldSeen
+nothing_told = record { text = []; short = false }
+
+-- what there is to tell of a program: nothing, a line without its LF, or that memory ran out
+pub data Said : Type 0 where
+  nothing : Said
+  line : List ℕ → Said
+  shortage : Said
+
+-- a line is told that was not told before, as long as less than 65,536 bytes were
+abbrev pub is_told : ToldSeen → (text : List ℕ) → Bool
+is_told told text = nat_le 65536 (length told.text) || list_any (λ other. bytes_eq other text) (lines told.text)
+
+abbrev pub tells : ToldSeen → Said → ToldSeen
+tells told nothing = told
+tells told (line text) = if is_told told text then told else record told { text = told.text ++ text ++ codes "\n" }
+tells told shortage = record told { short = true }
+
+-- it is told, or there was not enough memory for that
+abbrev pub Tells : (old : ToldSeen) → Said → (new : ToldSeen) → Type 0
+Tells old said new = (new ≡ tells old said) ⊎ (new ≡ tells old shortage)
+
+abbrev pub no_file_beside_text : (path : List ℕ) → List ℕ
+no_file_beside_text path = codes "names: no file beside " ++ shown path
+
+abbrev pub no_file_text : (file : List ℕ) → List ℕ
+no_file_text file = codes "names: no " ++ shown file
+
+abbrev pub misfit_text : (path file : List ℕ) → List ℕ
+misfit_text path file = ((codes "names: " ++ shown path) ++ codes " does not fit ") ++ shown file
+
+-- ---- where the programs are
+
+-- the number under which generated files are read, the arguments, each a URL and the path of a map, and the files of other URLs
+pub record Programs : Type 0 where
+  pub number : ℕ
+  pub arguments : List (List ℕ × List ℕ)
+  pub locations : LocationsSeen
+
+-- the path of the file that the arguments name for a URL
+abbrev pub argument_path : List (List ℕ × List ℕ) → (url : List ℕ) → Option (List ℕ)
+argument_path [] url = None
+argument_path ((named, path) ∷ arguments) url =
+    if bytes_eq named url && not (is_rule named path) then Some path else argument_path arguments url
+
+abbrev pub or_path : Option (List ℕ) → (other : Option (List ℕ)) → Option (List ℕ)
+or_path None other = other
+or_path (Some path) other = Some path
+
+-- the path of the map of a URL
+abbrev pub path_named : Programs → (url : List ℕ) → Option (List ℕ)
+path_named programs url = or_path (argument_path programs.arguments url) (path_for programs.locations url)
+
+-- ---- what comes of a program
+
+module _ (Reads : MayRead) where
+  -- the file beside a map at a path that states this has these declarations; or none are listed, and this is said
+  abbrev pub ListsFile : (number : ℕ) → (path file : List ℕ) → MapRecord → NamesCame → Said → Type 0
+  ListsFile number path file stated (Some (listed, file_bytes)) said =
+      (text : List ℕ) × Reads number file (Ok text) × (is_generated stated text ≡ true) × IsPermutation (declarations_of stated text) listed
+      × (file_bytes ≡ length text) × (said ≡ nothing)
+  ListsFile number path file stated None said =
+      (Reads number file (Err Device) × (said ≡ line (no_file_text file)))
+      ⊎ ((bytes : List ℕ) × Reads number file (Ok bytes) × (is_generated stated bytes ≡ false) × (said ≡ line (misfit_text path file)))
+
+  -- the same of the map at a path
+  abbrev pub ListsBeside : (number : ℕ) → (path : List ℕ) → MapRecord → NamesCame → Said → Type 0
+  ListsBeside number path stated came said =
+      MatchOption (generated_path path) ((came ≡ None) × (said ≡ line (no_file_beside_text path)))
+      (λ file. ListsFile number path file stated came said)
+
+  -- of a URL that has a path, or none
+  abbrev pub ListsAt : (number : ℕ) → (path : Option (List ℕ)) → MapRecord → NamesCame → Said → Type 0
+  ListsAt number None stated came said = (came ≡ None) × (said ≡ nothing)
+  ListsAt number (Some path) stated came said = ListsBeside number path stated came said
+
+  module _ (programs : Programs) where
+    -- of a URL, unless memory ran out
+    abbrev pub Lists : (url : List ℕ) → MapRecord → NamesCame → Said → Type 0
+    Lists url stated came said =
+        ((came ≡ None) × (said ≡ shortage)) ⊎ ListsAt programs.number (path_named programs url) stated came said
+
+    -- what it comes to, and what was told before and after that
+    abbrev pub NamesBy : ToldSeen → (url : List ℕ) → MapRecord → NamesCame → ToldSeen → Type 0
+    NamesBy told url stated came after = (said : Said) × Lists url stated came said × Tells told said after
+
+    -- which declarations a program may have
+    abbrev pub MayNameBy : ToldSeen → (url : List ℕ) → MapRecord → Option (List Named) → Type 0
+    MayNameBy told url stated kept = (came : NamesCame) × (said : Said) × Lists url stated came said × (kept ≡ declared_in came)
+
+-- ---- what lists them
+
+abbrev pub programs_seen : {F : Type 0} → FileNamer F → Programs
+programs_seen namer = record {
+  number = namer.number;
+  arguments = map argument_of namer.arguments.now;
+  locations = namer.locations.now;
+}
+
+-- it reads the same files
+pub record IsSameNamer {F : Type 0} (old new : FileNamer F) : Type 0 where
+  pub files : new.files ≡ old.files
+  pub number : new.number ≡ old.number
+  pub arguments : new.arguments ≡ old.arguments
+  pub locations : new.locations ≡ old.locations
+
+-- ---- at the end
+
+-- what is told, where memory may have run out for what is remembered
+abbrev pub told_at_end : NamesCache → ToldSeen → ToldSeen
+told_at_end names told = record told { short = told.short || nat_lt 0 names.shortages }
+
+-- behind the lines that memory ran out
+abbrev pub names_text : ToldSeen → List ℕ
+names_text told = told.text ++ (if told.short then memory_line else [])
+
+abbrev pub has_told : ToldSeen → Bool
+has_told told = told.short || nat_lt 0 (length told.text)
+
+abbrev pub names_status : ToldSeen → ℕ
+names_status told = if told.short then 3 else 0
+
+-- what was told is reported, or that memory ran out for it, and this is the status of that
+abbrev pub ReportsNames : ToldSeen → (status : ℕ) → (before after : SinkSeen) → Type 0
+ReportsNames told status before after =
+    MatchBool (has_told told)
+    (((status ≡ names_status told) × IsReportedTo before after (names_text told)) ⊎ ((status ≡ 3) × IsReportedTo before after memory_line))
+    ((status ≡ 0) × (after ≡ before))
+
+-- of a text that was rewritten to its end
+abbrev pub TellsNames : {C : Type 0} → ToldSeen → Result C LineFault → (status : ℕ) → (before after : SinkSeen) → Type 0
+TellsNames told (Ok counts) status before after = ReportsNames told status before after
+TellsNames told (Err fault) status before after = (status ≡ 0) × (after ≡ before)

@@ -1,0 +1,81 @@
+"""Names of functions in Python: a map is given its generated file. What is expected is worked out by hand."""
+
+import pathlib
+import tempfile
+
+from smap import Refused, SourceMap
+
+# Line 0: `fe` was written as `main`, and `b` as it is; `c` is a property. Line 1: `fe` again, of which the map says nothing.
+TEXT = "function fe(){throw x}function b(){}o.c=()=>{}\nfe=()=>{}"
+MAP = '{"version":3,"sources":["a.ts"],"names":["main"],"mappings":"SAAAA,sBAAA"}'
+
+reported = 0
+
+
+def same(got, wanted):
+    global reported
+    assert got == wanted, f"{got!r} in place of {wanted!r}"
+    reported += 1
+
+
+def refuses(kind, call, message, code=None):
+    global reported
+    try:
+        call()
+    except kind as error:
+        assert message in str(error) and getattr(error, "code", None) == code, repr(error)
+        reported += 1
+        return
+    raise AssertionError(f"no {kind.__name__}")
+
+
+def named(source_map):
+    return [source_map.function_name(*asked) for asked in [
+        (0, 14, "fe"), (0, 14, "async fe"), (0, 9, "new fe"), (0, 35, "b")]]
+
+
+def unnamed(source_map):
+    return [source_map.function_name(*asked) for asked in [
+        (0, 8, "fe"), (0, 30, "fe"), (1, 8, "fe"), (0, 45, "c"), (0, 14, "Object.fe"), (0, 14, "<anonymous>"), (0, 14, "f"), (0, 14, ""),
+        (0, 14, "fe "), (0, 14, "\udc00"), (2 ** 40, 2 ** 40, "fe"), (0, 14, "async async fe")]]
+
+
+with tempfile.TemporaryDirectory() as folder:
+    path = pathlib.Path(folder, "a.js")
+    path.write_text(TEXT)
+    for generated in (TEXT, TEXT.encode(), bytearray(TEXT.encode()), "\ufeff" + TEXT, path):
+        source_map = SourceMap(MAP)
+        same(source_map.with_generated(generated) is source_map, True)
+        same(named(source_map), ["main", "main", "main", "b"])
+        same(unnamed(source_map), [None] * 12)
+        source_map.close()
+        refuses(ValueError, lambda: source_map.function_name(0, 14, "fe"), "closed")
+        refuses(ValueError, lambda: source_map.with_generated(TEXT), "closed")
+
+# Another file takes the place of the first, and one that is refused does not.
+source_map = SourceMap(MAP)
+refuses(ValueError, lambda: source_map.function_name(0, 14, "fe"), "no generated file")
+refuses(Refused, lambda: source_map.with_generated("function fe"), "A4 Misfit", "A4")
+refuses(ValueError, lambda: source_map.function_name(0, 14, "fe"), "no generated file")
+source_map.with_generated(TEXT)
+for generated, code in ((b"\xff", "NotUtf8"), (bytes(67108865), "M1"), (TEXT[:30], "A4")):
+    refuses(Refused, lambda: source_map.with_generated(generated), code, code)
+    same(named(source_map), ["main", "main", "main", "b"])
+source_map.with_generated(TEXT.replace("fe", "gi"))
+same(source_map.function_name(0, 14, "fe"), None)
+same(source_map.function_name(0, 14, "gi"), "main")
+
+# A name that is none, as one that would not be one in JSON, is not handed out.
+for name in ('","admin":true,"', "", "a b"):
+    other = SourceMap(MAP.replace('"main"', f'"{name}"' if name != '","admin":true,"' else '"\\",\\"admin\\":true,\\""'))
+    same(other.with_generated(TEXT).function_name(0, 14, "fe"), None)
+same(SourceMap(MAP.replace("main", "é")).with_generated(TEXT).function_name(0, 14, "fe"), "é")
+
+for asked in ((0, 14, b"fe"), (0, 14, None), ("0", 14, "fe"), (0, 1.5, "fe")):
+    refuses(TypeError, lambda: source_map.function_name(*asked), "")
+for asked in ((-1, 14, "fe"), (0, -1, "fe")):
+    refuses(ValueError, lambda: source_map.function_name(*asked), "")
+for generated in (None, 7, ["a"]):
+    refuses(TypeError, lambda: source_map.with_generated(generated), "generated file")
+
+print("names", reported)
