@@ -94,7 +94,8 @@ fn put_mappings<W: ByteSink>(
     options: MappingsOptions,
     output: &mut LineOutput<'_, W>,
 ) -> Result<(), DeviceFault>
-    ensures { IsPut W.seen output.old output.new (text_with_id options (option_copied id.entry) map.now.stated) result }
+    ensures { IsPut W.seen output.old output.new
+        (text_with_id options (option_copied id.entry) map.now.stated) result }
 {
     let mut lines = GatheredLine {
         output,
