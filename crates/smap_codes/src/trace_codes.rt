@@ -30,9 +30,7 @@ pub const A3: &Row = &Row {
 
 pub const A4: &Row = &Row {
     code: Code::A4,
-    meaning: "\
-        The map is not that of the generated file that a caller of the library gives for the names of \
-        functions.",
+    meaning: "The map does not fit the generated file that it is taken with.",
     cause: "The map or the file is of another release, or the file was changed after it was built.",
     remedy: "`smap fit MAP FILE` says where they differ. Give the two of one build.",
 };
