@@ -121,6 +121,7 @@ fn options(less: &str) -> ComposeOptions {
     ComposeOptions {
         prune: matches!(less, "prune" | "both"),
         no_content: matches!(less, "bare" | "both"),
+        debug_id: false,
     }
 }
 

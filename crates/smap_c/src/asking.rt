@@ -32,6 +32,7 @@ pub extern "C" fn smap_folder_path(
     ensures refused { result ≡ 1 → (IsUtf8 prefix.now → ⊥) ⊎ (IsUtf8 folder.now → ⊥)
         ⊎ (folder_path prefix.now folder.now url.now ≡ None) }
     ensures sound { folder_path prefix.now folder.now url.now ≡ None → result ≢ 0 }
+    ensures taken { result ≡ 0 → IsUtf8 prefix.now × IsUtf8 folder.now }
     ensures stays { result ≢ 0 → path.new.held ≡ path.old.held }
     ensures status { (result ≡ 0) ⊎ (result ≡ 1) ⊎ (result ≡ 3) }
 {

@@ -96,6 +96,7 @@ pub extern "C" fn smap_bytes_put_debug_id(alloc: Global, bytes: &mut BytesHandle
     ensures refused { result ≡ 1 → IfSome bytes.old.held (λ text.
         (length text ≡ 0) ⊎ (IsUtf8 id.now → ⊥)) }
     ensures sound { IsUtf8 id.now → IfSome bytes.old.held (λ text. 0 < length text → result ≢ 1) }
+    ensures taken { result ≡ 0 → IsUtf8 id.now × IsSomeAnd bytes.old.held (λ text. 0 < length text) }
     ensures stays { result ≢ 0 → bytes.new.held ≡ bytes.old.held }
     ensures status { (result ≡ 0) ⊎ (result ≡ 1) ⊎ (result ≡ 3) }
 {

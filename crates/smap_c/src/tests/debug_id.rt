@@ -34,6 +34,7 @@ fn debug_ids_are_handed_out_and_written(rt: HostRuntime) -> Result<(), Fail> {
     assert_bytes(&rt, &mut id, "a\u{e9}");
     let mut text = no_bytes(alloc)?;
     assert_done(&rt, smap_map_write(alloc, &mut map, &mut text));
+    assert_refused(&rt, smap_bytes_put_debug_id(alloc, &mut text, b"q\xff"));
     assert_done(
         &rt,
         smap_bytes_put_debug_id(alloc, &mut text, "q\"".as_bytes()),

@@ -149,7 +149,7 @@ fn declarations_are_those_of_the_header() {
     let header = std::fs::read_to_string(env!("SMAP_HEADER")).expect("the header is there");
     let (wanted, given) = (wanted(&header), given(include_str!("../sys.rs")));
     let laid_out = include_str!("../sys.rs").matches("#[repr(C)]").count();
-    let codes = header.matches("SMAP_CODE_").count();
+    let codes = without(&header, "/*", "*/").matches("SMAP_CODE_").count();
     let parts = codes + header.lines().filter(|line| begins_part(line)).count();
     assert_eq!(wanted.len(), parts, "the header is not understood");
     assert_eq!(laid_out, header.matches("typedef struct").count());
@@ -199,6 +199,7 @@ fn sizes_and_offsets_are_those_of_the_c_compiler() {
         smap_table: at;
         smap_inners: at;
         smap_originals: at;
+        smap_names: at;
         smap_url_finder: at;
         smap_bytes: at;
         smap_store: at;
