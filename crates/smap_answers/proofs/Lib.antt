@@ -1,1 +1,2 @@
 mod OverLaws
+mod TellingLaws

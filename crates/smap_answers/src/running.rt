@@ -1,6 +1,6 @@
 //! Running a command over its files and streams.
 ghost use Rattle.std.specs.Prelude.{◌≡◌, false, None, Option, option_copied};
-ghost use Rattle.smap_replies.specs.Files.{gives_loaded};
+ghost use Rattle.smap_replies.specs.Files.{causes_loaded, gives_loaded};
 ghost use Rattle.smap_answers.specs.Private.Place.{place_of};
 ghost use Rattle.smap_answers.specs.Run.{Runs, RunsOver, RunsTold};
 ghost use Rattle.smap_command.specs.Runnable.{IsRunnable, strips_ansi};
@@ -35,7 +35,8 @@ pub fn run<R: ByteSource, W: ByteSink, E: ByteSink>(
     requires input_works { (R.seen input.old).failed ≡ false }
     requires output_works { (W.seen output.old).failed ≡ false }
     requires errors_work { (E.seen errors.old).failed ≡ false }
-    ensures { (first : Option Code) × RunsTold (gives_loaded files.now) false command.now result
+    ensures { (first : Option Code) × RunsTold (gives_loaded files.now) (causes_loaded files.now) false
+        command.now result
         (streams_seen (R.seen input.old) (W.seen output.old) (E.seen errors.old) None)
         (streams_seen (R.seen input.new) (W.seen output.new) (E.seen errors.new) first) }
 {
@@ -74,7 +75,7 @@ pub fn run_reading<F: FileReader, R: ByteSource, W: ByteSink, E: ByteSink>(
     requires input_works { (R.seen input).failed ≡ false }
     requires output_works { (W.seen output.old).failed ≡ false }
     requires errors_work { (E.seen errors.old).failed ≡ false }
-    ensures { RunsOver (F.gives reader.now) hint command.now result.0
+    ensures { RunsOver (F.gives reader.now) (F.causes reader.now) hint command.now result.0
         (streams_seen (R.seen input) (W.seen output.old) (E.seen errors.old) first.old)
         (streams_seen (R.seen result.1) (W.seen output.new) (E.seen errors.new) first.new) }
 {
@@ -122,7 +123,7 @@ fn run_told<F: FileReader, R: ByteSource, W: ByteSink, E: ByteSink>(
     requires input_works { (R.seen input.old).failed ≡ false }
     requires output_works { (W.seen output.old).failed ≡ false }
     requires errors_work { (E.seen errors.old).failed ≡ false }
-    ensures { RunsTold (F.gives reader.now) hint command.now result
+    ensures { RunsTold (F.gives reader.now) (F.causes reader.now) hint command.now result
         (streams_seen (R.seen input.old) (W.seen output.old) (E.seen errors.old) first.old)
         (streams_seen (R.seen input.new) (W.seen output.new) (E.seen errors.new) first.new) }
 {
@@ -146,7 +147,7 @@ fn run_over<F: FileReader, R: ByteSource, W: ByteSink, E: ByteSink>(
     requires input_works { (R.seen input.old).failed ≡ false }
     requires output_works { (W.seen output.old).failed ≡ false }
     requires errors_work { (E.seen errors.old).failed ≡ false }
-    ensures { Runs (F.gives reader.now) hint command.now result
+    ensures { Runs (F.gives reader.now) (F.causes reader.now) hint command.now result
         (streams_seen (R.seen input.old) (W.seen output.old) (E.seen errors.old) first.old)
         (streams_seen (R.seen input.new) (W.seen output.new) (E.seen errors.new) first.new) }
 {

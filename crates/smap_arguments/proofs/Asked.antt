@@ -266,16 +266,19 @@ rewrite_plain = (
                 (
                   flag_plain 2 (codes "names") refl,
                   (
-                    required_plain 2,
+                    flag_plain 2 (codes "fit") refl,
                     (
-                      missing_plain 2,
+                      required_plain 2,
                       (
-                        cache_plain 2,
+                        missing_plain 2,
                         (
-                          limit_plain 2,
+                          cache_plain 2,
                           (
-                            flag_plain 2 (codes "summary") refl,
-                            (flag_plain 2 (codes "explain") refl, (flag_plain 2 (codes "strip-ansi") refl, (help_plain, tt))),
+                            limit_plain 2,
+                            (
+                              flag_plain 2 (codes "summary") refl,
+                              (flag_plain 2 (codes "explain") refl, (flag_plain 2 (codes "strip-ansi") refl, (help_plain, tt))),
+                            ),
                           ),
                         ),
                       ),

@@ -159,6 +159,7 @@ GivesFurther rows options = GivesList rows options.list × GivesFlag rows (codes
     × GivesFlag rows (codes "summary") options.summary × GivesFlag rows (codes "strip-ansi") options.strip_ansi
     × (texts options.hide.items ≡ words_of rows (codes "TEXT")) × GivesFlag rows (codes "explain") options.explain
     × GivesFlag rows (codes "paths") options.paths × GivesFlag rows (codes "names") options.names
+    × GivesFlag rows (codes "fit") options.fit
     × GivesRequired rows options.required × GivesWord rows (codes "HOW") (codes "ok") options.missing_ok
 
 -- ---- the arguments of `positions` and `locate`

@@ -158,8 +158,8 @@ sources = with_rules (codes "sources") sources_rules
 abbrev pub rewrite_rules : List Rule
 rewrite_rules = texts_rule false (codes "URL=FILE") ∷ list_rule (codes "maps") ∷ base_rule ∷ interval_rule
     ∷ flag_rule (codes "hide-ignored") ∷ repeated_rule (codes "TEXT") (codes "hide") ∷ flag_rule (codes "anywhere")
-    ∷ flag_rule (codes "paths") ∷ flag_rule (codes "names") ∷ required_rule ∷ missing_rule ∷ bytes_rule 0 (codes "cache")
-    ∷ bytes_rule 1 (codes "limit") ∷ flag_rule (codes "summary") ∷ flag_rule (codes "explain") ∷ flag_rule (codes "strip-ansi") ∷ []
+    ∷ flag_rule (codes "paths") ∷ flag_rule (codes "names") ∷ flag_rule (codes "fit") ∷ required_rule ∷ missing_rule
+    ∷ bytes_rule 0 (codes "cache") ∷ bytes_rule 1 (codes "limit") ∷ flag_rule (codes "summary") ∷ flag_rule (codes "explain") ∷ flag_rule (codes "strip-ansi") ∷ []
 
 abbrev pub rewrite : App
 rewrite = with_rules (codes "rewrite") rewrite_rules

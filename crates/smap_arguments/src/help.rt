@@ -351,6 +351,9 @@ pub const NAMES_HELP: &str = "\
 Name functions as they were written, where the generated file beside a map, FILE without its
 last `.map`, says it; not with --anywhere";
 
+pub const MISFITS_REFUSED_HELP: &str =
+    "Refuse a map that does not fit the generated file beside it, FILE without its last `.map`";
+
 pub const REQUIRED_HELP: &str = "\
 Report it, with status 1, where the text has frames and none gets its place or, written
 --require-mapped=PERCENT, fewer than so many of a hundred, 1 to 100";

@@ -117,6 +117,7 @@ fn further_in(alloc: Global, matches: &ArgMatches<'_>) -> Result<FurtherOptions,
         explain: flag_in(matches, "explain"),
         paths: flag_in(matches, "paths"),
         names: flag_in(matches, "names"),
+        fit: flag_in(matches, "fit"),
         required: required_in(matches),
         missing_ok,
     })

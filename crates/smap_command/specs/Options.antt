@@ -26,7 +26,7 @@ leaves_out options = options.prune || options.no_content
 abbrev pub are_further : FurtherOptions → Bool
 are_further options = is_some options.list || (options.anywhere || (is_some options.cache_bytes || (is_some options.limit_bytes
     || (options.summary || (not (vec_len options.hide == 0) || (options.explain || (options.paths || (options.names
-    || (is_some options.required || options.missing_ok)))))))))
+    || (options.fit || (is_some options.required || options.missing_ok))))))))))
 
 -- where they say how many bytes may be kept and how many are taken, as many may be, and at least one is taken
 abbrev pub HasBytes : FurtherOptions → Type 0

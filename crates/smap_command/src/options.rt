@@ -176,6 +176,8 @@ pub struct FurtherOptions {
     pub paths: bool,
     /// Whether frames get the names of functions that were written, where the generated files beside the maps say them.
     pub names: bool,
+    /// Whether a map that does not fit the generated file beside it counts as refused.
+    pub fit: bool,
     /// How many of the frames are to get their places, where it is reported if fewer do.
     pub required: Option<Required>,
     /// Whether a map that is not there changes no status.
@@ -200,6 +202,7 @@ impl FurtherOptions {
             explain: false,
             paths: false,
             names: false,
+            fit: false,
             required: None,
             missing_ok: false,
         }
@@ -218,6 +221,7 @@ impl FurtherOptions {
             || self.explain
             || self.paths
             || self.names
+            || self.fit
             || self.required.is_some()
             || self.missing_ok
     }

@@ -10,7 +10,9 @@ use Rattle.smap_locations.specs.ListLine.{line_entry}
 use Rattle.smap_map_answers.specs.ComposeAll.{NamesEntry, NamesInners, NamesLines, NamesPair, NamesWords, ReadsInners, ReadsSource}
 use Rattle.smap_map_answers.specs.ComposeAll.{GathersInners, ReportsInners, pair_of}
 use Rattle.smap_map_answers.specs.Compose.{compose_refusal_result}
+use Rattle.smap_map_answers.specs.Warning.{IsWarned, warnings}
 use Rattle.smap_map_answers.specs.Written.{report_or, written_of}
+use Rattle.smap_io.specs.Device.{SinkSeen}
 use Rattle.smap_command.specs.declared.options.WriteOptions.{WriteOptions}
 use Rattle.smap_compose.specs.Composition.{all_composed}
 use Rattle.smap_replies.specs.Files.{MayRead}
@@ -67,23 +69,24 @@ one_stated inners inner = map-append (option_map (λ (read : Map). read.stated))
 -- ---- all of it
 
 module _ (Reads : MayRead) (options : WriteOptions) (words : List (List ℕ × List ℕ)) (list : Option (List ℕ)) (id : Option (List ℕ))
-    (outer : MapRecord) (report : Report) where
+    (outer : MapRecord) (before after : SinkSeen) (report : Report) where
   -- an inner map is refused
-  pub inners_failed : (◌≡◌ {A = Result (List (Option MapRecord)) Report} (Err report) (Err out_of_memory))
-      ⊎ GathersInners Reads outer.sources words list (Err report) → OrMemory (ReportsInners Reads options words list id outer) report
-  inners_failed (inl no_memory) = inl (same_reported no_memory)
+  pub inners_failed : after ≡ before → (◌≡◌ {A = Result (List (Option MapRecord)) Report} (Err report) (Err out_of_memory))
+      ⊎ GathersInners Reads outer.sources words list (Err report) → ReportsInners Reads options words list id outer before after report
+  inners_failed same (inl no_memory) = inl (same, inl (same_reported no_memory))
     where
       same_reported : ◌≡◌ {A = Result (List (Option MapRecord)) Report} (Err report) (Err out_of_memory) → report ≡ out_of_memory
       same_reported is = cc
-  inners_failed (inr gathers) = inr (Err report, gathers, inr refl)
+  inners_failed same (inr gathers) = inl (same, inr gathers)
 
   -- or all are composed
   pub inners_composed : (inners : List (Option MapRecord))
       → (◌≡◌ {A = Result (List (Option MapRecord)) Report} (Ok inners) (Err out_of_memory)) ⊎ GathersInners Reads outer.sources words list (Ok inners)
+      → IsWarned (warnings outer.sources inners) before after
       → OrMemory (λ reported. reported ≡ report_or compose_refusal_result (written_of options id (all_composed outer inners))) report
-      → OrMemory (ReportsInners Reads options words list id outer) report
-  inners_composed inners (inl no_memory) reported = cc
-  inners_composed inners (inr gathers) reported = inr (Ok inners, gathers, reported)
+      → ReportsInners Reads options words list id outer before after report
+  inners_composed inners (inl no_memory) warned reported = cc
+  inners_composed inners (inr gathers) warned reported = inr (inners, gathers, warned, reported)
 
 -- what is read of the sources is gathered, where their names are known
 pub inners_gathered : (Reads : MayRead) (sources : List StatedSource) (words : List (List ℕ × List ℕ)) (list : Option (List ℕ)) (named : Named)

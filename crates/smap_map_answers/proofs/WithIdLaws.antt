@@ -1,5 +1,5 @@
 -- A map that is read with its debug id, and a text that it is written into.
-use Rattle.std.proofs.Common.{◌≡◌, ◌<◌, ℕ, Bool, List, Option, Result, Some, None, Ok, Err, arith, inl, inr, length, subst, sym}
+use Rattle.std.proofs.Common.{◌<◌, ℕ, Bool, List, Option, Result, Ok, Err, arith, inl, inr, length, subst, sym}
 use Rattle.smap_map_answers.specs.WithId.{IsStatedWithId, ReportsMapWithId, id_where}
 use Rattle.smap_record.specs.Record.{MapRecord, record_of}
 use Rattle.smap_record.specs.Sources.{StatedSource}

@@ -26,13 +26,13 @@ use Rattle.smap_map_answers.specs.Compose.{compose_refusal_result}
 use Rattle.smap_replies.specs.Files.{MayRead, IsUnread}
 use Rattle.smap_replies.specs.Lines.{argument_refused_line}
 use Rattle.smap_map_answers.specs.ComposedLines.{no_source_named_text}
-use Rattle.smap_replies.specs.Map.{refusal_result, refused_file}
+use Rattle.smap_replies.specs.Map.{Never, ReportsMap, refusal_result, refused_file}
 use Rattle.smap_replies.specs.Outcome.{OrMemory, Report, misuse, out_of_memory, refusal}
 use Rattle.smap_replies.specs.Lists.{list_bytes_refusal, list_refusal}
 use Rattle.smap_replies.specs.Arguments.{argument_of, argument_text}
 use Rattle.smap_replies.specs.Standing.{record_standing}
 use Rattle.smap_replies.specs.Standing.StandingSeen.{at_url}
-use Rattle.smap_map_answers.specs.WithId.{ReportsMapWithId}
+use Rattle.smap_map_answers.specs.WithId.{IsStatedWithId}
 use Rattle.smap_map_answers.specs.Written.{written_result}
 use Rattle.smap_io.specs.Device.{SinkSeen}
 use Rattle.smap_map_answers.specs.Warning.{IsWarned, warnings}
@@ -147,23 +147,30 @@ GathersInners Reads sources words list result =
     (named : Result Named Report) × NamesInners Reads sources words list named
     × OrRefused named (λ named. ReadsInners Reads named sources []) result
 
--- what is said of them: a refusal, or the composed map
-abbrev pub inners_result : WriteOptions → (id : Option (List ℕ)) (outer : MapRecord) → Result (List (Option MapRecord)) Report → Report
-inners_result options id outer (Err refused) = refused
-inners_result options id outer (Ok inners) = written_result compose_refusal_result options id (all_composed outer inners)
+-- what is said of an outer map and of those of its sources
+abbrev pub inners_result : WriteOptions → (id : Option (List ℕ)) (outer : MapRecord) (inners : List (Option MapRecord)) → Report
+inners_result options id outer inners = written_result compose_refusal_result options id (all_composed outer inners)
 
--- what is said of an outer map that has this debug id, where it is written, and states this
+-- standard error is warned of the maps that do not fit their sources, and what all come to is said
+abbrev pub ComposesInners : MayRead → WriteOptions → List (List ℕ × List ℕ) → (list : Option (List ℕ)) → (id : Option (List ℕ)) → (outer : MapRecord)
+    → (before after : SinkSeen) → Report → Type 0
+ComposesInners Reads options words list id outer before after report =
+    (inners : List (Option MapRecord)) × GathersInners Reads outer.sources words list (Ok inners)
+    × IsWarned (warnings outer.sources inners) before after
+    × OrMemory (λ reported. reported ≡ inners_result options id outer inners) report
+
+-- what is said of an outer map that has this debug id, where it is written, and states this; where an inner map is refused, standard
+-- error is warned of nothing
 abbrev pub ReportsInners : MayRead → WriteOptions → List (List ℕ × List ℕ) → (list : Option (List ℕ)) → (id : Option (List ℕ)) → (outer : MapRecord)
-    → Report → Type 0
-ReportsInners Reads options words list id outer report =
-    (gathered : Result (List (Option MapRecord)) Report) × GathersInners Reads outer.sources words list gathered
-    × OrMemory (λ reported. reported ≡ inners_result options id outer gathered) report
+    → (before after : SinkSeen) → Report → Type 0
+ReportsInners Reads options words list id outer before after report =
+    ((after ≡ before) × OrMemory (λ reported. GathersInners Reads outer.sources words list (Err reported)) report)
+    ⊎ ComposesInners Reads options words list id outer before after report
 
 -- what is said of the outer map, which is read first
-abbrev pub ReportsAllComposed : MayRead → ComposeAll → Report → Type 0
-ReportsAllComposed Reads asked = ReportsMapWithId Reads 0 (string_bytes asked.outer) asked.base usual_interval asked.options.keep_debug_id
-    (ReportsInners Reads asked.options (map argument_of asked.inners.items) (option_map string_bytes asked.list))
-
--- standard error is warned of those that do not fit their sources, where all files are maps
-abbrev pub WarnsAll : (before after : SinkSeen) → Type 0
-WarnsAll before after = (after ≡ before) ⊎ ((outer : MapRecord) × (inners : List (Option MapRecord)) × IsWarned (warnings outer.sources inners) before after)
+abbrev pub ReportsAllComposed : MayRead → ComposeAll → (before after : SinkSeen) → Report → Type 0
+ReportsAllComposed Reads asked before after report =
+    ((after ≡ before) × OrMemory (ReportsMap Reads 0 (string_bytes asked.outer) asked.base usual_interval Never) report)
+    ⊎ ((id : Option (List ℕ)) × (outer : MapRecord)
+    × IsStatedWithId Reads 0 (string_bytes asked.outer) asked.base usual_interval asked.options.keep_debug_id id outer
+    × ReportsInners Reads asked.options (map argument_of asked.inners.items) (option_map string_bytes asked.list) id outer before after report)

@@ -1,5 +1,5 @@
 -- What `compose` warns of: a map that may be that of another file than the source with which it is composed (this project's own).
-use Rattle.std.specs.Prelude.{◌≡◌, ◌⊎◌, ℕ, ◌++◌, Bool, false, not, List, [], ◌∷◌, Option, Some, None, codes, if◌then◌else◌, length, map, option_and_then, slice_get}
+use Rattle.std.specs.Prelude.{◌≡◌, ℕ, ◌==◌, Bool, MatchBool, false, not, List, [], ◌∷◌, Option, Some, None, codes, if◌then◌else◌, length, map, option_and_then, slice_get}
 use Rattle.std.specs.List.{concat, range_with_len}
 use Rattle.std.specs.Option.{option_map_or}
 use Rattle.smap_command.specs.Lines.{line_from}
@@ -44,6 +44,6 @@ warning_at sources inners i = option_map_or (warning_of sources i) (inner_at inn
 unfoldable pub warnings : List StatedSource → List (Option MapRecord) → List ℕ
 warnings sources inners = concat (map (warning_at sources inners) (range_with_len 0 (length inners)))
 
--- it is said, where memory is enough for that
+-- standard error is warned so, and left alone where there is nothing to warn of
 abbrev pub IsWarned : (text : List ℕ) → (before after : SinkSeen) → Type 0
-IsWarned text before after = (after ≡ before) ⊎ IsReportedTo before after text
+IsWarned text before after = MatchBool (length text == 0) (after ≡ before) (IsReportedTo before after text)

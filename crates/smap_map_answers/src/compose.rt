@@ -1,6 +1,6 @@
 //! Composing the maps of files.
 ghost use Rattle.std.specs.Prelude.{◌≡◌, MatchResult, option_copied};
-ghost use Rattle.smap_map_answers.specs.Compose.{ReportsComposed, WarnsComposed, compose_refusal_result, compose_result};
+ghost use Rattle.smap_map_answers.specs.Compose.{ReportsComposed, compose_refusal_result, compose_result};
 ghost use Rattle.smap_replies.specs.Map.{IsResult};
 ghost use Rattle.smap_replies.specs.Outcome.{OrMemory, reply_report, report_of};
 ghost use Rattle.smap_map_answers.specs.Written.{left_out_of, written_of};
@@ -33,10 +33,8 @@ pub fn answer_compose<F: FileReader, E: ByteSink>(
     options: WriteOptions,
     errors: &mut E,
 ) -> Result<Reply, Failure>
-    ensures reported { OrMemory (ReportsComposed (F.gives maps.now.files.now) options outer.now
-        source inner.now (option_copied maps.now.base)) (report_of result) }
-    ensures warned { WarnsComposed (F.gives maps.now.files.now) outer.now source inner.now
-        (option_copied maps.now.base) (E.seen errors.old) (E.seen errors.new) }
+    ensures { ReportsComposed (F.gives maps.now.files.now) options outer.now source inner.now
+        (option_copied maps.now.base) (E.seen errors.old) (E.seen errors.new) (report_of result) }
 {
     let bytes = file_bytes(alloc, maps.files, 0, outer)?;
     let keeps = options.keep_debug_id;
@@ -44,7 +42,7 @@ pub fn answer_compose<F: FileReader, E: ByteSink>(
     let bytes = file_bytes(alloc, maps.files, 1, inner)?;
     let (outer_map, id) = outer_map?;
     let inner_map = map_of(alloc, inner, Standing::At(maps.base), USUAL_INTERVAL, bytes)?;
-    warn(alloc, &outer_map, source, &inner_map, errors);
+    warn(alloc, &outer_map, source, &inner_map, errors)?;
     composed_two(alloc, outer_map, id.as_deref(), source, inner_map, options)
 }
 

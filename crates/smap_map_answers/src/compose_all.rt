@@ -1,7 +1,7 @@
 //! Composing the map of a file with those of several of its sources.
 ghost use Rattle.std.specs.Prelude.{◌≡◌, ◌≤◌, ◌⊎◌, Err, length, map, option_copied, option_map, string_bytes, IfOk};
-ghost use Rattle.smap_map_answers.specs.ComposeAll.{GathersInners, ReportsAllComposed, ReportsInners, WarnsAll};
-ghost use Rattle.smap_replies.specs.Outcome.{OrMemory, out_of_memory, reply_report, report_of};
+ghost use Rattle.smap_map_answers.specs.ComposeAll.{GathersInners, ReportsAllComposed, ReportsInners};
+ghost use Rattle.smap_replies.specs.Outcome.{out_of_memory, reply_report, report_of};
 ghost use Rattle.smap_map_answers.specs.Private.Inners.{inners_reported, inners_stated};
 ghost use Rattle.smap_replies.specs.Arguments.{argument_of};
 ghost use Rattle.smap_map_answers.specs.Written.{left_out_of, written_of};
@@ -33,9 +33,8 @@ pub fn answer_compose_all<F: FileReader, E: ByteSink>(
     asked: &ComposeAll,
     errors: &mut E,
 ) -> Result<Reply, Failure>
-    ensures reported { OrMemory (ReportsAllComposed (F.gives reader.now) asked.now)
-        (report_of result) }
-    ensures warned { WarnsAll (E.seen errors.old) (E.seen errors.new) }
+    ensures { ReportsAllComposed (F.gives reader.now) asked.now
+        (E.seen errors.old) (E.seen errors.new) (report_of result) }
 {
     let maps = MapReader::usual(reader, asked.base.as_ref());
     let keeps = asked.options.keep_debug_id;
@@ -52,13 +51,13 @@ fn composed_with<F: FileReader, E: ByteSink>(
     id: Option<&str>,
     errors: &mut E,
 ) -> Result<Reply, Failure>
-    ensures reported { OrMemory (ReportsInners (F.gives reader.now) asked.now.options
+    ensures { ReportsInners (F.gives reader.now) asked.now.options
         (map argument_of asked.now.inners.items) (option_map string_bytes asked.now.list)
-        (option_copied id.entry) outer.stated) (report_of result) }
-    ensures warned { WarnsAll (E.seen errors.old) (E.seen errors.new) }
+        (option_copied id.entry) outer.stated
+        (E.seen errors.old) (E.seen errors.new) (report_of result) }
 {
     let inners = gathered_inners(alloc, reader, asked, &outer)?;
-    warn_all(alloc, &outer, &inners, errors);
+    warn_all(alloc, &outer, &inners, errors)?;
     reported(alloc, all_line(alloc, outer, inners, id, asked.options))
 }
 

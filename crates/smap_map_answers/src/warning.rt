@@ -1,5 +1,5 @@
 //! Warning of a map that may be that of another file than the source with which it is composed.
-ghost use Rattle.std.specs.Prelude.{◌≡◌, option_copied, option_map, string_bytes, IfOk};
+ghost use Rattle.std.specs.Prelude.{◌≡◌, option_copied, option_map, string_bytes, IfOk, OnErr, OnOk};
 ghost use Rattle.smap_map_answers.specs.Private.Inners.{inners_stated};
 ghost use Rattle.smap_map_answers.specs.Warning.{IsWarned, content_of, inner_at, is_misfit, source_text, warning_at, warning_line, warning_of, warnings};
 
@@ -11,21 +11,22 @@ use smap_replies::print_error;
 use smap_text::shown;
 use std::alloc::{AllocError, Global};
 
-/// Warns where the map of this source of the outer map, from 0, does not fit the content that the outer map has of it. Where
-/// memory runs out, nothing is said.
+/// Warns where the map of this source of the outer map, from 0, does not fit the content that the outer map has of it.
 pub fn warn<E: ByteSink>(
     alloc: Global,
     outer: &MapFile,
     source: u32,
     inner: &MapFile,
     errors: &mut E,
-)
-    ensures { IsWarned (warning_of outer.now.stated.sources source inner.now.stated)
-        (E.seen errors.old) (E.seen errors.new) }
+) -> Result<(), AllocError>
+    ensures warned { OnOk result (IsWarned
+        (warning_of outer.now.stated.sources source inner.now.stated)
+        (E.seen errors.old) (E.seen errors.new)) }
+    ensures unwarned { OnErr result (E.seen errors.new ≡ E.seen errors.old) }
 {
-    if let Ok(text) = warning_of(alloc, outer, source, inner) {
-        print_warning(&text, errors);
-    }
+    let text = warning_of(alloc, outer, source, inner)?;
+    print_warning(&text, errors);
+    Ok(())
 }
 
 /// The same of the maps of all sources, of those that have one.
@@ -34,13 +35,15 @@ pub fn warn_all<E: ByteSink>(
     outer: &MapFile,
     inners: &[Option<MapFile>],
     errors: &mut E,
-)
-    ensures { IsWarned (warnings outer.now.stated.sources (inners_stated inners.now))
-        (E.seen errors.old) (E.seen errors.new) }
+) -> Result<(), AllocError>
+    ensures warned { OnOk result (IsWarned
+        (warnings outer.now.stated.sources (inners_stated inners.now))
+        (E.seen errors.old) (E.seen errors.new)) }
+    ensures unwarned { OnErr result (E.seen errors.new ≡ E.seen errors.old) }
 {
-    if let Ok(text) = warnings(alloc, outer, inners) {
-        print_warning(&text, errors);
-    }
+    let text = warnings(alloc, outer, inners)?;
+    print_warning(&text, errors);
+    Ok(())
 }
 
 // Prints a warning, where there is one.

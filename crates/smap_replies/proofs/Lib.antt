@@ -3,5 +3,6 @@ pub mod NextLaws
 pub mod RunLaws
 mod ShownLaws
 pub mod StandingLaws
+pub mod TellingLaws
 pub mod TextLaws
 pub mod WhyLaws

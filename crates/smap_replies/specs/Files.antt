@@ -1,11 +1,15 @@
 -- The files that a command names, and what reading them gives.
-use Rattle.std.specs.Prelude.{◌≡◌, ◌≢◌, ℕ, ◌⊎◌, List, Result, Ok, Err, string_bytes, slice_get, IfSome, ⊤}
+use Rattle.std.specs.Prelude.{◌≡◌, ◌≢◌, ℕ, ◌⊎◌, Bool, List, Result, Ok, Err, if◌then◌else◌, string_bytes, slice_get, IfSome, ⊤}
+use Rattle.std.specs.List.{list_any}
 use Rattle.std.specs.Option.{IsSomeAnd}
+use Rattle.std.specs.Str.{bytes_eq}
 use Rattle.smap_io.specs.declared.transfer.ReadFailure.{ReadFailure}
 use Rattle.smap_io.specs.declared.transfer.ReadFailure.TheVariants.{Device, Memory}
 use Rattle.smap_replies.specs.Lines.{file_failed_line}
 use Rattle.smap_replies.specs.Outcome.{Report, failure}
 use Rattle.smap_replies.specs.declared.files.Loaded.{Loaded}
+use Rattle.smap_replies.specs.declared.files.UnreadCause.{UnreadCause}
+use Rattle.smap_replies.specs.declared.files.UnreadCause.TheVariants.{Missing, Other}
 
 -- what reading a file may give, by the number of its path among those that the command names, from 0, and the path: bytes,
 -- or why there are none
@@ -22,6 +26,18 @@ abbrev pub gives_loaded : List Loaded → MayRead
 gives_loaded files number path (Ok bytes) = IsSomeAnd (slice_get files number) (IsLoaded path bytes)
 gives_loaded files number path (Err Device) = IfSome (slice_get files number) (λ file. string_bytes file.path ≢ path)
 gives_loaded files number path (Err Memory) = ⊤
+
+-- why the file at a path can't be read, of what may be said of that
+abbrev pub MayCause : Type 1
+MayCause = (path : List ℕ) → UnreadCause → Type 0
+
+-- one of these files has the path
+abbrev pub has_loaded : List Loaded → (path : List ℕ) → Bool
+has_loaded files path = list_any (λ file. bytes_eq (string_bytes file.path) path) files
+
+-- of a path that one of these files has nothing is known, and any other has no file
+abbrev pub causes_loaded : List Loaded → MayCause
+causes_loaded files path cause = cause ≡ (if has_loaded files path then Other else Missing)
 
 -- the file can't be read, and that is reported
 abbrev pub IsUnread : MayRead → (number : ℕ) (path : List ℕ) → Report → Type 0

@@ -1,6 +1,6 @@
 //! Where the files come from that a command names.
-ghost use Rattle.std.specs.Prelude.{Err, IfErr, IfOk, Ok, ⊤};
-ghost use Rattle.smap_replies.specs.Files.{MayRead, gives_loaded};
+ghost use Rattle.std.specs.Prelude.{◌≡◌, Err, IfErr, IfOk, Ok, ⊤};
+ghost use Rattle.smap_replies.specs.Files.{MayCause, MayRead, causes_loaded, gives_loaded, has_loaded};
 
 use smap_io::{FromStd, ReadFailure, read_all};
 use smap_record::MOST_FILE_BYTES;
@@ -12,6 +12,9 @@ use std::io;
 pub trait FileReader {
     // What reading a file may give.
     ghost gives: { Self → MayRead };
+
+    // Which causes may be told of a path.
+    ghost causes: { Self → MayCause };
 
     /// The bytes of the file at this path, whose number among the paths of the command is this, from 0. Of a longer file
     /// the first 67,108,865 will do: a map file that has so many is refused for that.
@@ -28,7 +31,8 @@ pub trait FileReader {
     }
 
     /// Why the file at this path, which could not be read, can't be.
-    fn unread_cause(&self, path: &str) -> UnreadCause;
+    fn unread_cause(&self, path: &str) -> UnreadCause
+        ensures { causes self.now path.now result };
 }
 
 /// Why a file can't be read.
@@ -44,9 +48,11 @@ pub enum UnreadCause {
     Other,
 }
 
-/// The files of the machine, of whose bytes nothing is reported.
+/// The files of the machine, of which a contract sees neither bytes nor causes.
 impl FileReader for HostRuntime {
     ghost gives = { λ rt number path result. ⊤ };
+
+    ghost causes = { λ rt path cause. ⊤ };
 
     // A byte more than a map file may have shows that it is too large.
     fn read_file(&self, alloc: Global, _number: usize, path: &str) -> Result<Vec<u8>, ReadFailure> {
@@ -117,6 +123,8 @@ pub struct LoadedFiles<'a>(pub &'a [Loaded]);
 impl FileReader for LoadedFiles<'_> {
     ghost gives = { λ files. gives_loaded files.0.now };
 
+    ghost causes = { λ files. causes_loaded files.0.now };
+
     fn read_file(&self, alloc: Global, number: usize, path: &str) -> Result<Vec<u8>, ReadFailure> {
         let LoadedFiles(files) = *self;
         let Some(file) = files.get(number) else {
@@ -133,10 +141,17 @@ impl FileReader for LoadedFiles<'_> {
 
     fn unread_cause(&self, path: &str) -> UnreadCause {
         let LoadedFiles(files) = *self;
-        if files.iter().any(|file| file.path.as_str() == path) {
+        if has_loaded(files, path) {
             UnreadCause::Other
         } else {
             UnreadCause::Missing
         }
     }
+}
+
+// Whether one of these files has the path.
+fn has_loaded(files: &[Loaded], path: &str) -> bool
+    ensures { result ≡ has_loaded files.now path.now }
+{
+    files.iter().any(|file| file.path.as_str() == path)
 }

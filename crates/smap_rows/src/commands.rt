@@ -176,14 +176,17 @@ fn reading_flags_text(alloc: Global, options: &FurtherOptions) -> Result<String,
 
 // The options of what is read beside the maps, and of the status.
 fn reading_more_text(alloc: Global, options: &FurtherOptions) -> Result<String, AllocError> {
-    let names = flag_text(options.names, " by names");
+    let (names, fit) = (
+        flag_text(options.names, " by names"),
+        flag_text(options.fit, " with fit"),
+    );
     let missing = flag_text(options.missing_ok, " if there");
     let required = match options.required {
         Some(Required::One) => String::from_str(alloc, " one")?,
         Some(Required::Percent(percent)) => number_text(alloc, " percent ", Some(percent))?,
         None => String::new(alloc),
     };
-    format!(in alloc; "{names}{missing}{required}")
+    format!(in alloc; "{names}{fit}{missing}{required}")
 }
 
 fn locating_text(alloc: Global, asked: &Locate) -> Result<String, AllocError> {

@@ -29,6 +29,8 @@ impl<'a> RowFiles<'a> {
 impl FileReader for RowFiles<'_> {
     ghost gives = { λ files number path result. ⊤ };
 
+    ghost causes = { λ files path cause. ⊤ };
+
     fn read_file(&self, alloc: Global, number: usize, path: &str) -> Result<Vec<u8>, ReadFailure> {
         for (held, bytes) in &self.held {
             if held.as_str() == path {

@@ -2,10 +2,11 @@
 ghost use Rattle.std.specs.Prelude.{⊤, IfOk};
 ghost use Rattle.smap_answers.specs.Run.{IsRunnable};
 
-use smap_answers::{FileReader, UnreadCause, run_reading};
+use smap_answers::{FileReader, run_reading};
 use smap_arguments::{Usage, parse};
 use smap_command::Command;
 use smap_io::{MemorySink, MemorySource, ReadFailure};
+use smap_replies::UnreadCause;
 use std::alloc::{AllocError, Global};
 
 /// Files in memory: the path of each, and its text. Of two with one path the first is read.
@@ -14,6 +15,8 @@ pub struct HeldFiles<'a>(pub &'a [(&'a str, &'a str)]);
 
 impl FileReader for HeldFiles<'_> {
     ghost gives = { λ files number path result. ⊤ };
+
+    ghost causes = { λ files path cause. ⊤ };
 
     fn read_file(&self, alloc: Global, _number: usize, path: &str) -> Result<Vec<u8>, ReadFailure> {
         for (held, text) in self.0 {

@@ -10,7 +10,8 @@ use Rattle.smap_text_answers.specs.Request.{RequestSeen}
 use Rattle.smap_replies.specs.Files.{MayRead}
 use Rattle.smap_store.specs.Named.{GivesNamed}
 use Rattle.smap_store.specs.Names.{names_at_first}
-use Rattle.smap_text_answers.specs.Names.{MayNameBy, nothing_told}
+use Rattle.smap_text_answers.specs.Names.{MayNameBy}
+use Rattle.smap_text_answers.specs.Told.{nothing_told}
 use Rattle.smap_text_answers.specs.RewriteFrom.{RewritesTextFront, places_asked, programs_of, urls_of}
 use Rattle.smap_text_answers.proofs.NamedLaws.{names_front_none}
 use Rattle.smap_text_answers.specs.declared.sources.MapSources.{MapSources}

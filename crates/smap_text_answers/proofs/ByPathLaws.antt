@@ -21,7 +21,7 @@ use Rattle.smap_command.specs.declared.asked.Locate.{Locate}
 use Rattle.smap_command.specs.declared.options.AnswerOptions.{AnswerOptions}
 use Rattle.smap_record.specs.Record.{MapRecord}
 use Rattle.smap_record.specs.declared.refusal.MapRefusal.{MapRefusal}
-use Rattle.smap_replies.specs.Files.{MayRead}
+use Rattle.smap_replies.specs.Files.{MayCause, MayRead}
 use Rattle.smap_replies.specs.Outcome.{Report}
 use Rattle.smap_replies.specs.Streams.{Streams}
 use Rattle.smap_store.specs.Cache.{IsEmpty, kept_under}
@@ -36,6 +36,7 @@ use Rattle.smap_text_answers.specs.Loader.{FailsWith, LoaderSeen, Loads}
 use Rattle.smap_text_answers.specs.SameBytes.{BytesByPath, ReadsAlike}
 use Rattle.smap_text_answers.specs.Standing.{record_loaded}
 use Rattle.smap_text_answers.specs.StoreRun.{store_start}
+use Rattle.smap_text_answers.specs.Told.{nothing_told}
 use Rattle.smap_text_answers.specs.declared.sources.MapSources.{MapSources}
 use Rattle.smap_text_answers.specs.declared.storing.StoreEnd.{StoreEnd}
 use Rattle.smap_text_answers.proofs.RightLaws.{IsRight, right_after, right_start}
@@ -73,7 +74,8 @@ module _ {E : Type 0} (Steps : E → Line → List ℕ → E → Type 0) (Is : E
 
 -- ---- what is remembered
 
-module _ (Reads : MayRead) (paths : Bool) (base : Option Parts) (k number : ℕ) (bytes_at : BytesByPath) (alike : ReadsAlike Reads number bytes_at) where
+module _ (Reads : MayRead) (Causes : MayCause) (paths : Bool) (base : Option Parts) (k number : ℕ) (bytes_at : BytesByPath)
+    (alike : ReadsAlike Reads number bytes_at) where
   abbrev Found : (url : List ℕ) (path : Option (List ℕ)) → Outcome → Type 0
   Found url path outcome = (outcome ≡ Err Memory) ⊎ IsFoundFor paths base k bytes_at url path outcome
 
@@ -87,28 +89,28 @@ module _ (Reads : MayRead) (paths : Bool) (base : Option Parts) (k number : ℕ)
   found_bytes url path bytes outcome read is =
       subst (λ b. IsFoundOf paths base k url b outcome) (sym (alike.same path bytes read)) is
 
-  failed : (why : NoMap) (url path : List ℕ) (report : Report) → FailsWith Reads paths base k number why url path report → Found url (Some path) (Err why)
-  failed Unnamed url path report (never, is) = absurd never
+  failed : (why : NoMap) (url path : List ℕ) (report : Report) → FailsWith Reads paths base k number None why url path report → Found url (Some path) (Err why)
+  failed Unnamed url path report ((bytes, stated, read, never), is) = absurd never
   failed Memory url path report (memory, is) = inl refl
   failed Unread url path report (unread, is) =
       inr (subst (λ b. IsFoundOf paths base k url b (Err Unread)) (sym (alike.fails path unread)) refl)
   failed (Refused refusal) url path report ((bytes, read, refused), is) =
       inr (found_bytes url path bytes (Err (Refused refusal)) read (refused_in (record_loaded paths base k url bytes) refusal refused))
 
-  loaded : (old new : LoaderSeen) (url path : List ℕ) (came : Came) → Loads Reads paths base k number old url path came new → Found url (Some path) (outcome_in came)
+  loaded : (old new : LoaderSeen) (url path : List ℕ) (came : Came) → Loads Reads Causes paths base k number None old url path came new → Found url (Some path) (outcome_in came)
   loaded old new url path (Err why) loads = failed why url path loads.0 loads.1
   loaded old new url path (Ok (stated, file_bytes)) loads =
-      let (bytes, read, many, is) = loads.0 in
+      let (bytes, read, many, is) = loads.1.0 in
       inr (found_bytes url path bytes (Ok stated) read (subst (λ found. IsFoundIn found (Ok stated)) (sym is) (inl refl)))
 
-  came_found : (old new : LoaderSeen) (url : List ℕ) (path : Option (List ℕ)) (came : Came) → Comes (Loads Reads paths base k number) old url path came new
+  came_found : (old new : LoaderSeen) (url : List ℕ) (path : Option (List ℕ)) (came : Came) → Comes (Loads Reads Causes paths base k number None) old url path came new
       → Found url path (outcome_in came)
   came_found old new url None came comes = inr (ap outcome_in comes.0)
   came_found old new url (Some path) came comes = loaded old new url path came comes
 
   module _ (exact : List (List ℕ × MapRecord)) (locations : LocationsSeen) where
     abbrev AllRight : StoredSeen LoaderSeen → Type 0
-    AllRight = IsRight (Loads Reads paths base k number) Found exact locations
+    AllRight = IsRight (Loads Reads Causes paths base k number None) Found exact locations
 
     -- ---- what is found for a URL
 
@@ -136,31 +138,31 @@ module _ (Reads : MayRead) (paths : Bool) (base : Option Parts) (k number : ℕ)
         subst (Defined url) (sym outcome) (known_defined maps url (known_of exact locations url) right)
 
     placed : (options : AnswerOptions) (old new : StoredSeen LoaderSeen) (place : Option UrlPlace) (text : List ℕ) → AllRight old
-        → Locates (FindsIn (Loads Reads paths base k number)) options old place text new
+        → Locates (FindsIn (Loads Reads Causes paths base k number None)) options old place text new
         → AnswersPlace paths base k bytes_at exact locations options place text × AllRight new
     placed options old new None text right step = (step.0, subst AllRight (sym step.1) right)
     placed options old new (Some place) text right step =
-        let after = right_after (Loads Reads paths base k number) Found exact locations old new right place.url step.0
+        let after = right_after (Loads Reads Causes paths base k number None) Found exact locations old new right place.url step.0
         (λ key path came comes. came_found old.loader new.loader key path came comes) in
         ((outcome_at new place.url, defined_at new place.url after, step.1), after)
 
     located_by_path : (options : AnswerOptions) (most : ℕ) (before after : DevicesSeen) (old new : StoredSeen LoaderSeen) (counts : LineCounts)
         → old.exact ≡ exact → old.locations ≡ locations → IsEmpty old.cache
-        → EditsInto (LocateStep (FindsIn (Loads Reads paths base k number)) options) most before after old new counts
+        → EditsInto (LocateStep (FindsIn (Loads Reads Causes paths base k number None)) options) most before after old new counts
         → AnswersAll (AnswersLine paths base k bytes_at exact locations options) before after
     located_by_path options most before after old new counts words_are locations_are empty edits =
-        answers_all (LocateStep (FindsIn (Loads Reads paths base k number)) options) AllRight (AnswersLine paths base k bytes_at exact locations options)
+        answers_all (LocateStep (FindsIn (Loads Reads Causes paths base k number None)) options) AllRight (AnswersLine paths base k bytes_at exact locations options)
         (λ old line text new right step. placed options old new (place_of line.bytes) text right step) most before after old new counts
-        (right_start (Loads Reads paths base k number) Found exact locations old words_are locations_are empty) edits
+        (right_start (Loads Reads Causes paths base k number None) Found exact locations old words_are locations_are empty) edits
 
 -- and so a run over a store answers each line
-pub run_by_path : (Reads : MayRead) (asked : Locate) (sources : MapSources) (end : StoreEnd LineCounts) (before after : Streams)
-    → IsLocatedOverStore Reads asked sources end before after → AnswersByPath Reads asked sources end before after
-run_by_path Reads asked sources end before after over bytes_at alike counts result =
-    let start = store_start sources (unwrap_or asked.cache_bytes usual_cache_bytes) before.sinks.errors before.sinks.code in
+pub run_by_path : (Reads : MayRead) (Causes : MayCause) (asked : Locate) (sources : MapSources) (end : StoreEnd LineCounts) (before after : Streams)
+    → IsLocatedOverStore Reads Causes asked sources end before after → AnswersByPath Reads asked sources end before after
+run_by_path Reads Causes asked sources end before after over bytes_at alike counts result =
+    let start = store_start sources (unwrap_or asked.cache_bytes usual_cache_bytes) before.sinks.errors before.sinks.code nothing_told in
     let number = length asked.maps.items + 1 in
     let P : Result LineCounts LineFault → Type 0 = λ result. IfOk result (EditsInto
-    (LocateStep (FindsIn (Loads Reads asked.paths asked.base asked.interval number)) asked.options) most_text_bytes
+    (LocateStep (FindsIn (Loads Reads Causes asked.paths asked.base asked.interval number None)) asked.options) most_text_bytes
     (devices_seen before.input before.sinks.output) (devices_seen after.input after.sinks.output) start over.last) in
-    located_by_path Reads asked.paths asked.base asked.interval number bytes_at alike sources.exact sources.locations asked.options most_text_bytes
+    located_by_path Reads Causes asked.paths asked.base asked.interval number bytes_at alike sources.exact sources.locations asked.options most_text_bytes
     (devices_seen before.input before.sinks.output) (devices_seen after.input after.sinks.output) start over.last counts refl refl (refl, refl) (subst P result over.whole)

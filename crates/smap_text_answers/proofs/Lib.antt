@@ -4,6 +4,7 @@ mod DottedLaws
 mod BytesLaws
 mod CauseLaws
 mod Examples
+mod FittingLaws
 mod LocatingLaws
 mod NamedLaws
 mod NamerLaws

@@ -1,5 +1,5 @@
 -- Laws of rewriting over maps with names of which only some is seen: what is seen goes the same way.
-use Rattle.std.specs.Prelude.{◌≡◌, ◌⊎◌, ◌&&◌, ◌+◌, ◌++◌, ℕ, Bool, true, false, List, [], ◌∷◌, MatchBool, Option, Some, None, is_some, refl}
+use Rattle.std.specs.Prelude.{◌≡◌, ◌&&◌, ◌+◌, ◌++◌, ℕ, Bool, true, false, List, [], ◌∷◌, MatchBool, Option, Some, None, is_some, refl}
 use Rattle.std.proofs.Common.{ap, inl, inr, subst, sym, ◌∙◌}
 use Rattle.smap_declarations.specs.Declarations.{Named}
 use Rattle.smap_lines.specs.Editing.{DevicesSeen}
@@ -10,13 +10,12 @@ use Rattle.smap_lines.specs.declared.fault.LineFault.{LineFault}
 use Rattle.smap_lines.specs.declared.fault.LineFault.TheVariants.{Memory}
 use Rattle.smap_locations.specs.ByText.{value_under}
 use Rattle.smap_record.specs.Record.{MapRecord}
-use Rattle.smap_store.specs.Named.{FindsNamed, GivesNamed, IsSameNamed, MayKeep, NamedSeen, NamesMay, NamesOf, NamesStep, holds_map, named_seen, names_in}
+use Rattle.smap_store.specs.Named.{FindsNamed, GivesNamed, IsSameNamed, MayKeep, NamedSeen, NamesMay, NamesOf, NamesStep, holds_map}
 use Rattle.smap_store.specs.Names.{NamesCame, names_used}
 use Rattle.smap_store.specs.Stored.{StoredSeen, found_in}
 use Rattle.smap_store.specs.StoredMaps.{same_store_on, same_store_self}
 use Rattle.smap_store.specs.declared.named_maps.NamedMaps.{NamedMaps}
 use Rattle.smap_store.specs.declared.names_cache.NamesCache.{NamesCache}
-use Rattle.smap_text_answers.specs.Naming.{found_beside}
 use Rattle.smap_trace.specs.Frame.{FrameParts}
 use Rattle.smap_trace.specs.FrameOf.{frame_of}
 use Rattle.smap_trace.specs.FunctionNames.{FunctionNames, named}

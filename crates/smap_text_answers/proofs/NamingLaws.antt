@@ -1,12 +1,10 @@
 -- What rewriting over maps with names comes to, where declarations are listed from files.
-use Rattle.std.specs.Prelude.{◌≡◌, ℕ, true, List, MatchBool, Option, Result, ⊤, map, refl}
+use Rattle.std.specs.Prelude.{◌≡◌, ℕ, true, List, Option, ⊤, refl}
 use Rattle.std.proofs.Common.{ap, subst, sym, ◌∙◌}
-use Rattle.smap_io.specs.Device.{SinkSeen, SourceSeen}
 use Rattle.smap_declarations.specs.Declarations.{Named}
 use Rattle.smap_lines.specs.Editing.{DevicesSeen}
 use Rattle.smap_lines.specs.declared.fault.LineFault.{LineFault}
 use Rattle.smap_record.specs.Record.{MapRecord}
-use Rattle.smap_replies.specs.Arguments.{argument_of}
 use Rattle.smap_replies.specs.Files.{MayRead}
 use Rattle.smap_store.specs.Cache.{CacheSeen}
 use Rattle.smap_store.specs.Named.{FindsNamed, GivesNamed, IsSameNamed, NamedSeen, NamesMay, NamesStep, named_seen, names_in}
@@ -15,12 +13,12 @@ use Rattle.smap_store.specs.Stored.{FindsIn, GivesIn, LoadsMay, LoadsStep, Store
 use Rattle.smap_store.specs.declared.named_maps.NamedMaps.{NamedMaps}
 use Rattle.smap_store.specs.declared.names_cache.NamesCache.{NamesCache}
 use Rattle.smap_text_answers.specs.Laws.Namer.{programs_stay}
-use Rattle.smap_text_answers.specs.Names.{IsSameNamer, MayNameBy, NamesBy, Programs, ToldSeen, nothing_told, programs_seen, told_at_end, told_seen}
-use Rattle.smap_text_answers.specs.Naming.{RewritesNames, RewritesNamesFront, found_beside, named_start}
+use Rattle.smap_text_answers.specs.Names.{IsSameNamer, MayNameBy, NamesBy, Programs, programs_seen, told_at_end}
+use Rattle.smap_text_answers.specs.Told.{ToldSeen, nothing_told, told_seen}
+use Rattle.smap_text_answers.specs.Naming.{RewritesNames, RewritesNamesFront, found_beside}
 use Rattle.smap_text_answers.specs.declared.namer.FileNamer.{FileNamer}
 use Rattle.smap_text_answers.proofs.NamedLaws.{gives_so, named_finds, names_front_so, names_seen_so, same_named_on, same_named_self}
 use Rattle.smap_text_answers.proofs.StoreLaws.{store_after}
-use Rattle.smap_trace.specs.Hiding.{HidingSeen}
 use Rattle.smap_trace.specs.Laws.Seen.{looked_seen}
 use Rattle.smap_trace.specs.Rewriting.{Looked, RewriteAsked, RewritesNamed, RewritesNamedFront}
 use Rattle.smap_trace.specs.UrlNotes.{NotesSeen}

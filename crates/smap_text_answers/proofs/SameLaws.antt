@@ -1,7 +1,7 @@
 -- Laws of rewriting a trace over files whose paths give the same bytes whenever they are read: what is written and counted is then
 -- what the maps of these files make of it, however few are remembered and whatever was looked for before, if they are settled and
 -- memory did not run out.
-use Rattle.std.specs.Prelude.{◌≡◌, ◌<◌, ◌+◌, ◌||◌, ℕ, Bool, true, false, List, IfOk, MatchBool, MatchOption, Option, Some, None, Result, Ok, Err, is_some, length}
+use Rattle.std.specs.Prelude.{◌≡◌, ◌<◌, ◌+◌, ◌||◌, ℕ, Bool, true, false, List, IfOk, MatchBool, MatchOption, Option, Some, None, Result, Ok, Err, if◌then◌else◌, is_some, length}
 use Rattle.std.specs.Result.{result_ok}
 use Rattle.std.proofs.Common.{ap, arith, inl, inr, refl, subst, sym, ◌∙◌}
 use Rattle.url.specs.Parts.{Parts}
@@ -30,12 +30,12 @@ use Rattle.smap_trace.specs.Rewriting.{RewriteAsked, RewritesOver}
 use Rattle.smap_trace.specs.UrlNotes.{NotesSeen}
 use Rattle.smap_trace.specs.declared.outcome.RewriteCounts.{RewriteCounts}
 use Rattle.smap_trace.specs.declared.outcome.Summary.{Summary}
-use Rattle.smap_replies.specs.Files.{MayRead}
+use Rattle.smap_replies.specs.Files.{MayCause, MayRead}
 use Rattle.smap_replies.specs.Standing.{IsRefusedFor}
 use Rattle.smap_text_answers.specs.Loader.{FailsBy, FailsWith, LoaderSeen, Loads, is_lost, is_of_url}
 use Rattle.smap_replies.specs.Outcome.{Report}
-use Rattle.smap_text_answers.specs.Names.{ToldSeen, nothing_told}
-use Rattle.smap_text_answers.specs.Request.{RequestSeen}
+use Rattle.smap_text_answers.specs.Told.{ToldSeen, nothing_told}
+use Rattle.smap_text_answers.specs.Request.{RequestSeen, fit_number}
 use Rattle.smap_text_answers.specs.RewriteFrom.{AnswersByPath, IsTextOverStore, RewritesPlaces, RewritesText, RewritesTextBy, asked_of, places_asked, urls_of}
 use Rattle.smap_text_answers.specs.StoreRun.{store_start}
 use Rattle.smap_text_answers.proofs.RightLaws.{IsRight, right_after, right_start}
@@ -178,7 +178,8 @@ or_none : (x y : Bool) → (x || y) ≡ false → (x ≡ false) × (y ≡ false)
 or_none true y none = cc
 or_none false y none = (refl, none)
 
-module _ (Reads : MayRead) (paths : Bool) (base : Option Parts) (k number : ℕ) (bytes_at : BytesByPath) (same : ReadsSame Reads number bytes_at) where
+module _ (Reads : MayRead) (Causes : MayCause) (paths : Bool) (base : Option Parts) (k number : ℕ) (bytes_at : BytesByPath)
+    (same : ReadsSame Reads number bytes_at) where
   abbrev load : MapsByPath
   load = maps_at paths base k bytes_at
 
@@ -186,8 +187,8 @@ module _ (Reads : MayRead) (paths : Bool) (base : Option Parts) (k number : ℕ)
   Settled loader = AreSettled Reads number bytes_at loader.status loader.lost
 
   -- what is said of a map that can't be had has a status
-  fails_reported : (why : NoMap) (url path : List ℕ) (report : Report) → FailsWith Reads paths base k number why url path report → report.status < 1 → ⊥
-  fails_reported Unnamed url path report fails few = absurd fails.1
+  fails_reported : (why : NoMap) (url path : List ℕ) (report : Report) → FailsWith Reads paths base k number None why url path report → report.status < 1 → ⊥
+  fails_reported Unnamed url path report fails few = let status = ap (λ t. t.status) fails.1 in omega (arith, status, few)
   fails_reported Unread url path report fails few = let status = ap (λ t. t.status) fails.1 in omega (arith, status, few)
   fails_reported (Refused refusal) url path report (fails, is) few = let status = ap (λ t. t.status) is in omega (arith, status, few)
   fails_reported Memory url path report (fails, inl named) few = let status = ap (λ t. t.status) named in omega (arith, status, few)
@@ -199,15 +200,15 @@ module _ (Reads : MayRead) (paths : Bool) (base : Option Parts) (k number : ℕ)
   refused_none (Err given) refusal is kept = refl
   refused_none (Ok stated) refusal is kept = let lost : true ≡ false = ap is_of_url (sym is) ∙ kept in cc
 
-  fails_none : FailsSame Reads number bytes_at → (why : NoMap) (url path : List ℕ) → FailsBy Reads paths base k number why url path
+  fails_none : FailsSame Reads number bytes_at → (why : NoMap) (url path : List ℕ) → FailsBy Reads paths base k number None why url path
       → is_lost why ≡ false → load url path ≡ None
-  fails_none fails Unnamed url path never kept = absurd never
+  fails_none fails Unnamed url path (bytes, stated, read, never) kept = absurd never
   fails_none fails Memory url path memory kept = cc
   fails_none fails Unread url path unread kept = ap (stated_by paths base k url) (fails path unread)
   fails_none fails (Refused refusal) url path (bytes, read, refused) kept =
       ap (stated_by paths base k url) (same path bytes read) ∙ refused_none (record_loaded paths base k url bytes) refusal refused kept
 
-  loads_settled : (old new : LoaderSeen) (url path : List ℕ) (came : Came) → Loads Reads paths base k number old url path came new
+  loads_settled : (old new : LoaderSeen) (url path : List ℕ) (came : Came) → Loads Reads Causes paths base k number None old url path came new
       → Settled new → Settled old × (record_in came ≡ load url path)
   loads_settled old new url path (Err why) loads (inl silent) =
       let status = loads.2.status in
@@ -216,39 +217,40 @@ module _ (Reads : MayRead) (paths : Bool) (base : Option Parts) (k number : ℕ)
       let none = or_none old.lost (is_lost why) (sym loads.2.lost ∙ all) in
       (inr (fails, none.0), sym (fails_none fails why url path loads.1.0 none.1))
   loads_settled old new url path (Ok (stated, file_bytes)) loads settled =
-      let (bytes, read, many, is) = loads.0 in
-      (subst Settled loads.1 settled, sym (ap (stated_by paths base k url) (same path bytes read) ∙ ap stated_in is))
+      let (bytes, read, many, is) = loads.1.0 in
+      (subst Settled loads.2.same settled, sym (ap (stated_by paths base k url) (same path bytes read) ∙ ap stated_in is))
 
   pub same_settled : (request : RequestSeen) (sources : MapSources) (before after : DevicesSeen) (old new : StoredSeen LoaderSeen) (counts : RewriteCounts)
       (notes others : NotesSeen) (told : ToldSeen) (anywhere names : Bool) (Named : Type 0)
       → MatchBool anywhere
-      (RewritesPlaces request sources (FindsIn (Loads Reads paths base k number)) before after old new counts notes others × (told ≡ nothing_told))
-      (MatchBool names Named (RewritesOver (FindsIn (Loads Reads paths base k number)) found_in (asked_of request sources) before after old new counts notes
+      (RewritesPlaces request sources (FindsIn (Loads Reads Causes paths base k number None)) before after old new counts notes others × (told ≡ nothing_told))
+      (MatchBool names Named (RewritesOver (FindsIn (Loads Reads Causes paths base k number None)) found_in (asked_of request sources) before after old new counts notes
       × (told ≡ nothing_told)) × (others ≡ nothing_noted))
       → names ≡ false
       → IsEmpty old.cache → Settled new.loader → new.cache.shortages ≡ 0
       → RewritesTextBy anywhere (stored_maps load old.exact old.locations) (parts_in (urls_of sources)) request.hide request.limit_bytes before after counts
   same_settled request sources before after old new counts notes others told true names Named all unnamed empty settled enough =
-      places_same (Loads Reads paths base k number) Settled load loads_settled (places_asked request sources) before after old new counts.summary notes others
+      places_same (Loads Reads Causes paths base k number None) Settled load loads_settled (places_asked request sources) before after old new counts.summary notes others
       all.0.over empty (settled, enough)
   same_settled request sources before after old new counts notes others told false true Named all unnamed empty settled enough = absurd (cc)
   same_settled request sources before after old new counts notes others told false false Named all unnamed empty settled enough =
-      rewrites_same (Loads Reads paths base k number) Settled load loads_settled (asked_of request sources) before after old new counts notes all.0.0 empty
+      rewrites_same (Loads Reads Causes paths base k number None) Settled load loads_settled (asked_of request sources) before after old new counts notes all.0.0 empty
       (settled, enough)
 
 -- and so it is of a run
-pub same_run : (Reads : MayRead) (base : Option Parts) (k : ℕ) (request : RequestSeen) (sources : MapSources) (end : StoreEnd RewriteCounts)
-    (notes others : NotesSeen) (told : ToldSeen) (before after : Streams) → IsTextOverStore Reads base k request sources end notes others told before after
-    → AnswersByPath Reads base k request sources end before after
-same_run Reads base k request sources end notes others told before after over bytes_at same unnamed counts result settled enough =
+pub same_run : (Reads : MayRead) (Causes : MayCause) (base : Option Parts) (k : ℕ) (request : RequestSeen) (sources : MapSources) (end : StoreEnd RewriteCounts)
+    (compared : ToldSeen) (notes others : NotesSeen) (told : ToldSeen) (before after : Streams)
+    → IsTextOverStore Reads Causes base k request sources end compared notes others told before after → AnswersByPath Reads base k request sources end before after
+same_run Reads Causes base k request sources end compared notes others told before after over bytes_at same unnamed unfitted counts result settled enough =
     let number : ℕ = length request.arguments + 1 in
-    let first : StoredSeen LoaderSeen = store_start sources request.cache_bytes before.sinks.errors before.sinks.code in
-    let P : Result RewriteCounts LineFault → Type 0 = λ result. IfOk result (λ counts.
-    RewritesText Reads request sources (FindsIn (Loads Reads request.paths base k number)) (devices_seen before.input before.sinks.output)
+    let none : fit_number request ≡ None = ap (λ b. if b then Some (length request.arguments + 2) else None) unfitted in
+    let first : StoredSeen LoaderSeen = store_start sources request.cache_bytes before.sinks.errors before.sinks.code compared in
+    let P : Option ℕ → Result RewriteCounts LineFault → Type 0 = λ fit result. IfOk result (λ counts.
+    RewritesText Reads request sources (FindsIn (Loads Reads Causes request.paths base k number fit)) (devices_seen before.input before.sinks.output)
     (devices_seen after.input after.sinks.output) first over.last counts notes others told) in
     let are : AreSettled Reads number bytes_at over.last.loader.status over.last.loader.lost =
     subst (λ status. AreSettled Reads number bytes_at status over.last.loader.lost) over.status
     (subst (λ lost. AreSettled Reads number bytes_at end.status lost) over.lost settled) in
-    same_settled Reads request.paths base k number bytes_at same request sources
+    same_settled Reads Causes request.paths base k number bytes_at same request sources
     (devices_seen before.input before.sinks.output) (devices_seen after.input after.sinks.output) first over.last counts notes others told request.anywhere
-    request.names _ (subst P result over.whole) unnamed (refl, refl) are (sym over.shortages ∙ enough)
+    request.names _ (subst (P None) result (subst (λ fit. P fit end.result) none over.whole)) unnamed (refl, refl) are (sym over.shortages ∙ enough)

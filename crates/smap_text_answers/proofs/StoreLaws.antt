@@ -26,12 +26,13 @@ use Rattle.smap_trace.specs.Rewriting.{Looked, RewritesOver}
 use Rattle.smap_trace.specs.UrlNotes.{NotesSeen}
 use Rattle.smap_trace.specs.Laws.Seen.{front_seen, looked_seen, rewrites_seen}
 use Rattle.smap_trace.specs.declared.outcome.RewriteCounts.{RewriteCounts}
-use Rattle.smap_replies.specs.Files.{MayRead}
+use Rattle.smap_replies.specs.Files.{MayCause, MayRead}
 use Rattle.smap_text_answers.specs.Loader.{IsSameLoader, LoaderSeen, Loads, MayLoad, loader_seen}
 use Rattle.smap_text_answers.specs.Locating.{BecomesAnswer, LocateStep, Locates, MayLocate}
 use Rattle.smap_text_answers.specs.UrlPlace.{UrlPlace, place_of}
 use Rattle.smap_text_answers.specs.Request.{RequestSeen}
-use Rattle.smap_text_answers.specs.Names.{MayNameBy, NamesBy, ToldSeen, nothing_told}
+use Rattle.smap_text_answers.specs.Names.{MayNameBy, NamesBy}
+use Rattle.smap_text_answers.specs.Told.{ToldSeen, nothing_told}
 use Rattle.smap_text_answers.specs.Naming.{RewritesNames, found_beside, named_start}
 use Rattle.smap_text_answers.specs.RewriteFrom.{RewritesPlaces, RewritesText, RewritesTextFront, asked_of, places_asked, programs_of}
 use Rattle.smap_text_answers.specs.StoreRun.{LoadsOf, MayLoadOf}
@@ -117,24 +118,31 @@ module _ {L N : Type 0} (see : L → N) where
 
 module _ {F E : Type 0} where
   same_self : (loader : FileLoader F E) → IsSameLoader loader loader
-  same_self loader = record { maps = refl; paths = refl; number = refl; errors = refl }
+  same_self loader = record { maps = refl; paths = refl; number = refl; fit = refl; errors = refl; told = refl }
 
   same_on : (first old new : FileLoader F E) → IsSameLoader first old → IsSameLoader old new → IsSameLoader first new
-  same_on first old new one two = record { maps = two.maps ∙ one.maps; paths = two.paths ∙ one.paths; number = two.number ∙ one.number; errors = two.errors ∙ one.errors }
+  same_on first old new one two = record {
+    maps = two.maps ∙ one.maps;
+    paths = two.paths ∙ one.paths;
+    number = two.number ∙ one.number;
+    fit = two.fit ∙ one.fit;
+    errors = two.errors ∙ one.errors;
+    told = two.told ∙ one.told;
+  }
 
   same_of : (old new : FileLoader F E) → new ≡ old → IsSameLoader old new
   same_of old new is = subst (λ l. IsSameLoader old l) (sym is) (same_self old)
 
-module _ {F E : Type 0} (gives : F → MayRead) (seen : E → SinkSeen) where
+module _ {F E : Type 0} (gives : F → MayRead) (causes : F → MayCause) (seen : E → SinkSeen) where
   -- what reading a map is, and what may come of it
   abbrev Steps : LoadsStep (FileLoader F E)
   Steps loader url path came after =
-      Loads (gives loader.maps.now.files.now) loader.paths (option_copied loader.maps.now.base) loader.maps.now.interval loader.number (loader_seen seen loader)
+      Loads (gives loader.maps.now.files.now) (causes loader.maps.now.files.now) loader.paths (option_copied loader.maps.now.base) loader.maps.now.interval loader.number loader.fit (loader_seen seen loader)
       url path came (loader_seen seen after)
       × IsSameLoader loader after
 
   abbrev May : LoadsMay (FileLoader F E)
-  May loader = MayLoad (gives loader.maps.now.files.now) loader.paths (option_copied loader.maps.now.base) loader.maps.now.interval loader.number
+  May loader = MayLoad (gives loader.maps.now.files.now) loader.paths (option_copied loader.maps.now.base) loader.maps.now.interval loader.number loader.fit
 
   -- ---- it stays what it is
 
@@ -154,19 +162,21 @@ module _ {F E : Type 0} (gives : F → MayRead) (seen : E → SinkSeen) where
     see = see_store (loader_seen seen)
 
     step_seen : (old new : FileLoader F E) → IsSameLoader first old → (url path : List ℕ) (came : Came) → Steps old url path came new
-        → LoadsOf gives first (loader_seen seen old) url path came (loader_seen seen new)
+        → LoadsOf gives causes first (loader_seen seen old) url path came (loader_seen seen new)
     step_seen old new same url path came is =
-        subst (λ n. Loads (gives first.maps.now.files.now) first.paths (option_copied first.maps.now.base) first.maps.now.interval n (loader_seen seen old)
+        subst (λ c. Loads (gives first.maps.now.files.now) (causes first.maps.now.files.now) first.paths (option_copied first.maps.now.base) first.maps.now.interval first.number c (loader_seen seen old)
+        url path came (loader_seen seen new)) same.fit
+        (subst (λ n. Loads (gives first.maps.now.files.now) (causes first.maps.now.files.now) first.paths (option_copied first.maps.now.base) first.maps.now.interval n old.fit (loader_seen seen old)
         url path came (loader_seen seen new)) same.number
-        (subst (λ p. Loads (gives first.maps.now.files.now) p (option_copied first.maps.now.base) first.maps.now.interval old.number (loader_seen seen old)
+        (subst (λ p. Loads (gives first.maps.now.files.now) (causes first.maps.now.files.now) p (option_copied first.maps.now.base) first.maps.now.interval old.number old.fit (loader_seen seen old)
         url path came (loader_seen seen new)) same.paths
-        (subst (λ m. Loads (gives m.now.files.now) old.paths (option_copied m.now.base) m.now.interval old.number (loader_seen seen old)
-        url path came (loader_seen seen new)) same.maps is.0))
+        (subst (λ m. Loads (gives m.now.files.now) (causes m.now.files.now) old.paths (option_copied m.now.base) m.now.interval old.number old.fit (loader_seen seen old)
+        url path came (loader_seen seen new)) same.maps is.0)))
 
     finds_so : (old new : StoredSeen (FileLoader F E)) (url : List ℕ) → IsSameLoader first old.loader → FindsIn Steps old url new
-        → FindsIn (LoadsOf gives first) (see old) url (see new) × IsSameLoader first new.loader
+        → FindsIn (LoadsOf gives causes first) (see old) url (see new) × IsSameLoader first new.loader
     finds_so old new url same finds = (
-      finds_seen (loader_seen seen) Steps (LoadsOf gives first) old new (step_seen old.loader new.loader same) url finds,
+      finds_seen (loader_seen seen) Steps (LoadsOf gives causes first) old new (step_seen old.loader new.loader same) url finds,
       same_on first old.loader new.loader same (same_moved old new (key_for old.locations url) (found_moves Steps old url new finds)),
     )
 
@@ -175,9 +185,9 @@ module _ {F E : Type 0} (gives : F → MayRead) (seen : E → SinkSeen) where
       at_first : IsSameLoader first old.loader
       at_first = same_of first old.loader is
 
-      pub looked_from : Looked (FindsIn Steps) old new → Looked (FindsIn (LoadsOf gives first)) (see old) (see new) × IsSameLoader first new.loader
+      pub looked_from : Looked (FindsIn Steps) old new → Looked (FindsIn (LoadsOf gives causes first)) (see old) (see new) × IsSameLoader first new.loader
       looked_from looked =
-          looked_seen (FindsIn Steps) found_in (FindsIn (LoadsOf gives first)) found_in see (λ maps. IsSameLoader first maps.loader) finds_so (λ maps url. refl)
+          looked_seen (FindsIn Steps) found_in (FindsIn (LoadsOf gives causes first)) found_in see (λ maps. IsSameLoader first maps.loader) finds_so (λ maps url. refl)
           old new at_first looked
 
       may_first : (url path : List ℕ) (found : Option MapRecord) → May old.loader url path found → MayLoadOf gives first (loader_seen seen old.loader) url path found
@@ -191,9 +201,9 @@ module _ {F E : Type 0} (gives : F → MayRead) (seen : E → SinkSeen) where
         Is maps = IsSameLoader first maps.loader
 
         places_from : (counts : RewriteCounts) (notes others : NotesSeen) → RewritesPlaces request sources (FindsIn Steps) before after old new counts notes others
-            → RewritesPlaces request sources (FindsIn (LoadsOf gives first)) before after (see old) (see new) counts notes others
+            → RewritesPlaces request sources (FindsIn (LoadsOf gives causes first)) before after (see old) (see new) counts notes others
         places_from counts notes others is = record {
-          over = anywhere_seen (FindsIn Steps) found_in (FindsIn (LoadsOf gives first)) found_in see Is finds_so (λ maps url same. refl)
+          over = anywhere_seen (FindsIn Steps) found_in (FindsIn (LoadsOf gives causes first)) found_in see Is finds_so (λ maps url same. refl)
               (places_asked request sources) before after old new counts.summary notes others at_first is.over;
           long = is.long;
           passed = is.passed;
@@ -201,23 +211,23 @@ module _ {F E : Type 0} (gives : F → MayRead) (seen : E → SinkSeen) where
 
         over_from : (counts : RewriteCounts) (notes : NotesSeen) (told : ToldSeen)
             → RewritesOver (FindsIn Steps) found_in (asked_of request sources) before after old new counts notes × (told ≡ nothing_told)
-            → RewritesOver (FindsIn (LoadsOf gives first)) found_in (asked_of request sources) before after (see old) (see new) counts notes × (told ≡ nothing_told)
+            → RewritesOver (FindsIn (LoadsOf gives causes first)) found_in (asked_of request sources) before after (see old) (see new) counts notes × (told ≡ nothing_told)
         over_from counts notes told is = (
-          rewrites_seen (FindsIn Steps) found_in (FindsIn (LoadsOf gives first)) found_in see Is finds_so (λ maps url. refl) (asked_of request sources)
+          rewrites_seen (FindsIn Steps) found_in (FindsIn (LoadsOf gives causes first)) found_in see Is finds_so (λ maps url. refl) (asked_of request sources)
               before after old new counts notes at_first is.0,
           is.1,
         )
 
         names_from : (counts : RewriteCounts) (notes : NotesSeen) (told : ToldSeen)
             → RewritesNames Reads (programs_of request sources) request.names_bytes (asked_of request sources) (FindsIn Steps) before after old new counts notes told
-            → RewritesNames Reads (programs_of request sources) request.names_bytes (asked_of request sources) (FindsIn (LoadsOf gives first)) before after
+            → RewritesNames Reads (programs_of request sources) request.names_bytes (asked_of request sources) (FindsIn (LoadsOf gives causes first)) before after
             (see old) (see new) counts notes told
         names_from counts notes told is = record {
           last = record { stored = see is.last.stored; names = is.last.names; namer = is.last.namer };
           named = names_seen_so (FindsNamed (FindsIn Steps) (NamesBy Reads (programs_of request sources))) found_beside names_in
-              (FindsNamed (FindsIn (LoadsOf gives first)) (NamesBy Reads (programs_of request sources))) found_beside names_in
+              (FindsNamed (FindsIn (LoadsOf gives causes first)) (NamesBy Reads (programs_of request sources))) found_beside names_in
               (λ maps. record { stored = see maps.stored; names = maps.names; namer = maps.namer }) (λ maps. Is maps.stored × ⊤)
-              (named_finds see (λ told. told) (λ stored url. refl) (λ stored url. refl) (FindsIn Steps) (FindsIn (LoadsOf gives first)) Is finds_so
+              (named_finds see (λ told. told) (λ stored url. refl) (λ stored url. refl) (FindsIn Steps) (FindsIn (LoadsOf gives causes first)) Is finds_so
               (NamesBy Reads (programs_of request sources)) (NamesBy Reads (programs_of request sources)) (λ told. ⊤)
               (λ old new url stated came is names. (names, tt)))
               (λ maps url. refl) (λ maps url. refl) (asked_of request sources) before after (named_start request.names_bytes old) is.last counts notes
@@ -228,7 +238,7 @@ module _ {F E : Type 0} (gives : F → MayRead) (seen : E → SinkSeen) where
 
         pub text_from : (counts : RewriteCounts) (notes others : NotesSeen) (told : ToldSeen)
             → RewritesText Reads request sources (FindsIn Steps) before after old new counts notes others told
-            → RewritesText Reads request sources (FindsIn (LoadsOf gives first)) before after (see old) (see new) counts notes others told
+            → RewritesText Reads request sources (FindsIn (LoadsOf gives causes first)) before after (see old) (see new) counts notes others told
         text_from counts notes others told =
             when_both request.anywhere _ _ _ _ (λ is. (places_from counts notes others is.0, is.1))
             (λ is. (when_both request.names _ _ _ _ (names_from counts notes told) (over_from counts notes told) is.0, is.1))
@@ -249,7 +259,7 @@ module _ {F E : Type 0} (gives : F → MayRead) (seen : E → SinkSeen) where
       module _ (options : AnswerOptions) (before after : DevicesSeen) where
         locates_so : (old new : StoredSeen (FileLoader F E)) (place : Option UrlPlace) (text : List ℕ) → IsSameLoader first old.loader
             → Locates (FindsIn Steps) options old place text new
-            → Locates (FindsIn (LoadsOf gives first)) options (see old) place text (see new) × IsSameLoader first new.loader
+            → Locates (FindsIn (LoadsOf gives causes first)) options (see old) place text (see new) × IsSameLoader first new.loader
         locates_so old new None text is step = ((step.0, ap see step.1), subst (λ maps. IsSameLoader first maps.loader) (sym step.1) is)
         locates_so old new (Some place) text is step =
             let one = finds_so old new place.url is step.0 in
@@ -261,9 +271,9 @@ module _ {F E : Type 0} (gives : F → MayRead) (seen : E → SinkSeen) where
         may_more (Some place) text may = (may.0, gives_first place.url _ may.1, may.2)
 
         pub answers_from : (counts : LineCounts) → EditsInto (LocateStep (FindsIn Steps) options) most_text_bytes before after old new counts
-            → EditsInto (LocateStep (FindsIn (LoadsOf gives first)) options) most_text_bytes before after (see old) (see new) counts
+            → EditsInto (LocateStep (FindsIn (LoadsOf gives causes first)) options) most_text_bytes before after (see old) (see new) counts
         answers_from counts locates =
-            (edits_seen (LocateStep (FindsIn Steps) options) (LocateStep (FindsIn (LoadsOf gives first)) options) see (λ maps. IsSameLoader first maps.loader)
+            (edits_seen (LocateStep (FindsIn Steps) options) (LocateStep (FindsIn (LoadsOf gives causes first)) options) see (λ maps. IsSameLoader first maps.loader)
             (λ old line text new is step. locates_so old new (place_of line.bytes) text is step) most_text_bytes before after old new counts at_first locates).0
 
         pub answers_front_from : (fault : LineFault) → EditsFrontInto (BecomesAnswer (GivesIn May old) options) most_text_bytes before after fault

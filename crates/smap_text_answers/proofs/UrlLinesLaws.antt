@@ -11,19 +11,19 @@ use Rattle.smap_replies.specs.Files.{MayRead}
 use Rattle.smap_text_answers.specs.UrlLines.{AreAllLines, AreUrlLines, IsUrlLine, nothing_line, word_file}
 use Rattle.smap_trace.specs.UrlNotes.{UrlNoteSeen}
 
-module _ (Reads : MayRead) (paths : Bool) (base : Option Parts) (k number : ℕ) (arguments : List (List ℕ × List ℕ)) (locations : LocationsSeen)
+module _ (Reads : MayRead) (paths : Bool) (base : Option Parts) (k number : ℕ) (fit : Option ℕ) (arguments : List (List ℕ × List ℕ)) (locations : LocationsSeen)
     (anywhere : Bool) where
   abbrev Are : List UrlNoteSeen → (text : List ℕ) → Type 0
-  Are = AreUrlLines Reads paths base k number arguments locations anywhere
+  Are = AreUrlLines Reads paths base k number fit arguments locations anywhere
 
   -- the lines so far, with one more
   pub lines_next : (notes left : List UrlNoteSeen) (note : UrlNoteSeen) (line rest : List ℕ) → notes ≡ note ∷ left
-      → IsUrlLine Reads paths base k number arguments locations anywhere note line → Are left rest → Are notes (line ++ rest)
+      → IsUrlLine Reads paths base k number fit arguments locations anywhere note line → Are left rest → Are notes (line ++ rest)
   lines_next notes left note line rest is is_line are = subst (λ l. Are l (line ++ rest)) (sym is) (line, rest, is_line, are, refl)
 
   pub lines_on : (all notes left : List UrlNoteSeen) (note : UrlNoteSeen) (text line more rest : List ℕ) → notes ≡ note ∷ left
       → ((rest : List ℕ) → Are notes rest → Are all (text ++ rest))
-      → IsUrlLine Reads paths base k number arguments locations anywhere note line → more ≡ text ++ line → Are left rest → Are all (more ++ rest)
+      → IsUrlLine Reads paths base k number fit arguments locations anywhere note line → more ≡ text ++ line → Are left rest → Are all (more ++ rest)
   lines_on all notes left note text line more rest is so_far is_line more_is are =
       subst (λ t. Are all t) (sym (append_assoc text line rest) ∙ ap (λ m. m ++ rest) (sym more_is))
       (so_far (line ++ rest) (lines_next notes left note line rest is is_line are))
@@ -45,13 +45,13 @@ module _ (Reads : MayRead) (paths : Bool) (base : Option Parts) (k number : ℕ)
 
   -- or that there is none
   pub lines_all : (notes others : List UrlNoteSeen) (text : List ℕ) → (length notes + length others ≡ 0 → ⊥) → Are (notes ++ others) text
-      → AreAllLines Reads paths base k number arguments locations anywhere (notes ++ others) text
+      → AreAllLines Reads paths base k number fit arguments locations anywhere (notes ++ others) text
   lines_all [] [] text some are = absurd (some refl)
   lines_all [] (note ∷ others) text some are = are
   lines_all (note ∷ notes) others text some are = are
 
   pub lines_none : (notes others : List UrlNoteSeen) (text : List ℕ) → length notes + length others ≡ 0 → text ≡ nothing_line anywhere
-      → AreAllLines Reads paths base k number arguments locations anywhere (notes ++ others) text
+      → AreAllLines Reads paths base k number fit arguments locations anywhere (notes ++ others) text
   lines_none [] [] text none is = is
   lines_none [] (note ∷ others) text none is = absurd (omega (arith, none))
   lines_none (note ∷ notes) others text none is = absurd (omega (arith, none))

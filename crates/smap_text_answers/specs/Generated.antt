@@ -1,6 +1,6 @@
 -- The generated file beside a map (this project's own): it stands at the map's path without its last `.map`, and is read where it is
 -- a regular file; where it is a text of at most 64 MiB that the map fits it is the map's.
-use Rattle.std.specs.Prelude.{◌≡◌, ℕ, ◌-◌, ◌&&◌, Bool, true, false, List, [], ◌∷◌, Option, Some, None, Result, Ok, Err, ⊤, codes, if◌then◌else◌, is_none, length, take}
+use Rattle.std.specs.Prelude.{◌≡◌, ℕ, ◌-◌, ◌&&◌, Bool, true, false, List, Option, Some, None, Result, Ok, Err, ⊤, codes, if◌then◌else◌, is_none, length, take}
 use Rattle.std.specs.Bool.{nat_eq}
 use Rattle.std.specs.List.{ends_with}
 use Rattle.smap_fit.specs.Fit.{fit_in, fits}

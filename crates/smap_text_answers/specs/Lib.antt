@@ -4,6 +4,8 @@ pub mod UrlLines
 pub mod Dotted
 pub mod Loader
 pub mod Generated
+pub mod Told
+pub mod Fitting
 pub mod Names
 pub mod Naming
 pub mod Request

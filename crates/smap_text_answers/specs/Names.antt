@@ -1,60 +1,24 @@
 -- The names of functions that are put into frames (this project's own): the declarations of a program are listed from the generated
 -- file beside its map, and where they are not, that is told once, at the end.
-use Rattle.std.specs.Prelude.{◌≡◌, ◌⊎◌, ℕ, ◌+◌, ◌++◌, ◌&&◌, ◌||◌, Bool, true, false, List, [], ◌∷◌, Option, Some, None, MatchBool, MatchOption, Result, Ok, Err, String}
-use Rattle.std.specs.Prelude.{codes, if◌then◌else◌, length, map, nat_le, nat_lt, not, string_bytes}
-use Rattle.std.specs.List.{list_any}
+use Rattle.std.specs.Prelude.{◌≡◌, ◌⊎◌, ℕ, ◌++◌, ◌&&◌, ◌||◌, true, false, List, [], ◌∷◌, Option, Some, None, MatchOption, Ok, Err}
+use Rattle.std.specs.Prelude.{codes, if◌then◌else◌, length, map, nat_lt, not}
 use Rattle.std.specs.List.Sorted.{IsPermutation}
 use Rattle.std.specs.Str.{bytes_eq}
-use Rattle.std.specs.Str.Lines.{lines}
 use Rattle.smap_declarations.specs.Declarations.{Named, declarations_of}
-use Rattle.smap_io.specs.Device.{SinkSeen}
 use Rattle.smap_io.specs.declared.transfer.ReadFailure.TheVariants.{Device}
-use Rattle.smap_lines.specs.declared.fault.LineFault.{LineFault}
 use Rattle.smap_locations.specs.ListLine.{is_rule}
 use Rattle.smap_locations.specs.Locations.{LocationsSeen, path_for}
 use Rattle.smap_record.specs.Record.{MapRecord}
 use Rattle.smap_replies.specs.Arguments.{argument_of}
 use Rattle.smap_replies.specs.Files.{MayRead}
-use Rattle.smap_replies.specs.Lines.{memory_line}
-use Rattle.smap_replies.specs.Streams.{IsReportedTo}
 use Rattle.smap_store.specs.Names.{NamesCame, declared_in}
 use Rattle.smap_store.specs.declared.names_cache.NamesCache.{NamesCache}
 use Rattle.smap_text.specs.Shown.{shown}
 use Rattle.smap_text_answers.specs.Generated.{generated_path, is_generated}
+use Rattle.smap_text_answers.specs.Told.{Said, Tells, ToldSeen, line, nothing, shortage}
 use Rattle.smap_text_answers.specs.declared.namer.FileNamer.{FileNamer}
-use Rattle.smap_text_answers.specs.declared.told.NamesTold.{NamesTold}
 
 -- ---- what is told
-
--- lines of text, each once, and whether memory ran out
-pub record ToldSeen : Type 0 where
-  pub text : List ℕ
-  pub short : Bool
-
-abbrev pub told_seen : NamesTold → ToldSeen
-told_seen told = record { text = string_bytes told.text; short = told.is_short }
-
-abbrev pub nothing_told : ToldSeen
-nothing_told = record { text = []; short = false }
-
--- what there is to tell of a program: nothing, a line without its LF, or that memory ran out
-pub data Said : Type 0 where
-  nothing : Said
-  line : List ℕ → Said
-  shortage : Said
-
--- a line is told that was not told before, as long as less than 65,536 bytes were
-abbrev pub is_told : ToldSeen → (text : List ℕ) → Bool
-is_told told text = nat_le 65536 (length told.text) || list_any (λ other. bytes_eq other text) (lines told.text)
-
-abbrev pub tells : ToldSeen → Said → ToldSeen
-tells told nothing = told
-tells told (line text) = if is_told told text then told else record told { text = told.text ++ text ++ codes "\n" }
-tells told shortage = record told { short = true }
-
--- it is told, or there was not enough memory for that
-abbrev pub Tells : (old : ToldSeen) → Said → (new : ToldSeen) → Type 0
-Tells old said new = (new ≡ tells old said) ⊎ (new ≡ tells old shortage)
 
 abbrev pub no_file_beside_text : (path : List ℕ) → List ℕ
 no_file_beside_text path = codes "names: no file beside " ++ shown path
@@ -145,25 +109,3 @@ pub record IsSameNamer {F : Type 0} (old new : FileNamer F) : Type 0 where
 -- what is told, where memory may have run out for what is remembered
 abbrev pub told_at_end : NamesCache → ToldSeen → ToldSeen
 told_at_end names told = record told { short = told.short || nat_lt 0 names.shortages }
-
--- behind the lines that memory ran out
-abbrev pub names_text : ToldSeen → List ℕ
-names_text told = told.text ++ (if told.short then memory_line else [])
-
-abbrev pub has_told : ToldSeen → Bool
-has_told told = told.short || nat_lt 0 (length told.text)
-
-abbrev pub names_status : ToldSeen → ℕ
-names_status told = if told.short then 3 else 0
-
--- what was told is reported, or that memory ran out for it, and this is the status of that
-abbrev pub ReportsNames : ToldSeen → (status : ℕ) → (before after : SinkSeen) → Type 0
-ReportsNames told status before after =
-    MatchBool (has_told told)
-    (((status ≡ names_status told) × IsReportedTo before after (names_text told)) ⊎ ((status ≡ 3) × IsReportedTo before after memory_line))
-    ((status ≡ 0) × (after ≡ before))
-
--- of a text that was rewritten to its end
-abbrev pub TellsNames : {C : Type 0} → ToldSeen → Result C LineFault → (status : ℕ) → (before after : SinkSeen) → Type 0
-TellsNames told (Ok counts) status before after = ReportsNames told status before after
-TellsNames told (Err fault) status before after = (status ≡ 0) × (after ≡ before)

@@ -7,7 +7,8 @@ use Rattle.smap_replies.specs.Files.{MayRead}
 use Rattle.smap_store.specs.Named.{FindsNamed, GivesNamed, NamedSeen, names_in}
 use Rattle.smap_store.specs.Names.{names_at_first}
 use Rattle.smap_store.specs.Stored.{StoredSeen, found_in}
-use Rattle.smap_text_answers.specs.Names.{MayNameBy, NamesBy, Programs, ToldSeen, nothing_told, told_at_end}
+use Rattle.smap_text_answers.specs.Names.{MayNameBy, NamesBy, Programs, told_at_end}
+use Rattle.smap_text_answers.specs.Told.{ToldSeen, nothing_told}
 use Rattle.smap_trace.specs.Hiding.{HidingSeen}
 use Rattle.smap_trace.specs.Rewriting.{RewriteAsked, RewritesNamed, RewritesNamedFront}
 use Rattle.smap_trace.specs.UrlNotes.{NotesSeen}

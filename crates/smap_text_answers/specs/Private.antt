@@ -1,5 +1,6 @@
 -- What contracts of private functions alone cite.
 pub mod Causes
+pub mod Fitting
 pub mod Gathering
 pub mod Listing
 pub mod Naming

@@ -1,5 +1,5 @@
 -- What is asked of `rewrite`, the base and the interval aside.
-use Rattle.std.specs.Prelude.{◌-◌, ◌/◌, ◌^◌, ◌||◌, ℕ, Bool, List, Option, String, if◌then◌else◌, map, option_map, string_bytes, unwrap_or}
+use Rattle.std.specs.Prelude.{◌+◌, ◌-◌, ◌/◌, ◌^◌, ◌||◌, ℕ, Bool, List, Option, Some, None, String, if◌then◌else◌, length, map, option_map, string_bytes, unwrap_or}
 use Rattle.std.specs.List.{list_any}
 use Rattle.smap_command.specs.Limits.{usual_cache_bytes, usual_limit_bytes}
 use Rattle.smap_command.specs.Options.{are_further}
@@ -17,6 +17,7 @@ pub record RequestSeen : Type 0 where
   pub hide : HidingSeen
   pub anywhere : Bool
   pub names : Bool
+  pub fit : Bool
   pub cache_bytes : ℕ
   pub names_bytes : ℕ
   pub limit_bytes : ℕ
@@ -48,6 +49,7 @@ module _ {A : Type 0} (maps : List (String A × String A)) where
     hide = record { ignored = hide; texts = map string_bytes options.hide.items };
     anywhere = options.anywhere;
     names = options.names;
+    fit = options.fit;
     cache_bytes = unwrap_or options.cache_bytes usual_cache_bytes - bytes_for_names options.names (unwrap_or options.cache_bytes usual_cache_bytes);
     names_bytes = bytes_for_names options.names (unwrap_or options.cache_bytes usual_cache_bytes);
     limit_bytes = unwrap_or options.limit_bytes usual_limit_bytes;
@@ -60,6 +62,10 @@ module _ {A : Type 0} (maps : List (String A × String A)) where
 
 abbrev pub request_seen : {F : Type 0} → TextRequest F → RequestSeen
 request_seen request = request_of request.arguments.now request.hide_ignored request.options.now request.hint
+
+-- where maps are compared with their generated files, the number under which these are read, which is that of other programs too
+abbrev pub fit_number : RequestSeen → Option ℕ
+fit_number request = if request.fit then Some (length request.arguments + 2) else None
 
 -- how many of the places are counted, at most, that are passed: all for a summary, and else one where a terminal is told of them
 abbrev pub most_passed : RequestSeen → ℕ

@@ -1,7 +1,7 @@
 -- What `rewrite` does over files and folders of maps that are read when a trace names them: it gathers what it is over, rewrites
 -- the text over a store of maps, and says what that came to. The status is the greatest of all that was reported.
-use Rattle.std.specs.Prelude.{◌≡◌, ◌⊎◌, ℕ, ◌+◌, ◌-◌, ◌^◌, ◌==◌, Bool, List, [], ◌∷◌, Option, Result, Ok, Err, MatchBool, codes, length, max, min}
-use Rattle.std.specs.Prelude.{◌++◌, ◌&&◌, ◌||◌, false, if◌then◌else◌, is_ok, nat_lt, not, true}
+use Rattle.std.specs.Prelude.{◌≡◌, ◌⊎◌, ℕ, ◌+◌, ◌==◌, Bool, List, [], ◌∷◌, Option, Result, Ok, Err, MatchBool, codes, length, max}
+use Rattle.std.specs.Prelude.{◌++◌, ◌&&◌, ◌||◌, false, if◌then◌else◌, is_ok, nat_lt, not}
 use Rattle.std.specs.Fmt.{decimal}
 use Rattle.std.specs.List.{concat}
 use Rattle.url.specs.Parts.{Parts}
@@ -25,21 +25,23 @@ use Rattle.smap_trace.specs.Noted.{nothing_noted}
 use Rattle.smap_trace.specs.Passed.{PlaceCount}
 use Rattle.smap_trace.specs.UrlNotes.{NotesSeen}
 use Rattle.smap_text_answers.specs.Dotted.{TellsDotted, with_errors}
+use Rattle.smap_text_answers.specs.Fitting.{Compares}
 use Rattle.smap_text_answers.specs.Lines.{counted_text}
-use Rattle.smap_text_answers.specs.Names.{Programs, TellsNames, ToldSeen, nothing_told}
+use Rattle.smap_text_answers.specs.Names.{Programs}
+use Rattle.smap_text_answers.specs.Told.{TellsLines, ToldSeen, nothing_told, told_seen}
 use Rattle.smap_text_answers.specs.Naming.{RewritesNames, RewritesNamesFront}
 use Rattle.smap_text_answers.specs.Required.{Requires}
 use Rattle.smap_text_answers.specs.UrlLines.{TellsUrls}
 use Rattle.smap_trace.specs.Rewriting.{Looked, RewriteAsked, RewritesFrontOver, RewritesOver}
 use Rattle.smap_trace.specs.declared.outcome.RewriteCounts.{RewriteCounts}
-use Rattle.smap_replies.specs.Files.{MayRead}
+use Rattle.smap_replies.specs.Files.{MayCause, MayRead}
 use Rattle.smap_command.specs.Lines.{line_from}
 use Rattle.smap_replies.specs.Lines.{memory_line}
 use Rattle.smap_replies.specs.Outcome.{Report}
 use Rattle.smap_text_answers.specs.SameBytes.{AreSettled, BytesByPath, ReadsSame, maps_at, stored_maps}
 use Rattle.smap_text_answers.specs.Sources.{GathersSources}
 use Rattle.smap_replies.specs.Streams.{Ends, IsReportedTo, Sinks, Streams, sinks_seen}
-use Rattle.smap_text_answers.specs.Request.{RequestSeen, most_passed}
+use Rattle.smap_text_answers.specs.Request.{RequestSeen, fit_number, most_passed}
 use Rattle.smap_text_answers.specs.StoreRun.{EndsStore, IsOverStore}
 use Rattle.smap_text_answers.specs.declared.storing.StoreEnd.{StoreEnd}
 use Rattle.smap_text_answers.specs.declared.sources.MapSources.{MapSources}
@@ -124,12 +126,13 @@ pub record EndsText {R W L : Type 0} (input_seen : R → SourceSeen) (output_see
       (RewritesTextFront Reads request sources (GivesIn May old)) result
   pub looked : Looked (FindsIn Loads) old new
 
--- what rewriting over a store came to, and what was noted and told then
-abbrev pub IsTextOverStore : MayRead → Option Parts → (k : ℕ) → RequestSeen → MapSources → StoreEnd RewriteCounts → (notes others : NotesSeen) → (told : ToldSeen)
+-- what rewriting over a store came to, after this was told of maps that were compared, and what was noted and told of names then
+abbrev pub IsTextOverStore : MayRead → MayCause → Option Parts → (k : ℕ) → RequestSeen → MapSources → StoreEnd RewriteCounts → (compared : ToldSeen) → (notes others : NotesSeen) → (told : ToldSeen)
     → (before after : Streams) → Type 0
-IsTextOverStore Reads base k request sources end notes others told before after =
+IsTextOverStore Reads Causes base k request sources end compared notes others told before after =
     IsOverStore (λ Finds before after old new counts. RewritesText Reads request sources Finds before after old new counts notes others told)
-    (RewritesTextFront Reads request sources) Reads request.paths base k (length request.arguments + 1) request.cache_bytes sources end before after
+    (RewritesTextFront Reads request sources) Reads Causes request.paths base k (length request.arguments + 1) (fit_number request) request.cache_bytes compared sources end
+    before after
 
 -- a text becomes what the maps make of it that a function gives: its places, by these parts, or the frames of a trace
 abbrev pub RewritesTextBy : (anywhere : Bool) → (maps : MapsByUrl) → (parts : List ℕ → List Part) → (hide : HidingSeen) → (most : ℕ)
@@ -138,11 +141,11 @@ RewritesTextBy anywhere maps parts hide most before after counts =
     MatchBool anywhere (RewritesAnywhereBy maps parts most before after counts.summary) (RewritesBy maps hide most before after counts)
 
 -- where each path gives the same bytes whenever it is read, and nothing was reported of a map, or what fails always fails and no map
--- was lost, a text whose functions keep their names becomes what the maps make of it that the files have, however few are kept; the URL of a file that can't be read
+-- was lost, a text whose functions keep their names, over maps that are not compared, becomes what the maps make of it that the files have, however few are kept; the URL of a file that can't be read
 -- or whose map is refused has none
 abbrev pub AnswersByPath : MayRead → Option Parts → (k : ℕ) → RequestSeen → MapSources → StoreEnd RewriteCounts → (before after : Streams) → Type 0
 AnswersByPath Reads base k request sources end before after =
-    (bytes_at : BytesByPath) → ReadsSame Reads (length request.arguments + 1) bytes_at → request.names ≡ false
+    (bytes_at : BytesByPath) → ReadsSame Reads (length request.arguments + 1) bytes_at → request.names ≡ false → request.fit ≡ false
     → (counts : RewriteCounts) → end.result ≡ Ok counts
     → AreSettled Reads (length request.arguments + 1) bytes_at end.status end.lost → end.shortages ≡ 0
     → RewritesTextBy request.anywhere (stored_maps (maps_at request.paths base k bytes_at) sources.exact sources.locations) (parts_in (urls_of sources)) request.hide request.limit_bytes
@@ -198,7 +201,7 @@ abbrev pub SaysUrls : MayRead → Option Parts → (k : ℕ) → RequestSeen →
     → (before after : SinkSeen) → Type 0
 SaysUrls Reads base k request sources end notes others status before after =
     MatchBool (says_urls request end)
-    (TellsUrls Reads request.paths base k (length request.arguments + 1) request.arguments sources.locations request.anywhere notes others
+    (TellsUrls Reads request.paths base k (length request.arguments + 1) (fit_number request) request.arguments sources.locations request.anywhere notes others
     status before after)
     ((status ≡ 0) × (after ≡ before))
 
@@ -250,24 +253,35 @@ Hints request end notes said status before after =
 
 -- ---- the run
 
--- over what it gathered, or where that is refused
-abbrev pub RewritesSources : MayRead → Option Parts → (k : ℕ) → RequestSeen → Result MapSources Report → (status : ℕ) → (before after : Streams) → Type 0
-RewritesSources Reads base k request (Err refused) status before after = (after.input ≡ before.input) × Ends refused status before.sinks after.sinks
-RewritesSources Reads base k request (Ok sources) status before after =
+-- over what it gathered, where the maps of words came to this when they were compared
+abbrev pub RewritesCompared : MayRead → MayCause → Option Parts → (k : ℕ) → RequestSeen → MapSources → Result ToldSeen Report → (status : ℕ)
+    → (before after : Streams) → Type 0
+RewritesCompared Reads Causes base k request sources (Err refused) status before after =
+    (after.input ≡ before.input) × Ends refused status before.sinks after.sinks
+RewritesCompared Reads Causes base k request sources (Ok compared) status before after =
     (end : StoreEnd RewriteCounts) × (notes : NotesSeen) × (others : NotesSeen) × (warned : SinkSeen) × (told : ToldSeen) × (between : Streams) × (stood : Sinks)
-    × (listed : SinkSeen) × (summed : SinkSeen) × (named : SinkSeen) × (refused : Sinks) × (ended : ℕ) × (listing : ℕ) × (summing : ℕ) × (said : ℕ) × (needed : ℕ)
-    × (reported : ℕ) × (hinted : ℕ)
+    × (listed : SinkSeen) × (fitted : SinkSeen) × (summed : SinkSeen) × (named : SinkSeen) × (refused : Sinks) × (ended : ℕ) × (listing : ℕ) × (fitting : ℕ)
+    × (summing : ℕ) × (said : ℕ) × (needed : ℕ) × (reported : ℕ) × (hinted : ℕ)
     × TellsDotted request.arguments before.sinks.errors warned
-    × IsTextOverStore Reads base k request sources end notes others told (with_errors warned before) between
+    × IsTextOverStore Reads Causes base k request sources end compared notes others told (with_errors warned before) between
     × AnswersByPath Reads base k request sources end (with_errors warned before) between × (after.input ≡ between.input) × EndsStore end request.missing_ok ended between.sinks stood
-    × TellsNames told end.result listing stood.errors listed
-    × SumsUp end request.summary request.anywhere summing listed summed
+    × TellsLines told end.result listing stood.errors listed
+    × TellsLines (told_seen end.told) end.result fitting listed fitted
+    × SumsUp end request.summary request.anywhere summing fitted summed
     × SaysUrls Reads base k request sources end notes others said summed named
     × Requires request end.result needed (sinks_seen stood.output named stood.code) refused
     × (after.sinks.output ≡ refused.output) × (after.sinks.code ≡ refused.code) × Hints request end notes reported hinted refused.errors after.sinks.errors
-    × (reported ≡ max (max (max (max ended listing) summing) said) needed) × (status ≡ max reported hinted)
+    × (reported ≡ max (max (max (max (max ended listing) fitting) summing) said) needed) × (status ≡ max reported hinted)
 
-abbrev pub RewritesFrom : MayRead → Option Parts → (k : ℕ) → RequestSeen → (status : ℕ) → (before after : Streams) → Type 0
-RewritesFrom Reads base k request status before after =
+-- the maps of words are compared first, or what was gathered is refused
+abbrev pub RewritesSources : MayRead → MayCause → Option Parts → (k : ℕ) → RequestSeen → Result MapSources Report → (status : ℕ)
+    → (before after : Streams) → Type 0
+RewritesSources Reads Causes base k request (Err refused) status before after = (after.input ≡ before.input) × Ends refused status before.sinks after.sinks
+RewritesSources Reads Causes base k request (Ok sources) status before after =
+    (compared : Result ToldSeen Report) × Compares Reads (fit_number request) sources.exact request.arguments compared
+    × RewritesCompared Reads Causes base k request sources compared status before after
+
+abbrev pub RewritesFrom : MayRead → MayCause → Option Parts → (k : ℕ) → RequestSeen → (status : ℕ) → (before after : Streams) → Type 0
+RewritesFrom Reads Causes base k request status before after =
     (gathered : Result MapSources Report) × GathersSources Reads request.paths request.anywhere base k request.arguments request.list gathered
-    × RewritesSources Reads base k request gathered status before after
+    × RewritesSources Reads Causes base k request gathered status before after

@@ -1,5 +1,5 @@
 -- A run over a store of maps that are read when a text names them: how it ends, and what is reported then.
-use Rattle.std.specs.Prelude.{◌≡◌, ◌⊎◌, ℕ, ◌+◌, ◌-◌, ◌^◌, ◌==◌, Bool, false, List, Option, Result, Ok, Err, IfErr, IfOk, MatchBool, [], if◌then◌else◌, length, max, min, option_copied}
+use Rattle.std.specs.Prelude.{◌≡◌, ℕ, ◌+◌, ◌-◌, ◌^◌, ◌==◌, Bool, List, Option, Result, Ok, Err, IfErr, IfOk, MatchBool, [], if◌then◌else◌, length, max, min, option_copied}
 use Rattle.url.specs.Parts.{Parts}
 use Rattle.smap_codes.specs.declared.code.Code.{Code}
 use Rattle.smap_io.specs.Device.{SinkSeen}
@@ -8,7 +8,7 @@ use Rattle.smap_lines.specs.RunEnds.{is_read_fault}
 use Rattle.smap_lines.specs.declared.fault.LineFault.{LineFault}
 use Rattle.smap_lines.specs.declared.fault.LineFault.TheVariants.{Memory}
 use Rattle.smap_record.specs.Record.{MapRecord}
-use Rattle.smap_replies.specs.Files.{MayRead}
+use Rattle.smap_replies.specs.Files.{MayCause, MayRead}
 use Rattle.smap_replies.specs.Lines.{memory_line}
 use Rattle.smap_replies.specs.Outcome.{answer, fault_report}
 use Rattle.smap_replies.specs.Streams.{Ends, IsReportedTo, Sinks, Streams}
@@ -18,6 +18,7 @@ use Rattle.smap_text_answers.specs.Loader.{LoaderSeen, Loads, MayLoad, loader_at
 use Rattle.smap_text_answers.specs.declared.loader.FileLoader.{FileLoader}
 use Rattle.smap_text_answers.specs.declared.sources.MapSources.{MapSources}
 use Rattle.smap_text_answers.specs.declared.storing.StoreEnd.{StoreEnd}
+use Rattle.smap_text_answers.specs.Told.{ToldSeen, told_seen}
 use Rattle.smap_trace.specs.Rewriting.{Looked}
 
 -- ---- the store
@@ -26,16 +27,17 @@ use Rattle.smap_trace.specs.Rewriting.{Looked}
 abbrev pub store_of : {L : Type 0} → MapSources → CacheSeen → (loader : L) → StoredSeen L
 store_of sources cache loader = record { exact = sources.exact; locations = sources.locations; cache = cache; loader = loader }
 
--- the store before anything was read into it
-abbrev pub store_start : MapSources → (cache_bytes : ℕ) → (errors : SinkSeen) → (code : Option Code) → StoredSeen LoaderSeen
-store_start sources cache_bytes errors code = store_of sources (cache_at_first cache_bytes) (loader_at_first errors code)
+-- the store before anything was read into it, after this was told
+abbrev pub store_start : MapSources → (cache_bytes : ℕ) → (errors : SinkSeen) → (code : Option Code) → (told : ToldSeen) → StoredSeen LoaderSeen
+store_start sources cache_bytes errors code told = store_of sources (cache_at_first cache_bytes) (loader_at_first errors code told)
 
 -- what such a loader gives, as a run shows it, and what it may give
-abbrev pub LoadsOf : {F E : Type 0} → (gives : F → MayRead) → FileLoader F E → LoadsStep LoaderSeen
-LoadsOf gives loader = Loads (gives loader.maps.now.files.now) loader.paths (option_copied loader.maps.now.base) loader.maps.now.interval loader.number
+abbrev pub LoadsOf : {F E : Type 0} → (gives : F → MayRead) → (causes : F → MayCause) → FileLoader F E → LoadsStep LoaderSeen
+LoadsOf gives causes loader = Loads (gives loader.maps.now.files.now) (causes loader.maps.now.files.now) loader.paths (option_copied loader.maps.now.base)
+    loader.maps.now.interval loader.number loader.fit
 
 abbrev pub MayLoadOf : {F E : Type 0} → (gives : F → MayRead) → FileLoader F E → LoadsMay LoaderSeen
-MayLoadOf gives loader seen = MayLoad (gives loader.maps.now.files.now) loader.paths (option_copied loader.maps.now.base) loader.maps.now.interval loader.number
+MayLoadOf gives loader seen = MayLoad (gives loader.maps.now.files.now) loader.paths (option_copied loader.maps.now.base) loader.maps.now.interval loader.number loader.fit
 
 -- ---- what is made of a text
 
@@ -50,17 +52,18 @@ Giving = (url : List ℕ) → Option MapRecord → Type 0
 abbrev pub both_counted : ℕ → ℕ → ℕ
 both_counted one other = min (one + other) (2 ^ 64 - 1)
 
--- what a run came to that makes this of a text, whole or up to a fault, over maps whose files are read under this number
+-- what a run came to that makes this of a text, whole or up to a fault, over maps whose files are read under this number,
+-- and compared with the generated files, which are read under another, where there is one, and after this was told
 pub record IsOverStore {C : Type 0} (Whole : Finding → (before after : DevicesSeen) → (old new : StoredSeen LoaderSeen) → C → Type 0)
-    (Front : Giving → (before after : DevicesSeen) → LineFault → Type 0) (Reads : MayRead) (paths : Bool) (base : Option Parts) (k number cache_bytes : ℕ)
-    (sources : MapSources) (end : StoreEnd C) (before after : Streams) : Type 0 where
+    (Front : Giving → (before after : DevicesSeen) → LineFault → Type 0) (Reads : MayRead) (Causes : MayCause) (paths : Bool) (base : Option Parts)
+    (k number : ℕ) (fit : Option ℕ) (cache_bytes : ℕ) (compared : ToldSeen) (sources : MapSources) (end : StoreEnd C) (before after : Streams) : Type 0 where
   pub last : StoredSeen LoaderSeen
-  pub whole : IfOk end.result (Whole (FindsIn (Loads Reads paths base k number)) (devices_seen before.input before.sinks.output)
-      (devices_seen after.input after.sinks.output) (store_start sources cache_bytes before.sinks.errors before.sinks.code) last)
+  pub whole : IfOk end.result (Whole (FindsIn (Loads Reads Causes paths base k number fit)) (devices_seen before.input before.sinks.output)
+      (devices_seen after.input after.sinks.output) (store_start sources cache_bytes before.sinks.errors before.sinks.code compared) last)
   pub front : IfErr end.result (Front
-      (GivesIn (λ loader. MayLoad Reads paths base k number) (store_start sources cache_bytes before.sinks.errors before.sinks.code))
+      (GivesIn (λ loader. MayLoad Reads paths base k number fit) (store_start sources cache_bytes before.sinks.errors before.sinks.code compared))
       (devices_seen before.input before.sinks.output) (devices_seen after.input after.sinks.output))
-  pub looked : Looked (FindsIn (Loads Reads paths base k number)) (store_start sources cache_bytes before.sinks.errors before.sinks.code) last
+  pub looked : Looked (FindsIn (Loads Reads Causes paths base k number fit)) (store_start sources cache_bytes before.sinks.errors before.sinks.code compared) last
   pub errors : after.sinks.errors ≡ last.loader.errors
   pub code : after.sinks.code ≡ last.loader.code
   pub input_failed : after.input.failed ≡ is_read_fault end.result
@@ -71,6 +74,7 @@ pub record IsOverStore {C : Type 0} (Whole : Finding → (before after : Devices
   pub missing : end.missing ≡ last.cache.missing - last.loader.refused
   pub refused : end.refused ≡ last.loader.refused
   pub lost : end.lost ≡ last.loader.lost
+  pub told : told_seen end.told ≡ last.loader.told
   pub shortages : end.shortages ≡ last.cache.shortages
 
 -- ---- what is reported at the end

@@ -21,7 +21,10 @@ use Rattle.smap_replies.specs.declared.files.UnreadCause.{UnreadCause}
 use Rattle.smap_replies.specs.declared.files.UnreadCause.TheVariants as causes
 use Rattle.smap_text.specs.Shown.{shown}
 use Rattle.smap_replies.specs.Standing.{IsRefusedFor}
-use Rattle.smap_text_answers.specs.Loader.{IsLoaded}
+use Rattle.smap_store.specs.declared.loader.NoMap.TheVariants.{Unnamed}
+use Rattle.smap_text_answers.specs.Fitting.{misfit_report}
+use Rattle.smap_text_answers.specs.Loader.{FailsBy, IsUsable}
+use Rattle.smap_text_answers.specs.Told.{Said}
 use Rattle.smap_text_answers.specs.Standing.{record_loaded}
 use Rattle.smap_store.specs.Fileless.{asks_no_file}
 use Rattle.smap_text_answers.specs.NearestUrl.{nearest_of}
@@ -123,7 +126,7 @@ no_place_line = codes "no place was found: a place is a URL of an argument befor
 abbrev pub nothing_line : (anywhere : Bool) → List ℕ
 nothing_line anywhere = if anywhere then no_place_line else no_frame_line
 
-module _ (Reads : MayRead) (paths : Bool) (base : Option Parts) (k number : ℕ) where
+module _ (Reads : MayRead) (paths : Bool) (base : Option Parts) (k number : ℕ) (fit : Option ℕ) where
   -- the file can't be read, and of that this is a cause
   abbrev pub IsUnreadFor : (path text : List ℕ) → Type 0
   IsUnreadFor path text = Reads number path (Err Device) × ((cause : UnreadCause) × (text ≡ unread_text path cause))
@@ -133,14 +136,19 @@ module _ (Reads : MayRead) (paths : Bool) (base : Option Parts) (k number : ℕ)
   IsRefusedBy url path text = (bytes : List ℕ) × (refusal : MapRefusal) × Reads number path (Ok bytes)
       × IsRefusedFor (record_loaded paths base k url bytes) refusal × (text ≡ body_of (refusal_result path refusal).text)
 
+  -- or it does not fit its generated file
+  abbrev pub IsMisfitBy : (url path text : List ℕ) → Type 0
+  IsMisfitBy url path text = FailsBy Reads paths base k number fit Unnamed url path × (text ≡ body_of (misfit_report path).text)
+
   -- or it gives a map now
   abbrev pub IsLate : (url path text : List ℕ) → Type 0
   IsLate url path text =
-      ((stated : MapRecord) × (file_bytes : ℕ) × IsLoaded Reads paths base k number url path stated file_bytes) × (text ≡ late_text path)
+      ((stated : MapRecord) × (file_bytes : ℕ) × (said : Said) × IsUsable Reads paths base k number fit url path stated file_bytes said)
+      × (text ≡ late_text path)
 
   -- what reading it again comes to
   unfoldable pub IsCause : (url path text : List ℕ) → Type 0
-  IsCause url path text = IsUnreadFor path text ⊎ IsRefusedBy url path text ⊎ IsLate url path text
+  IsCause url path text = IsUnreadFor path text ⊎ IsRefusedBy url path text ⊎ IsMisfitBy url path text ⊎ IsLate url path text
 
   -- ---- a line for each
 

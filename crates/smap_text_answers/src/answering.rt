@@ -28,6 +28,7 @@ pub fn answer_rewrite<F: FileReader, R: ByteSource, W: ByteSink, E: ByteSink>(
     requires input_works { (R.seen input.old).failed ≡ false }
     requires output_works { (W.seen output.old).failed ≡ false }
     ensures { RunsRewrite (F.gives request.now.maps.now.files.now)
+        (F.causes request.now.maps.now.files.now)
         (option_copied request.now.maps.now.base) request.now.maps.now.interval
         request.now.arguments.now request.now.hide_ignored request.now.options.now
         request.now.hint result

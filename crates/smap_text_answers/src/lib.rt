@@ -11,6 +11,7 @@
 mod answering;
 mod dotted;
 mod ending;
+mod fitting;
 mod generated;
 mod lines;
 mod loader;

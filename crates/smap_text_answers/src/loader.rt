@@ -1,12 +1,16 @@
 //! The maps that are read when a text names them.
-ghost use Rattle.std.specs.Prelude.{◌≡◌, ◌⊎◌, option_copied, IfErr, IfOk};
-ghost use Rattle.std.specs.Bool.{OnTrue};
-ghost use Rattle.smap_text_answers.specs.Loader.{FailsBy, IsLoaded, IsReportFor, Notes, is_lost, is_of_url, loader_at_first, loader_seen};
+ghost use Rattle.std.specs.Prelude.{◌≡◌, ◌⊎◌, cond, max, option_copied, IfErr, IfOk};
+ghost use Rattle.smap_store.specs.Loaded.{loaded_seen};
+ghost use Rattle.smap_text_answers.specs.Fitting.{Fits, FitsNot};
+ghost use Rattle.smap_text_answers.specs.Told.{said_by, told_seen};
+ghost use Rattle.smap_text_answers.specs.Loader.{FailsBy, IsLoaded, IsMissing, IsReportFor, Notes, is_lost, is_no_file, is_of_url, loader_at_first, loader_seen};
 ghost use Rattle.smap_replies.specs.Outcome.{failure_report};
-ghost use Rattle.smap_store.specs.declared.loader.NoMap.TheVariants.{Memory, Unread};
+ghost use Rattle.smap_store.specs.declared.loader.NoMap.TheVariants.{Memory, Unnamed};
 
+use crate::fitting::{Fitting, fitting_of, refused_misfit};
 use crate::lines;
 use crate::standing::standing_loaded;
+use crate::told::ToldLines;
 use smap_codes::Code;
 use smap_io::{ByteSink, ReadFailure};
 use smap_record::MapRefusal;
@@ -28,6 +32,8 @@ pub struct FileLoader<'m, 'r, 'e, F: FileReader, E: ByteSink> {
     pub paths: bool,
     /// The number under which the files are read, which comes after those of the command's own.
     pub number: usize,
+    /// Where maps are compared with their generated files, the number under which these are read.
+    pub fit: Option<usize>,
     pub errors: &'e mut E,
     /// The greatest status of what was reported, or would have been.
     pub status: u8,
@@ -41,28 +47,44 @@ pub struct FileLoader<'m, 'r, 'e, F: FileReader, E: ByteSink> {
     pub refused: u64,
     /// Whether one was lost of which its file does not say so: memory ran out, or the URL of a source was too long.
     pub lost: bool,
+    /// What is told of maps that were not compared.
+    pub told: &'e mut ToldLines,
+}
+
+/// A map that came from a file, and what is told of it, without its LF.
+#[derive(Drop)]
+pub(crate) struct LoadedFile {
+    pub(crate) loaded: LoadedMap,
+    pub(crate) told: Option<String>,
 }
 
 impl<'m, 'r, 'e, F: FileReader, E: ByteSink> FileLoader<'m, 'r, 'e, F, E> {
-    // What has read nothing yet, after a first refusal with this code.
+    // What has read nothing yet, after a first refusal with this code, and after this was told.
     pub(crate) fn new(
         maps: &'m MapReader<'r, F>,
         paths: bool,
         number: usize,
+        fit: Option<usize>,
         errors: &'e mut E,
         code: Option<Code>,
+        told: &'e mut ToldLines,
     ) -> FileLoader<'m, 'r, 'e, F, E>
         ensures maps { result.maps ≡ maps.entry }
         ensures paths { result.paths ≡ paths }
         ensures number { result.number ≡ number }
+        ensures fit { result.fit ≡ fit }
         ensures same_errors { result.errors.ghost_name ≡ errors.entry.ghost_name }
         ensures errors { result.errors.now ≡ errors.old }
-        ensures seen { loader_seen E.seen result ≡ loader_at_first (E.seen errors.old) code }
+        ensures same_told { result.told.ghost_name ≡ told.entry.ghost_name }
+        ensures told { result.told.now ≡ told.old }
+        ensures seen { loader_seen E.seen result ≡ loader_at_first (E.seen errors.old) code
+            (told_seen told.old) }
     {
         FileLoader {
             maps,
             paths,
             number,
+            fit,
             errors,
             status: DONE,
             present_status: DONE,
@@ -70,11 +92,31 @@ impl<'m, 'r, 'e, F: FileReader, E: ByteSink> FileLoader<'m, 'r, 'e, F, E> {
             reported: 0,
             refused: 0,
             lost: false,
+            told,
         }
     }
 
-    // The map of a URL from the file at a path, or why there is none.
-    pub(crate) fn load_at(&self, alloc: Global, url: &[u8], path: &str) -> Result<LoadedMap, NoMap>
+    // The map of a URL from the file at a path, with what is told of it, or why there is none.
+    pub(crate) fn load_at(&self, alloc: Global, url: &[u8], path: &str) -> Result<LoadedFile, NoMap>
+        ensures read { IfOk result (λ file.
+            IsLoaded (F.gives self.now.maps.now.files.now) self.now.paths
+            (option_copied self.now.maps.now.base) self.now.maps.now.interval self.now.number
+            url.now path.now file.loaded.map.stated file.loaded.file_bytes
+            × Fits (F.gives self.now.maps.now.files.now) self.now.fit path.now
+            file.loaded.map.stated (said_by file.told)) }
+        ensures failed { IfErr result (λ why.
+            FailsBy (F.gives self.now.maps.now.files.now) self.now.paths
+            (option_copied self.now.maps.now.base) self.now.maps.now.interval self.now.number
+            self.now.fit why url.now path.now) }
+    {
+        match self.read_at(alloc, url, path) {
+            Ok(loaded) => self.compared(alloc, path, loaded),
+            Err(why) => Err(why),
+        }
+    }
+
+    // The same, before it is compared with its generated file.
+    fn read_at(&self, alloc: Global, url: &[u8], path: &str) -> Result<LoadedMap, NoMap>
         ensures read { IfOk result (λ loaded.
             IsLoaded (F.gives self.now.maps.now.files.now) self.now.paths
             (option_copied self.now.maps.now.base) self.now.maps.now.interval self.now.number
@@ -82,7 +124,7 @@ impl<'m, 'r, 'e, F: FileReader, E: ByteSink> FileLoader<'m, 'r, 'e, F, E> {
         ensures failed { IfErr result (λ why.
             FailsBy (F.gives self.now.maps.now.files.now) self.now.paths
             (option_copied self.now.maps.now.base) self.now.maps.now.interval self.now.number
-            why url.now path.now) }
+            self.now.fit why url.now path.now) }
     {
         match self.maps.files.read_file(alloc, self.number, path) {
             Ok(bytes) => {
@@ -99,20 +141,40 @@ impl<'m, 'r, 'e, F: FileReader, E: ByteSink> FileLoader<'m, 'r, 'e, F, E> {
         }
     }
 
+    // The map of the file at a path, where it fits its generated file, with what is told of it; a URL whose map does not has none.
+    fn compared(&self, alloc: Global, path: &str, loaded: LoadedMap) -> Result<LoadedFile, NoMap>
+        ensures same { IfOk result (λ file. loaded_seen file.loaded ≡ loaded_seen loaded) }
+        ensures fits { IfOk result (λ file. Fits (F.gives self.now.maps.now.files.now) self.now.fit
+            path.now loaded.map.stated (said_by file.told)) }
+        ensures not { IfErr result (λ why. (why ≡ Memory) ⊎ ((why ≡ Unnamed) ×
+            FitsNot (F.gives self.now.maps.now.files.now) self.now.fit path.now
+            loaded.map.stated)) }
+    {
+        let Some(number) = self.fit else {
+            return Ok(LoadedFile { loaded, told: None });
+        };
+        match fitting_of(alloc, self.maps.files, number, path, &loaded.map) {
+            Ok(Fitting::Usable(told)) => Ok(LoadedFile { loaded, told }),
+            Ok(Fitting::Misfit) => Err(NoMap::Unnamed),
+            Err(_) => Err(NoMap::Memory),
+        }
+    }
+
     // Reports why a map can't be had from the file at a path, and counts that.
     fn note(&mut self, why: NoMap, path: &str, failure: &Failure)
-        ensures noted { Notes (loader_seen E.seen self.old) why (failure_report failure.now)
-            (loader_seen E.seen self.new) }
+        ensures noted { Notes (F.causes self.old.maps.now.files.now) (loader_seen E.seen self.old)
+            why path.now (failure_report failure.now) (loader_seen E.seen self.new) }
         ensures maps { self.new.maps ≡ self.old.maps }
         ensures paths { self.new.paths ≡ self.old.paths }
         ensures number { self.new.number ≡ self.old.number }
+        ensures fit { self.new.fit ≡ self.old.fit }
         ensures errors { self.new.errors.ghost_name ≡ self.old.errors.ghost_name }
+        ensures told { self.new.told.ghost_name ≡ self.old.told.ghost_name }
     {
         let status = failure.status();
         self.status = self.status.max(status);
-        if !self.is_missing(why, path) {
-            self.present_status = self.present_status.max(status);
-        }
+        let is_missing = self.is_missing(why, path);
+        self.present_status = status_beside(is_missing, self.present_status, status);
         if status == REFUSED {
             self.refused = self.refused.saturating_add(1);
         }
@@ -126,7 +188,7 @@ impl<'m, 'r, 'e, F: FileReader, E: ByteSink> FileLoader<'m, 'r, 'e, F, E> {
 
     // Whether a map can't be had since there is no file at a path: that is asked anew.
     fn is_missing(&self, why: NoMap, path: &str) -> bool
-        ensures { OnTrue result (why ≡ Unread) }
+        ensures { IsMissing (F.causes self.now.maps.now.files.now) why path.now result }
     {
         match why {
             NoMap::Unread => is_no_file(self.maps.files.unread_cause(path)),
@@ -135,8 +197,21 @@ impl<'m, 'r, 'e, F: FileReader, E: ByteSink> FileLoader<'m, 'r, 'e, F, E> {
     }
 }
 
+// The greater of a status and another, which counts where a file is not missing.
+fn status_beside(is_missing: bool, status: u8, other: u8) -> u8
+    ensures { result ≡ cond is_missing status (max status other) }
+{
+    if is_missing {
+        status
+    } else {
+        status.max(other)
+    }
+}
+
 // Whether there is no file.
-fn is_no_file(cause: UnreadCause) -> bool {
+fn is_no_file(cause: UnreadCause) -> bool
+    ensures { result ≡ is_no_file cause }
+{
     matches!(cause, UnreadCause::Missing)
 }
 
@@ -146,15 +221,18 @@ impl<F: FileReader, E: ByteSink> MapLoader for FileLoader<'_, '_, '_, F, E> {
     ghost use Rattle.smap_text_answers.specs.Laws.Loader.{given_load, same_load, some_load};
 
     ghost MayLoad = { λ loader. MayLoad (F.gives loader.maps.now.files.now) loader.paths (option_copied loader.maps.now.base)
-        loader.maps.now.interval loader.number };
+        loader.maps.now.interval loader.number loader.fit };
 
-    ghost Loads = { λ loader url path came after. Loads (F.gives loader.maps.now.files.now) loader.paths (option_copied loader.maps.now.base)
-        loader.maps.now.interval loader.number (loader_seen E.seen loader) url path came (loader_seen E.seen after)
+    ghost Loads = { λ loader url path came after. Loads (F.gives loader.maps.now.files.now) (F.causes loader.maps.now.files.now) loader.paths (option_copied loader.maps.now.base)
+        loader.maps.now.interval loader.number loader.fit (loader_seen E.seen loader) url path came (loader_seen E.seen after)
         × IsSameLoader loader after };
 
     fn load(&mut self, alloc: Global, url: &[u8], path: &str) -> Result<LoadedMap, NoMap> {
         match self.load_at(alloc, url, path) {
-            Ok(loaded) => Ok(loaded),
+            Ok(LoadedFile { loaded, told }) => {
+                self.told.tell_any(told);
+                Ok(loaded)
+            }
             Err(why) => {
                 let told = unloaded_for(alloc, path, why);
                 self.note(told.why, path, &told.failure);
@@ -164,10 +242,10 @@ impl<F: FileReader, E: ByteSink> MapLoader for FileLoader<'_, '_, '_, F, E> {
     }
 
     ghost some = { λ loader. some_load (F.gives loader.maps.now.files.now) loader.paths (option_copied loader.maps.now.base)
-        loader.maps.now.interval loader.number };
+        loader.maps.now.interval loader.number loader.fit };
 
     ghost given = { λ loader after url path came loads. given_load (F.gives loader.maps.now.files.now) loader.paths (option_copied loader.maps.now.base)
-        loader.maps.now.interval loader.number _ _ url path came loads.0 };
+        loader.maps.now.interval loader.number loader.fit (F.causes loader.maps.now.files.now) _ _ url path came loads.0 };
 
     ghost same = { λ loader after url path other other_path came more loads may. same_load F.gives loader after loads.1 other other_path more may };
 }
@@ -218,7 +296,8 @@ fn failure_for(alloc: Global, path: &str, why: NoMap) -> Result<Failure, AllocEr
     match why {
         NoMap::Unread => Ok(Failure::Unreadable(file_failed_line(alloc, path)?)),
         NoMap::Refused(refusal) => refusal_of(alloc, path, refusal),
-        NoMap::Unnamed | NoMap::Memory => Err(AllocError),
+        NoMap::Unnamed => refused_misfit(alloc, path),
+        NoMap::Memory => Err(AllocError),
     }
 }
 

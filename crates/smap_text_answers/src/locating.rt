@@ -15,6 +15,7 @@ use crate::loader::FileLoader;
 use crate::locator::Locator;
 use crate::sources::{MapSources, sources_of};
 use crate::storing::{StoreRun, StoreWork, finish, over_store};
+use crate::told::ToldLines;
 use smap_codes::Code;
 use smap_command::{AnswerOptions, Locate, USUAL_CACHE_BYTES};
 use smap_io::{ByteSink, ByteSource};
@@ -38,7 +39,7 @@ pub fn answer_locate<F: FileReader, R: ByteSource, W: ByteSink, E: ByteSink>(
 ) -> u8
     requires input_works { (R.seen input.old).failed ≡ false }
     requires output_works { (W.seen output.old).failed ≡ false }
-    ensures { RunsLocate (F.gives reader.now) asked.now result
+    ensures { RunsLocate (F.gives reader.now) (F.causes reader.now) asked.now result
         (streams_seen (R.seen input.old) (W.seen output.old) (E.seen errors.old) first.old)
         (streams_seen (R.seen input.new) (W.seen output.new) (E.seen errors.new) first.new) }
 {
@@ -56,6 +57,7 @@ pub fn answer_locate<F: FileReader, R: ByteSource, W: ByteSink, E: ByteSink>(
                 maps: &maps,
                 paths: asked.paths,
                 arguments,
+                fit: None,
                 cache_bytes: asked.cache_bytes.unwrap_or(USUAL_CACHE_BYTES),
                 sources: &sources,
             };
@@ -63,7 +65,8 @@ pub fn answer_locate<F: FileReader, R: ByteSource, W: ByteSink, E: ByteSink>(
                 alloc,
                 options: asked.options,
             };
-            let end = over_store(&run, &mut work, input, output, errors, first);
+            let told = ToldLines::new(alloc);
+            let end = over_store(&run, told, &mut work, input, output, errors, first);
             finish(&end, false, output, errors, first)
         }
         Err(failure) => report(&Err(failure), output, errors, first),

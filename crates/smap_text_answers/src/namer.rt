@@ -3,12 +3,13 @@ ghost use Rattle.std.specs.Prelude.{◌≡◌, ◌&&◌, ◌++◌, codes, not, o
 ghost use Rattle.std.specs.Str.{bytes_eq};
 ghost use Rattle.smap_locations.specs.ListLine.{is_rule};
 ghost use Rattle.smap_text.specs.Shown.{shown};
-ghost use Rattle.smap_text_answers.specs.Names.{ListsAt, ListsBeside, ListsFile, argument_path, misfit_text, no_file_beside_text, no_file_text, nothing_told, path_named, programs_seen, told_seen};
+ghost use Rattle.smap_text_answers.specs.Names.{ListsAt, ListsBeside, ListsFile, argument_path, misfit_text, no_file_beside_text, no_file_text, path_named, programs_seen};
+ghost use Rattle.smap_text_answers.specs.Told.{nothing_told, told_seen};
 ghost use Rattle.smap_text_answers.specs.Private.Listing.{IsListed, came_of, said_of};
 ghost use Rattle.smap_replies.specs.Arguments.{argument_of};
 
 use crate::generated::{generated_path, read_generated};
-use crate::told::NamesTold;
+use crate::told::ToldLines;
 use smap_declarations::Declarations;
 use smap_io::ReadFailure;
 use smap_locations::{Locations, is_rule};
@@ -28,7 +29,7 @@ pub struct FileNamer<'s, 'a, F: FileReader> {
     pub arguments: &'a [(String, String)],
     /// The paths of the maps of other URLs.
     pub locations: &'s Locations,
-    pub told: NamesTold,
+    pub told: ToldLines,
 }
 
 /// What comes of the generated file of a URL.
@@ -59,7 +60,7 @@ impl<'s, 'a, F: FileReader> FileNamer<'s, 'a, F> {
             number,
             arguments,
             locations,
-            told: NamesTold::new(alloc),
+            told: ToldLines::new(alloc),
         }
     }
 
@@ -88,7 +89,8 @@ impl<'s, 'a, F: FileReader> FileNamer<'s, 'a, F> {
 }
 
 impl<F: FileReader> NamesLoader for FileNamer<'_, '_, F> {
-    ghost use Rattle.smap_text_answers.specs.Names.{IsSameNamer, MayNameBy, NamesBy, programs_seen, told_seen};
+    ghost use Rattle.smap_text_answers.specs.Names.{IsSameNamer, MayNameBy, NamesBy, programs_seen};
+    ghost use Rattle.smap_text_answers.specs.Told.{told_seen};
     ghost use Rattle.smap_text_answers.specs.Laws.Namer.{given_name, same_name};
 
     ghost MayName = { λ namer. MayNameBy (F.gives namer.files.now) (programs_seen namer) (told_seen namer.told) };

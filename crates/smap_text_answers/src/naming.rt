@@ -1,7 +1,8 @@
 //! Rewriting the frames of a text with the written names of functions.
 ghost use Rattle.std.specs.Prelude.{◌≡◌, ◌<◌, ◌^◌, ◌+◌, false, true, length};
 ghost use Rattle.smap_anywhere.specs.Anywhere.{AreNone};
-ghost use Rattle.smap_text_answers.specs.Names.{told_at_end, told_seen};
+ghost use Rattle.smap_text_answers.specs.Names.{told_at_end};
+ghost use Rattle.smap_text_answers.specs.Told.{told_seen};
 ghost use Rattle.smap_text_answers.specs.Private.Naming.{EndsNamed, named_over};
 ghost use Rattle.smap_text_answers.specs.Request.{request_seen};
 ghost use Rattle.smap_text_answers.specs.RewriteFrom.{EndsText, asked_of};
@@ -12,7 +13,7 @@ use crate::namer::FileNamer;
 use crate::request::TextRequest;
 use crate::rewriting::{TextRun, frames_over};
 use crate::sources::MapSources;
-use crate::told::NamesTold;
+use crate::told::ToldLines;
 use smap_anywhere::{LineCounter, MapUrls, PlaceNotes};
 use smap_io::{ByteSink, ByteSource};
 use smap_replies::FileReader;
@@ -26,7 +27,7 @@ pub fn rewrite_named<F: FileReader, L: MapLoader, R: ByteSource, W: ByteSink>(
     cache: &mut MapCache,
     loader: &mut L,
     notes: &mut PlaceNotes,
-    told: &mut NamesTold,
+    told: &mut ToldLines,
     input: &mut R,
     output: &mut W,
 ) -> Result<RewriteCounts, RewriteFault>
@@ -63,11 +64,11 @@ pub fn rewrite_named<F: FileReader, L: MapLoader, R: ByteSource, W: ByteSink>(
 }
 
 // What is told, where memory may have run out for what was remembered.
-fn told_at_end(names: &NamesCache, told: NamesTold) -> NamesTold
+fn told_at_end(names: &NamesCache, told: ToldLines) -> ToldLines
     ensures { told_seen result ≡ told_at_end names.now (told_seen told) }
 {
-    let NamesTold { text, is_short } = told;
-    NamesTold {
+    let ToldLines { text, is_short } = told;
+    ToldLines {
         text,
         is_short: is_short || names.shortages > 0,
     }

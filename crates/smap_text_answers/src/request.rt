@@ -1,7 +1,7 @@
 //! How a text is rewritten.
 ghost use Rattle.std.specs.Prelude.{◌≡◌, unwrap_or};
 ghost use Rattle.smap_command.specs.Limits.{usual_cache_bytes};
-ghost use Rattle.smap_text_answers.specs.Request.{asks_for_more, has_rule, most_passed, request_seen};
+ghost use Rattle.smap_text_answers.specs.Request.{asks_for_more, fit_number, has_rule, most_passed, request_seen};
 ghost use Rattle.smap_trace.specs.Hiding.{hiding_seen};
 
 use smap_command::{FurtherOptions, USUAL_CACHE_BYTES, USUAL_LIMIT_BYTES};
@@ -41,6 +41,17 @@ impl<F: FileReader> TextRequest<'_, '_, F> {
         Hiding {
             ignored: self.hide_ignored,
             texts: &self.options.hide,
+        }
+    }
+
+    // Where maps are compared with their generated files, the number under which these are read.
+    pub(crate) fn fit_number(&self) -> Option<usize>
+        ensures { result ≡ fit_number (request_seen self.now) }
+    {
+        if self.options.fit {
+            Some(self.arguments.len() + 2)
+        } else {
+            None
         }
     }
 

@@ -1,11 +1,13 @@
 //! Rewriting the stack trace on standard input over files and folders of maps, which are read when it names them.
-ghost use Rattle.std.specs.Prelude.{◌≡◌, ◌<◌, ◌^◌, false, true, option_copied};
+ghost use Rattle.std.specs.Prelude.{◌≡◌, ◌<◌, ◌^◌, Ok, false, true, option_copied};
 ghost use Rattle.smap_lines.specs.RunEnds.{RunEnds};
 ghost use Rattle.smap_replies.specs.Outcome.{or_reported};
 ghost use Rattle.smap_replies.specs.Streams.{streams_seen};
-ghost use Rattle.smap_text_answers.specs.Names.{TellsNames, nothing_told, told_seen};
-ghost use Rattle.smap_text_answers.specs.Request.{request_seen};
-ghost use Rattle.smap_text_answers.specs.RewriteFrom.{EndsText, RewritesFrom, SaysUrls, asked_by, says_urls};
+ghost use Rattle.smap_text_answers.specs.Told.{TellsLines, nothing_told, told_seen};
+ghost use Rattle.smap_text_answers.specs.Request.{fit_number, request_seen};
+ghost use Rattle.smap_text_answers.specs.RewriteFrom.{EndsText, RewritesCompared, RewritesFrom, RewritesSources, SaysUrls, asked_by, says_urls};
+ghost use Rattle.smap_text_answers.specs.Fitting.{Compares};
+ghost use Rattle.smap_text_answers.specs.Private.Fitting.{compared};
 ghost use Rattle.smap_text_answers.specs.Sources.{GathersSources};
 ghost use Rattle.smap_text_answers.specs.StoreRun.{store_of};
 ghost use Rattle.smap_anywhere.specs.Anywhere.{AreNone};
@@ -15,13 +17,14 @@ ghost use Rattle.smap_trace.specs.Rewriting.{Looked, RewritesNamed, RewritesName
 
 use crate::dotted::tell_dotted;
 use crate::ending::{hint, sum_up};
+use crate::fitting::compare_words;
 use crate::loader::FileLoader;
 use crate::naming::rewrite_named;
 use crate::request::TextRequest;
 use crate::required::require;
 use crate::sources::{MapSources, sources_of};
 use crate::storing::{StoreEnd, StoreRun, StoreWork, finish, over_store};
-use crate::told::{NamesTold, tell_names};
+use crate::told::{ToldLines, tell_lines};
 use crate::url_lines::tell_urls;
 use smap_anywhere::{LineCounter, MapUrls, PlaceNotes, PlaceOptions, rewrite_anywhere};
 use smap_codes::Code;
@@ -29,7 +32,8 @@ use smap_io::{ByteSink, ByteSource};
 use smap_replies::{DONE, Failure, FileReader, report};
 use smap_store::{MapCache, MapLoader, StoredMaps};
 use smap_trace::{
-    Beside, Maps, PlaceCounter, RewriteCounts, RewriteFault, TraceOptions, UrlNotes, rewrite_over,
+    Beside, Maps, PlaceCounter, RewriteCounts, RewriteFault, Table, TraceOptions, UrlNotes,
+    rewrite_over,
 };
 use std::alloc::Global;
 
@@ -48,45 +52,117 @@ pub fn rewrite_from<F: FileReader, R: ByteSource, W: ByteSink, E: ByteSink>(
     requires output_works { (W.seen output.old).failed ≡ false }
     requires limit { (request_seen request.now).limit_bytes < 2 ^ 63 }
     ensures { RewritesFrom (F.gives request.now.maps.now.files.now)
+        (F.causes request.now.maps.now.files.now)
         (option_copied request.now.maps.now.base) request.now.maps.now.interval
         (request_seen request.now) result
         (streams_seen (R.seen input.old) (W.seen output.old) (E.seen errors.old) first.old)
         (streams_seen (R.seen input.new) (W.seen output.new) (E.seen errors.new) first.new) }
 {
     match sources_for(alloc, request) {
-        Ok(sources) => {
-            tell_dotted(request.arguments, errors);
-            let store = StoreRun {
-                maps: request.maps,
-                paths: request.options.paths,
-                arguments: request.arguments,
-                cache_bytes: request.cache_bytes(),
-                sources: &sources,
-            };
-            let mut work = Rewriting {
-                alloc,
-                request,
-                notes: PlaceNotes::new(alloc),
-                told: NamesTold::new(alloc),
-            };
-            let end = over_store(&store, &mut work, input, output, errors, first);
-            let missing_ok = request.options.missing_ok;
-            let ended = finish(&end, missing_ok, output, errors, first);
-            let listed = say_names(alloc, &end, &work.told, errors);
-            let summed = sum_up(alloc, request, &end, errors);
-            let run = TextRun {
-                alloc,
-                request,
-                sources: &sources,
-            };
-            let said = say_urls(&run, &end, &work.notes, errors);
-            let needed = require(alloc, request, &end, output, errors, first);
-            let status = ended.max(listed).max(summed).max(said).max(needed);
-            let hinted = hint(alloc, request, &end, &work.notes.named, status, errors);
-            status.max(hinted)
+        Ok(sources) => rewrite_sources(alloc, request, &sources, input, output, errors, first),
+        Err(failure) => report(&Err(failure), output, errors, first),
+    }
+}
+
+// The same over the maps that were gathered, of which those of words are compared first.
+fn rewrite_sources<F: FileReader, R: ByteSource, W: ByteSink, E: ByteSink>(
+    alloc: Global,
+    request: &TextRequest<'_, '_, F>,
+    sources: &MapSources,
+    input: &mut R,
+    output: &mut W,
+    errors: &mut E,
+    first: &mut Option<Code>,
+) -> u8
+    requires input_works { (R.seen input.old).failed ≡ false }
+    requires output_works { (W.seen output.old).failed ≡ false }
+    requires limit { (request_seen request.now).limit_bytes < 2 ^ 63 }
+    ensures { RewritesSources (F.gives request.now.maps.now.files.now)
+        (F.causes request.now.maps.now.files.now)
+        (option_copied request.now.maps.now.base) request.now.maps.now.interval
+        (request_seen request.now) (Ok sources.now) result
+        (streams_seen (R.seen input.old) (W.seen output.old) (E.seen errors.old) first.old)
+        (streams_seen (R.seen input.new) (W.seen output.new) (E.seen errors.new) first.new) }
+{
+    match compared_for(alloc, request, &sources.exact) {
+        Ok(told) => {
+            rewrite_compared(alloc, request, sources, told, input, output, errors, first)
         }
         Err(failure) => report(&Err(failure), output, errors, first),
     }
+}
+
+// What comparing the maps of words comes to.
+fn compared_for<F: FileReader>(
+    alloc: Global,
+    request: &TextRequest<'_, '_, F>,
+    exact: &Table,
+) -> Result<ToldLines, Failure>
+    ensures { Compares (F.gives request.now.maps.now.files.now)
+        (fit_number (request_seen request.now)) exact.now (request_seen request.now).arguments
+        (compared result) }
+{
+    let fit = request.fit_number();
+    compare_words(alloc, request.maps.files, fit, exact, request.arguments)
+}
+
+// The same after this was told of the maps of words.
+fn rewrite_compared<F: FileReader, R: ByteSource, W: ByteSink, E: ByteSink>(
+    alloc: Global,
+    request: &TextRequest<'_, '_, F>,
+    sources: &MapSources,
+    told: ToldLines,
+    input: &mut R,
+    output: &mut W,
+    errors: &mut E,
+    first: &mut Option<Code>,
+) -> u8
+    requires input_works { (R.seen input.old).failed ≡ false }
+    requires output_works { (W.seen output.old).failed ≡ false }
+    requires limit { (request_seen request.now).limit_bytes < 2 ^ 63 }
+    ensures { RewritesCompared (F.gives request.now.maps.now.files.now)
+        (F.causes request.now.maps.now.files.now)
+        (option_copied request.now.maps.now.base) request.now.maps.now.interval
+        (request_seen request.now) sources.now (Ok (told_seen told)) result
+        (streams_seen (R.seen input.old) (W.seen output.old) (E.seen errors.old) first.old)
+        (streams_seen (R.seen input.new) (W.seen output.new) (E.seen errors.new) first.new) }
+{
+    tell_dotted(request.arguments, errors);
+    let store = StoreRun {
+        maps: request.maps,
+        paths: request.options.paths,
+        arguments: request.arguments,
+        fit: request.fit_number(),
+        cache_bytes: request.cache_bytes(),
+        sources,
+    };
+    let mut work = Rewriting {
+        alloc,
+        request,
+        notes: PlaceNotes::new(alloc),
+        told: ToldLines::new(alloc),
+    };
+    let end = over_store(&store, told, &mut work, input, output, errors, first);
+    let missing_ok = request.options.missing_ok;
+    let ended = finish(&end, missing_ok, output, errors, first);
+    let listed = say_told(alloc, &end, &work.told, errors);
+    let fitted = say_told(alloc, &end, &end.told, errors);
+    let summed = sum_up(alloc, request, &end, errors);
+    let run = TextRun {
+        alloc,
+        request,
+        sources,
+    };
+    let said = say_urls(&run, &end, &work.notes, errors);
+    let needed = require(alloc, request, &end, output, errors, first);
+    let status = ended
+        .max(listed)
+        .max(fitted)
+        .max(summed)
+        .max(said)
+        .max(needed);
+    let hinted = hint(alloc, request, &end, &work.notes.named, status, errors);
+    status.max(hinted)
 }
 
 // What a text is rewritten over.
@@ -125,13 +201,13 @@ struct Rewriting<'s, 'a, 'r, Q: FileReader> {
     alloc: Global,
     request: &'s TextRequest<'a, 'r, Q>,
     notes: PlaceNotes,
-    told: NamesTold,
+    told: ToldLines,
 }
 
 impl<Q: FileReader> StoreWork for Rewriting<'_, '_, '_, Q> {
     ghost use Rattle.std.specs.Prelude.{◌≡◌, ◌<◌, ◌^◌};
     ghost use Rattle.smap_anywhere.specs.Anywhere.{AreNone};
-    ghost use Rattle.smap_text_answers.specs.Names.{nothing_told, told_seen};
+    ghost use Rattle.smap_text_answers.specs.Told.{nothing_told, told_seen};
     ghost use Rattle.smap_text_answers.specs.Request.{request_seen};
     ghost use Rattle.smap_text_answers.specs.RewriteFrom.{RewritesText, RewritesTextFront};
     ghost use Rattle.smap_trace.specs.NotesSeen.{notes_seen};
@@ -173,7 +249,7 @@ fn rewrite_text<F: FileReader, L: MapLoader, R: ByteSource, W: ByteSink>(
     cache: &mut MapCache,
     loader: &mut L,
     notes: &mut PlaceNotes,
-    told: &mut NamesTold,
+    told: &mut ToldLines,
     input: &mut R,
     output: &mut W,
 ) -> Result<RewriteCounts, RewriteFault>
@@ -323,18 +399,19 @@ fn rewrite_places<F: FileReader, L: MapLoader, R: ByteSource, W: ByteSink>(
     }
 }
 
-// Says what was told of names, where the text was rewritten to its end, and gives the status of that.
-fn say_names<E: ByteSink>(
+// Says what was told, of names or of maps that were not compared, where the text was rewritten to its end, and gives the
+// status of that.
+fn say_told<E: ByteSink>(
     alloc: Global,
     end: &StoreEnd<RewriteCounts>,
-    told: &NamesTold,
+    told: &ToldLines,
     errors: &mut E,
 ) -> u8
-    ensures { TellsNames (told_seen told.now) end.now.result result (E.seen errors.old)
+    ensures { TellsLines (told_seen told.now) end.now.result result (E.seen errors.old)
         (E.seen errors.new) }
 {
     match end.result {
-        Ok(_) => tell_names(alloc, told, errors),
+        Ok(_) => tell_lines(alloc, told, errors),
         Err(_) => DONE,
     }
 }

@@ -7,11 +7,13 @@ ghost use Rattle.smap_replies.specs.Streams.{sinks_seen, streams_seen};
 ghost use Rattle.smap_store.specs.Stored.{FindsIn, GivesIn, StoredSeen};
 ghost use Rattle.smap_text_answers.specs.Loader.{LoaderSeen, loader_seen};
 ghost use Rattle.smap_text_answers.specs.StoreRun.{EndsStore, Finding, Giving, IsOverStore, LoadsOf, MayLoadOf, ReportsShortage, map_status, store_of};
+ghost use Rattle.smap_text_answers.specs.Told.{told_seen};
 ghost use Rattle.smap_text_answers.specs.declared.sources.MapSources.{MapSources};
 ghost use Rattle.smap_trace.specs.Rewriting.{Looked};
 
 use crate::loader::FileLoader;
 use crate::sources::MapSources;
+use crate::told::ToldLines;
 use smap_codes::Code;
 use smap_io::{ByteSink, ByteSource};
 use smap_lines::LineFault;
@@ -49,15 +51,16 @@ pub trait StoreWork {
         requires output_works { (W.seen output.old).failed ≡ false }
         ensures ends { RunEnds R.seen W.seen input.old input.new output.old output.new
             (λ before after. Whole self.old self.new sources.now
-            (FindsIn (LoadsOf F.gives loader.old)) before after
+            (FindsIn (LoadsOf F.gives F.causes loader.old)) before after
             (store_of sources.now cache.old (loader_seen E.seen loader.old))
             (store_of sources.now cache.new (loader_seen E.seen loader.new)))
             (Front self.old sources.now (GivesIn (MayLoadOf F.gives loader.old)
             (store_of sources.now cache.old (loader_seen E.seen loader.old)))) result }
-        ensures looked { Looked (FindsIn (LoadsOf F.gives loader.old))
+        ensures looked { Looked (FindsIn (LoadsOf F.gives F.causes loader.old))
             (store_of sources.now cache.old (loader_seen E.seen loader.old))
             (store_of sources.now cache.new (loader_seen E.seen loader.new)) }
-        ensures same_errors { loader.new.errors.ghost_name ≡ loader.old.errors.ghost_name };
+        ensures same_errors { loader.new.errors.ghost_name ≡ loader.old.errors.ghost_name }
+        ensures same_told { loader.new.told.ghost_name ≡ loader.old.told.ghost_name };
 }
 
 /// Which maps are read for a text, and how.
@@ -68,13 +71,15 @@ pub struct StoreRun<'s, 'm, 'r, F: FileReader> {
     pub paths: bool,
     // Pairs of a URL and a path, whose files were read before.
     pub arguments: &'m [(String, String)],
+    // Where maps are compared with their generated files, the number under which these are read.
+    pub fit: Option<usize>,
     // How many bytes of files are kept as maps.
     pub cache_bytes: u64,
     pub sources: &'s MapSources,
 }
 
 /// What a run over a store came to.
-#[derive(Clone, Copy)]
+#[derive(Drop)]
 pub struct StoreEnd<C> {
     // What was in the text, or why it was not read to its end.
     pub result: Result<C, LineFault>,
@@ -90,6 +95,8 @@ pub struct StoreEnd<C> {
     pub refused: u64,
     // Whether a map was lost of which its file does not say so.
     pub lost: bool,
+    // What is told of maps that were not compared.
+    pub told: ToldLines,
     // How often there was not enough memory to keep what was found for a URL.
     pub shortages: u64,
 }
@@ -97,6 +104,7 @@ pub struct StoreEnd<C> {
 /// Does this to the text over the maps of words and of what the text names.
 pub fn over_store<F: FileReader, T: StoreWork, R: ByteSource, W: ByteSink, E: ByteSink>(
     run: &StoreRun<'_, '_, '_, F>,
+    told: ToldLines,
     work: &mut T,
     input: &mut R,
     output: &mut W,
@@ -108,16 +116,20 @@ pub fn over_store<F: FileReader, T: StoreWork, R: ByteSource, W: ByteSink, E: By
     requires output_works { (W.seen output.old).failed ≡ false }
     ensures over { IsOverStore (T.Whole work.old work.new run.now.sources.now)
         (T.Front work.old run.now.sources.now) (F.gives run.now.maps.now.files.now)
-        run.now.paths (option_copied run.now.maps.now.base) run.now.maps.now.interval
-        (length run.now.arguments.now + 1) run.now.cache_bytes run.now.sources.now result
+        (F.causes run.now.maps.now.files.now) run.now.paths (option_copied run.now.maps.now.base) run.now.maps.now.interval
+        (length run.now.arguments.now + 1) run.now.fit run.now.cache_bytes (told_seen told)
+        run.now.sources.now result
         (streams_seen (R.seen input.old) (W.seen output.old) (E.seen errors.old) first.old)
         (streams_seen (R.seen input.new) (W.seen output.new) (E.seen errors.new) first.new) }
     ensures output_failure { (W.seen output.new).failed ≡ is_write_fault result.result }
 {
     let sources = run.sources;
+    let mut told = told;
     let mut cache = MapCache::new(run.cache_bytes);
     let number = run.arguments.len() + 1;
-    let mut loader = FileLoader::new(run.maps, run.paths, number, errors, *first);
+    let mut loader = FileLoader::new(
+        run.maps, run.paths, number, run.fit, errors, *first, &mut told,
+    );
     let result = work.run(sources, &mut cache, &mut loader, input, output);
     let (status, present_status) = (loader.status, loader.present_status);
     let (refused, lost) = (loader.refused, loader.lost);
@@ -130,6 +142,7 @@ pub fn over_store<F: FileReader, T: StoreWork, R: ByteSource, W: ByteSink, E: By
         missing: cache.missing().saturating_sub(refused),
         refused,
         lost,
+        told,
         shortages: cache.shortages(),
     }
 }

@@ -1,9 +1,9 @@
-//! What is told of programs whose declarations are not listed.
+//! What is told at the end of a text.
 ghost use Rattle.std.specs.Prelude.{◌≡◌, ◌++◌, codes, string_bytes, IfOk, OnErr, OnOk};
 ghost use Rattle.std.specs.List.{list_any};
 ghost use Rattle.std.specs.Str.{bytes_eq};
 ghost use Rattle.std.specs.Str.Lines.{lines};
-ghost use Rattle.smap_text_answers.specs.Names.{ReportsNames, Tells, has_told, is_told, line, names_status, names_text, nothing_told, shortage, tells, told_seen};
+ghost use Rattle.smap_text_answers.specs.Told.{ReportsLines, Tells, has_told, is_told, line, told_status, told_text, nothing_told, said_by, shortage, tells, told_seen};
 
 use smap_io::ByteSink;
 use smap_replies::{DONE, FAILED, NO_MEMORY, print_error};
@@ -14,18 +14,18 @@ const ENOUGH_BYTES: usize = 65_536;
 
 /// Lines that are told at the end, each once.
 #[derive(Drop)]
-pub struct NamesTold {
+pub struct ToldLines {
     pub text: String,
     /// Whether memory ran out for one, or for names.
     pub is_short: bool,
 }
 
-impl NamesTold {
+impl ToldLines {
     /// Nothing is told. The call takes no memory.
-    pub fn new(alloc: Global) -> NamesTold
+    pub fn new(alloc: Global) -> ToldLines
         ensures { told_seen result ≡ nothing_told }
     {
-        NamesTold {
+        ToldLines {
             text: String::new(alloc),
             is_short: false,
         }
@@ -40,6 +40,15 @@ impl NamesTold {
         }
         if self.put(text).is_err() {
             self.is_short = true;
+        }
+    }
+
+    /// Tells a line, where there is one.
+    pub fn tell_any(&mut self, text: Option<String>)
+        ensures { Tells (told_seen self.old) (said_by text) (told_seen self.new) }
+    {
+        if let Some(text) = text {
+            self.tell(text);
         }
     }
 
@@ -85,16 +94,16 @@ fn is_same(one: &str, other: &str) -> bool
 }
 
 /// Reports what was told, or that memory ran out, and gives the status of that.
-pub fn tell_names<E: ByteSink>(alloc: Global, told: &NamesTold, errors: &mut E) -> u8
-    ensures { ReportsNames (told_seen told.now) result (E.seen errors.old) (E.seen errors.new) }
+pub fn tell_lines<E: ByteSink>(alloc: Global, told: &ToldLines, errors: &mut E) -> u8
+    ensures { ReportsLines (told_seen told.now) result (E.seen errors.old) (E.seen errors.new) }
 {
     if !has_told(told) {
         return DONE;
     }
-    match names_text(alloc, told) {
+    match told_text(alloc, told) {
         Ok(text) => {
             print_error(errors, text.as_bytes());
-            names_status(told)
+            told_status(told)
         }
         Err(_) => {
             print_error(errors, NO_MEMORY.as_bytes());
@@ -104,21 +113,21 @@ pub fn tell_names<E: ByteSink>(alloc: Global, told: &NamesTold, errors: &mut E) 
 }
 
 // Whether something was told.
-fn has_told(told: &NamesTold) -> bool
+fn has_told(told: &ToldLines) -> bool
     ensures { result ≡ has_told (told_seen told.now) }
 {
     told.is_short || told.text.len() > 0
 }
 
-fn names_status(told: &NamesTold) -> u8
-    ensures { result ≡ names_status (told_seen told.now) }
+fn told_status(told: &ToldLines) -> u8
+    ensures { result ≡ told_status (told_seen told.now) }
 {
     if told.is_short { FAILED } else { DONE }
 }
 
 // Standard error: the lines, and behind them that memory ran out.
-fn names_text(alloc: Global, told: &NamesTold) -> Result<String, AllocError>
-    ensures { IfOk result (λ text. string_bytes text ≡ names_text (told_seen told.now)) }
+fn told_text(alloc: Global, told: &ToldLines) -> Result<String, AllocError>
+    ensures { IfOk result (λ text. string_bytes text ≡ told_text (told_seen told.now)) }
 {
     let mut text = String::from_str(alloc, &told.text)?;
     if told.is_short {

@@ -2,6 +2,7 @@
 ghost use Rattle.std.specs.Prelude.{◌≡◌, ◌+◌, ◌++◌, false, length, map, option_copied, take, string_bytes, IfOk};
 ghost use Rattle.smap_replies.specs.Arguments.{argument_of};
 ghost use Rattle.smap_text.specs.Shown.{shown};
+ghost use Rattle.smap_text_answers.specs.Request.{fit_number, request_seen};
 ghost use Rattle.smap_text_answers.specs.UrlLines.{AreAllLines, AreUrlLines, IsUrlLine, TellsUrls};
 ghost use Rattle.smap_text_answers.specs.UrlLines.{counts_text, frames_text, nothing_line, places_text};
 ghost use Rattle.smap_trace.specs.NotesSeen.{note_seen, notes_seen};
@@ -10,6 +11,7 @@ mod ends;
 
 use crate::loader::FileLoader;
 use crate::rewriting::TextRun;
+use crate::told::ToldLines;
 use crate::url_lines::ends::end_of;
 use smap_anywhere::PlaceNotes;
 use smap_io::ByteSink;
@@ -37,7 +39,8 @@ pub fn tell_urls<F: FileReader, E: ByteSink>(
     ensures { let request = run.now.request.now in
         TellsUrls (F.gives request.maps.now.files.now) request.options.now.paths
         (option_copied request.maps.now.base) request.maps.now.interval
-        (length request.arguments.now + 1) (map argument_of request.arguments.now)
+        (length request.arguments.now + 1) (fit_number (request_seen request))
+        (map argument_of request.arguments.now)
         run.now.sources.now.locations request.options.now.anywhere
         (notes_seen notes.now.named) (notes_seen notes.now.others) result
         (E.seen errors.old) (E.seen errors.new) }
@@ -66,7 +69,8 @@ fn lines_of<F: FileReader, E: ByteSink>(
     ensures lines { let request = run.now.request.now in IfOk result (λ text.
         AreAllLines (F.gives request.maps.now.files.now) request.options.now.paths
         (option_copied request.maps.now.base) request.maps.now.interval
-        (length request.arguments.now + 1) (map argument_of request.arguments.now)
+        (length request.arguments.now + 1) (fit_number (request_seen request))
+        (map argument_of request.arguments.now)
         run.now.sources.now.locations request.options.now.anywhere
         (map note_seen notes.now.named.notes.items
         ++ map note_seen notes.now.others.notes.items)
@@ -77,7 +81,16 @@ fn lines_of<F: FileReader, E: ByteSink>(
     }
     let request = run.request;
     let number = request.arguments.len() + 1;
-    let loader = FileLoader::new(request.maps, request.options.paths, number, errors, None);
+    let mut told = ToldLines::new(run.alloc);
+    let loader = FileLoader::new(
+        request.maps,
+        request.options.paths,
+        number,
+        request.fit_number(),
+        errors,
+        None,
+        &mut told,
+    );
     all_lines(run, &loader, &notes.named.notes, &notes.others.notes)
 }
 
@@ -91,7 +104,7 @@ fn all_lines<F: FileReader, E: ByteSink>(
 ) -> Result<Vec<u8>, AllocError>
     ensures { let request = run.now.request.now in IfOk result (λ text.
         AreAllLines (F.gives loader.now.maps.now.files.now) loader.now.paths
-        (option_copied loader.now.maps.now.base) loader.now.maps.now.interval loader.now.number
+        (option_copied loader.now.maps.now.base) loader.now.maps.now.interval loader.now.number loader.now.fit
         (map argument_of request.arguments.now) run.now.sources.now.locations
         request.options.now.anywhere
         (map note_seen notes.now ++ map note_seen others.now) text.items) }
@@ -115,7 +128,7 @@ fn lines_of_both<F: FileReader, E: ByteSink>(
 ) -> Result<Vec<u8>, AllocError>
     ensures { let request = run.now.request.now in IfOk result (λ text.
         AreUrlLines (F.gives loader.now.maps.now.files.now) loader.now.paths
-        (option_copied loader.now.maps.now.base) loader.now.maps.now.interval loader.now.number
+        (option_copied loader.now.maps.now.base) loader.now.maps.now.interval loader.now.number loader.now.fit
         (map argument_of request.arguments.now) run.now.sources.now.locations
         request.options.now.anywhere
         (map note_seen notes.now ++ map note_seen others.now) text.items) }
@@ -141,7 +154,7 @@ fn lines_by<F: FileReader, E: ByteSink>(
 ) -> Result<Vec<u8>, AllocError>
     ensures { let request = run.now.request.now in IfOk result (λ text.
         AreUrlLines (F.gives loader.now.maps.now.files.now) loader.now.paths
-        (option_copied loader.now.maps.now.base) loader.now.maps.now.interval loader.now.number
+        (option_copied loader.now.maps.now.base) loader.now.maps.now.interval loader.now.number loader.now.fit
         (map argument_of request.arguments.now) run.now.sources.now.locations
         request.options.now.anywhere (map note_seen notes.now) text.items) }
 {
@@ -161,7 +174,7 @@ fn line_of<F: FileReader, E: ByteSink>(
 ) -> Result<Vec<u8>, AllocError>
     ensures { let request = run.now.request.now in IfOk result (λ line.
         IsUrlLine (F.gives loader.now.maps.now.files.now) loader.now.paths
-        (option_copied loader.now.maps.now.base) loader.now.maps.now.interval loader.now.number
+        (option_copied loader.now.maps.now.base) loader.now.maps.now.interval loader.now.number loader.now.fit
         (map argument_of request.arguments.now) run.now.sources.now.locations
         request.options.now.anywhere (note_seen note.now) line.items) }
 {

@@ -6,7 +6,8 @@ use Rattle.smap_record.specs.Record.{MapRecord}
 use Rattle.smap_replies.specs.Arguments.{argument_of}
 use Rattle.smap_replies.specs.Files.{MayRead}
 use Rattle.smap_store.specs.Names.{NamesCame, declared_in}
-use Rattle.smap_text_answers.specs.Names.{IsSameNamer, MayNameBy, NamesBy, Programs, ToldSeen, programs_seen, told_seen}
+use Rattle.smap_text_answers.specs.Names.{IsSameNamer, MayNameBy, NamesBy, Programs, programs_seen}
+use Rattle.smap_text_answers.specs.Told.{ToldSeen, told_seen}
 use Rattle.smap_text_answers.specs.declared.namer.FileNamer.{FileNamer}
 
 module _ (Reads : MayRead) (programs : Programs) where

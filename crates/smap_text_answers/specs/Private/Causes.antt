@@ -4,11 +4,12 @@ use Rattle.smap_replies.specs.Map.{refusal_result}
 use Rattle.smap_replies.specs.declared.files.UnreadCause.{UnreadCause}
 use Rattle.smap_store.specs.declared.loader.NoMap.{NoMap}
 use Rattle.smap_store.specs.declared.loader.NoMap.TheVariants.{Unnamed, Unread, Refused, Memory}
+use Rattle.smap_text_answers.specs.Fitting.{misfit_report}
 use Rattle.smap_text_answers.specs.UrlLines.{body_of, unread_text}
 
 -- this, by why there is none: nothing, where memory ran out
 abbrev pub SaysWhy : NoMap → (path text : List ℕ) → Type 0
-SaysWhy Unnamed path text = ⊥
+SaysWhy Unnamed path text = text ≡ body_of (misfit_report path).text
 SaysWhy Unread path text = (cause : UnreadCause) × (text ≡ unread_text path cause)
 SaysWhy (Refused refusal) path text = text ≡ body_of (refusal_result path refusal).text
 SaysWhy Memory path text = ⊥

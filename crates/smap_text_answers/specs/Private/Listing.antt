@@ -1,10 +1,10 @@
 -- What comes of the generated file of a URL.
-use Rattle.std.specs.Prelude.{◌≡◌, ℕ, List, Option, Some, None, length, string_bytes}
+use Rattle.std.specs.Prelude.{◌≡◌, ℕ, List, Some, None, length, string_bytes}
 use Rattle.std.specs.List.Sorted.{IsPermutation}
 use Rattle.smap_declarations.specs.Declarations.{declarations_of}
 use Rattle.smap_record.specs.Record.{MapRecord}
 use Rattle.smap_store.specs.Names.{NamesCame, loaded_names}
-use Rattle.smap_text_answers.specs.Names.{Said, line, nothing}
+use Rattle.smap_text_answers.specs.Told.{Said, line, nothing}
 use Rattle.smap_text_answers.specs.declared.namer.Listing.{Listing}
 use Rattle.smap_text_answers.specs.declared.namer.Listing.TheVariants.{Listed, Unlisted}
 

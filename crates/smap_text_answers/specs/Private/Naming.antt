@@ -1,5 +1,5 @@
 -- How rewriting over maps with names ends, as those see it that load and list them.
-use Rattle.std.specs.Prelude.{◌≡◌, ℕ, true, List, Option, Result}
+use Rattle.std.specs.Prelude.{true, Result}
 use Rattle.smap_io.specs.Device.{SinkSeen, SourceSeen}
 use Rattle.smap_lines.specs.RunEnds.{RunEnds}
 use Rattle.smap_lines.specs.declared.fault.LineFault.{LineFault}

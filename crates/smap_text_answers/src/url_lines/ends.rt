@@ -3,12 +3,14 @@ ghost use Rattle.std.specs.Prelude.{◌≡◌, ◌&&◌, map, not, option_copied
 ghost use Rattle.std.specs.Str.{bytes_eq};
 ghost use Rattle.smap_locations.specs.ListLine.{is_rule};
 ghost use Rattle.smap_replies.specs.Arguments.{argument_of};
+ghost use Rattle.smap_text_answers.specs.Lines.{misfit_line};
 ghost use Rattle.smap_text_answers.specs.Private.Causes.{SaysWhy};
 ghost use Rattle.smap_text_answers.specs.UrlLines.{IsCause, IsEnd};
 ghost use Rattle.smap_text_answers.specs.UrlLines.{body_of, cause_text, deciding_name, found_text, late_text, nearest_text, rest_text, unknown_text, unread_text, url_file, word_file};
 ghost use Rattle.smap_trace.specs.NotesSeen.{note_seen};
 
 use super::shown_url;
+use crate::lines::misfit_line;
 use crate::loader::FileLoader;
 use crate::nearest::nearest_of;
 use smap_io::ByteSink;
@@ -34,7 +36,7 @@ pub(super) fn end_of<F: FileReader, E: ByteSink>(
     note: &UrlNote,
 ) -> Result<Vec<u8>, AllocError>
     ensures { IfOk result (λ text. IsEnd (F.gives loader.now.maps.now.files.now) loader.now.paths
-        (option_copied loader.now.maps.now.base) loader.now.maps.now.interval loader.now.number
+        (option_copied loader.now.maps.now.base) loader.now.maps.now.interval loader.now.number loader.now.fit
         (map argument_of arguments.now) locations.now (note_seen note.now) text.items) }
 {
     if note.found {
@@ -174,7 +176,7 @@ fn cause_of<F: FileReader, E: ByteSink>(
     path: &str,
 ) -> Result<Vec<u8>, AllocError>
     ensures { IfOk result (λ text. IsCause (F.gives loader.now.maps.now.files.now) loader.now.paths
-        (option_copied loader.now.maps.now.base) loader.now.maps.now.interval loader.now.number
+        (option_copied loader.now.maps.now.base) loader.now.maps.now.interval loader.now.number loader.now.fit
         url.now path.now text.items) }
 {
     match loader.load_at(alloc, url, path) {
@@ -201,8 +203,17 @@ fn unloaded_text<F: FileReader>(
             let failure = refusal_of(alloc, path, refusal)?;
             body_of(alloc, failure.bytes())
         }
-        NoMap::Unnamed | NoMap::Memory => Err(AllocError),
+        NoMap::Unnamed => misfit_text(alloc, path),
+        NoMap::Memory => Err(AllocError),
     }
+}
+
+// That the map of a file does not fit its generated file.
+fn misfit_text(alloc: Global, path: &str) -> Result<Vec<u8>, AllocError>
+    ensures { IfOk result (λ text. text.items ≡ body_of (misfit_line path.now)) }
+{
+    let line = misfit_line(alloc, path)?;
+    body_of(alloc, line.as_bytes())
 }
 
 // That no map came from a file that gives one now.

@@ -27,16 +27,14 @@ returns g c =
           (runs_one _ _ _ _ _ _ (refl, w.answer_content-outcome.ensures) (rw (w.output-is, w.errors-is, w.outcome-is) at c.report.ensures))
       | in-Compose w ↦ rw (w.in-Compose.is, w.input-is) (
         g.E.ByteSink.seen w.answer_compose-outcome.new.errors,
-        (rw (w.deref-in-Compose.ensures, w.deref-in-Compose-2.ensures, base, w.in-Compose.is) at w.answer_compose-outcome.ensures.warned),
         runs_one _ _ _ _ _ _ (
           refl,
-          (rw (w.deref-in-Compose.ensures, w.deref-in-Compose-2.ensures, base, w.in-Compose.is) at w.answer_compose-outcome.ensures.reported),
+          (rw (w.deref-in-Compose.ensures, w.deref-in-Compose-2.ensures, base, w.in-Compose.is) at w.answer_compose-outcome.ensures),
         ) (rw (w.output-is, w.errors-is, w.outcome-is) at c.report.ensures),
       )
       | in-ComposeAll w ↦ rw (w.in-ComposeAll.is, w.input-is) (
         g.E.ByteSink.seen w.answer_compose_all-outcome.new.errors,
-        w.answer_compose_all-outcome.ensures.warned,
-        runs_one _ _ _ _ _ _ (refl, w.answer_compose_all-outcome.ensures.reported) (rw (w.output-is, w.errors-is, w.outcome-is) at c.report.ensures),
+        runs_one _ _ _ _ _ _ (refl, w.answer_compose_all-outcome.ensures) (rw (w.output-is, w.errors-is, w.outcome-is) at c.report.ensures),
       )
       | in-Explain w ↦ rw (w.in-Explain.is, w.input-is)
           (runs_one _ _ _ _ _ _ (refl, w.answer_explain-outcome.ensures) (rw (w.output-is, w.errors-is, w.outcome-is) at c.report.ensures))

@@ -23,7 +23,7 @@ returns g c =
     λ i. without_seen (c.new-text.ensures.none i) (c.new-text.ensures.all i) (seen (c.new-text.ensures.over i)) in
     let after : without_seen text.held text.most (seen text.inner) ≡ without_seen text.held text.most (seen c.into_inner.result) =
     λ i. without_seen text.held text.most (seen (sym c.into_inner.ensures i)) in
-    let runs = λ (old new : SourceSeen). RunsTold (g.F.FileReader.gives c.args.reader.now) c.args.hint c.args.command.now run.result
+    let runs = λ (old new : SourceSeen). RunsTold (g.F.FileReader.gives c.args.reader.now) (g.F.FileReader.causes c.args.reader.now) c.args.hint c.args.command.now run.result
     (streams_seen old (g.W.ByteSink.seen c.args.output.now) (g.E.ByteSink.seen c.args.errors.now) c.args.first.now)
     (streams_seen new (g.W.ByteSink.seen run.new.output) (g.E.ByteSink.seen run.new.errors) run.new.first) in
     in_case (strips_ansi c.args.command.now) _ _ (sym c.strips_ansi.ensures ∙ c.if-not-strips_ansi.false) (

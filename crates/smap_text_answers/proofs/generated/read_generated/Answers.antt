@@ -1,4 +1,4 @@
-use Rattle.std.proofs.Common.{rules, sym, subst, ◌∙◌}
+use Rattle.std.proofs.Common.{subst, ◌∙◌}
 use Rattle.std.specs.Prelude.{Ok, string_bytes}
 use Rattle.smap_text_answers.proofs.NamerLaws.{generated_is}
 use Rattle.smap_text_answers.proofs.generated.read_generated.Goals as goal

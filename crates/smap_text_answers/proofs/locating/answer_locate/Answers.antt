@@ -8,7 +8,7 @@ use Rattle.smap_text_answers.proofs.locating.answer_locate.Goals as goal
 pub returns-in-Ok : goal.returns-in-Ok
 returns-in-Ok g c =
     let run = c.over_store-end in
-    let over = rw (c.as_ref.ensures.value, c.deref-arguments.ensures.value, c.unwrap_or.ensures) at run.ensures.over in (
+    let over = rw (c.as_ref.ensures.value, c.deref-arguments.ensures.value, c.unwrap_or.ensures, c.new-told.ensures) at run.ensures.over in (
       Ok c.in-Ok.sources,
       (rw (c.as_ref.ensures.value, c.as_deref-list.ensures.value, c.deref.ensures.value) at c.in-Ok.ensures),
       (
@@ -17,7 +17,7 @@ returns-in-Ok g c =
         streams_seen (g.R.ByteSource.seen run.new.input) (g.W.ByteSink.seen run.new.output) (g.E.ByteSink.seen run.new.errors) run.new.first,
         (rw (c.deref-arguments.ensures.value) at c.tell_dotted.ensures),
         over,
-        run_by_path (g.F.FileReader.gives c.args.reader.now) c.args.asked.now c.in-Ok.sources run.result _ _ over,
+        run_by_path (g.F.FileReader.gives c.args.reader.now) (g.F.FileReader.causes c.args.reader.now) c.args.asked.now c.in-Ok.sources run.result _ _ over,
         refl,
         c.finish.ensures,
       ),

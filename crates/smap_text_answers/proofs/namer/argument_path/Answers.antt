@@ -1,4 +1,4 @@
-use Rattle.std.proofs.Common.{arith, drop, ap, map, refl, sym, ◌∙◌}
+use Rattle.std.proofs.Common.{arith, ap, map, sym, ◌∙◌}
 use Rattle.std.proofs.lemmas.List.{drop_all}
 use Rattle.smap_replies.specs.Arguments.{argument_of}
 use Rattle.smap_replies.proofs.NextLaws.{next_of}

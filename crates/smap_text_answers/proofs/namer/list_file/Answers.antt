@@ -1,4 +1,3 @@
-use Rattle.std.proofs.Common.{rules}
 use Rattle.std.specs.Prelude.{string_bytes}
 use Rattle.smap_text_answers.proofs.NamerLaws.{listed_so}
 use Rattle.smap_text_answers.proofs.namer.list_file.Goals as goal

@@ -1,4 +1,4 @@
-use Rattle.std.proofs.Common.{◌≡◌, ◌+◌, ap, length, map, refl, rules, subst, sym, ◌∙◌}
+use Rattle.std.proofs.Common.{◌≡◌, ◌+◌, ap, length, map, subst, sym, ◌∙◌}
 use Rattle.std.proofs.lemmas.List.{length-map}
 use Rattle.smap_lines.specs.Laws.RunEnds.{ends_wider}
 use Rattle.smap_lines.specs.Editing.{devices_seen}
@@ -6,7 +6,8 @@ use Rattle.smap_replies.specs.Arguments.{argument_of}
 use Rattle.smap_store.specs.Names.{names_at_first}
 use Rattle.smap_store.specs.Stored.{FindsIn}
 use Rattle.smap_trace.specs.NotesSeen.{notes_seen}
-use Rattle.smap_text_answers.specs.Names.{ToldSeen, programs_seen}
+use Rattle.smap_text_answers.specs.Names.{programs_seen}
+use Rattle.smap_text_answers.specs.Told.{ToldSeen}
 use Rattle.smap_text_answers.specs.Naming.{RewritesNames}
 use Rattle.smap_text_answers.specs.Private.Naming.{named_over}
 use Rattle.smap_text_answers.specs.Request.{request_seen}

@@ -1,5 +1,5 @@
-use Rattle.std.proofs.Common.{ap, subst, sym}
-use Rattle.std.specs.Prelude.{Ok, length, map, option_copied}
+use Rattle.std.proofs.Common.{subst, sym}
+use Rattle.std.specs.Prelude.{Ok, length, option_copied}
 use Rattle.std.proofs.lemmas.List.{length-map}
 use Rattle.smap_replies.specs.Arguments.{argument_of}
 use Rattle.smap_replies.specs.Outcome.{or_reported}

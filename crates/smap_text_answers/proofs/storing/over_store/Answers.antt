@@ -11,9 +11,9 @@ returns-clause-over g c =
     let errors : c.errors-1.given.0 ≡ made.new.loader.errors.now = search rules in
     record {
       last = store_of c.args.run.now.sources.now made.new.cache (loader_seen g.E.ByteSink.seen made.new.loader);
-      whole = rw (first.seen, first.maps, first.paths, first.number, c.new-cache.ensures) at made.ensures.ends.whole;
-      front = rw (first.seen, first.maps, first.paths, first.number, c.new-cache.ensures) at made.ensures.ends.front;
-      looked = rw (first.seen, first.maps, first.paths, first.number, c.new-cache.ensures) at made.ensures.looked;
+      whole = rw (first.seen, first.maps, first.paths, first.number, first.fit, c.new-cache.ensures) at made.ensures.ends.whole;
+      front = rw (first.seen, first.maps, first.paths, first.number, first.fit, c.new-cache.ensures) at made.ensures.ends.front;
+      looked = rw (first.seen, first.maps, first.paths, first.number, first.fit, c.new-cache.ensures) at made.ensures.looked;
       errors = ap g.E.ByteSink.seen errors;
       code = refl;
       input_failed = made.ensures.ends.input_failure;
@@ -27,6 +27,7 @@ returns-clause-over g c =
       missing = rw (c.missing.ensures) at c.saturating_sub.ensures;
       refused = refl;
       lost = refl;
+      told = search rules;
       shortages = c.shortages.ensures;
     }
 

@@ -11,7 +11,7 @@ returns g c =
     let loader = c.args.loader.now in
     let request = c.args.run.now.request.now in
     IfOk-weaker c.lines_of_both.result _ _ (λ text are. lines_all (g.F.FileReader.gives loader.maps.now.files.now) loader.paths
-    (option_copied loader.maps.now.base) loader.maps.now.interval loader.number (map argument_of request.arguments.now) c.args.run.now.sources.now.locations request.options.now.anywhere
+    (option_copied loader.maps.now.base) loader.maps.now.interval loader.number loader.fit (map argument_of request.arguments.now) c.args.run.now.sources.now.locations request.options.now.anywhere
     (map note_seen c.args.notes.now) (map note_seen c.args.others.now) text.items
     (λ none. c.if-count-eq0.false (omega (
       arith,

@@ -8,6 +8,6 @@ abbrev pub invariant-loop-note : goal.invariant-loop-note
 invariant-loop-note g l =
     (rest : List ℕ)
     → AreUrlLines (g.F.FileReader.gives l.fn.loader.maps.now.files.now) l.fn.loader.paths (option_copied l.fn.loader.maps.now.base) l.fn.loader.maps.now.interval
-    l.fn.loader.number (map argument_of l.fn.run.request.now.arguments.now) l.fn.run.sources.now.locations l.fn.run.request.now.options.now.anywhere (map note_seen (drop l.note-index l.notes)) rest
+    l.fn.loader.number l.fn.loader.fit (map argument_of l.fn.run.request.now.arguments.now) l.fn.run.sources.now.locations l.fn.run.request.now.options.now.anywhere (map note_seen (drop l.note-index l.notes)) rest
     → AreUrlLines (g.F.FileReader.gives l.fn.loader.maps.now.files.now) l.fn.loader.paths (option_copied l.fn.loader.maps.now.base) l.fn.loader.maps.now.interval
-    l.fn.loader.number (map argument_of l.fn.run.request.now.arguments.now) l.fn.run.sources.now.locations l.fn.run.request.now.options.now.anywhere (map note_seen l.notes) (l.text.items ++ rest)
+    l.fn.loader.number l.fn.loader.fit (map argument_of l.fn.run.request.now.arguments.now) l.fn.run.sources.now.locations l.fn.run.request.now.options.now.anywhere (map note_seen l.notes) (l.text.items ++ rest)

@@ -8,11 +8,11 @@ returns-in-Err g c =
       (
         _,
         (
-          fails_told (g.F.FileReader.gives self.maps.now.files.now) self.paths (option_copied self.maps.now.base) self.maps.now.interval self.number
+          fails_told (g.F.FileReader.gives self.maps.now.files.now) self.paths (option_copied self.maps.now.base) self.maps.now.interval self.number self.fit
               c.args.url.now c.args.path.now c.in-Err.why _ c.in-Err.ensures.failed c.unloaded_for-told.ensures.why,
           c.unloaded_for-told.ensures.reported,
         ),
         c.note.ensures.noted,
       ),
-      record { maps = c.note.ensures.maps; paths = c.note.ensures.paths; number = c.note.ensures.number; errors = c.note.ensures.errors },
+      record { maps = c.note.ensures.maps; paths = c.note.ensures.paths; number = c.note.ensures.number; fit = c.note.ensures.fit; errors = c.note.ensures.errors; told = c.note.ensures.told },
     )
