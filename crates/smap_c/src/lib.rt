@@ -53,8 +53,6 @@ mod store;
 mod store_look_up;
 mod table_look_up;
 mod tables;
-#[cfg(test)]
-mod tests;
 mod texts;
 mod trace;
 mod version;

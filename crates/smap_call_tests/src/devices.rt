@@ -2,7 +2,6 @@
 ghost use Rattle.std.specs.Prelude.{◌≤◌};
 
 use crate::same::assert_same;
-use crate::shown::push_number;
 use smap_io::{ByteSink, ByteSource, DeviceFault, FromStd, MemorySink, MemorySource};
 use std::alloc::{AllocError, Global};
 use std::io;
@@ -16,7 +15,7 @@ fn push_call(
     failed: bool,
 ) -> Result<(), AllocError> {
     match count {
-        Ok(count) => push_number(trace, alloc, "", count as u64)?,
+        Ok(count) => trace.push_str(&format!(in alloc; "{count}")?)?,
         Err(DeviceFault) => trace.push('!')?,
     }
     trace.push_str(if failed { "* " } else { " " })
@@ -124,7 +123,8 @@ fn writes_to_std(
         interrupted_at,
     };
     let mut trace = writes(alloc, &mut FromStd::new(&mut writer), words)?;
-    push_number(&mut trace, alloc, "", u64::from(writer.calls))?;
+    let calls = writer.calls;
+    trace.push_str(&format!(in alloc; "{calls}")?)?;
     Ok(trace)
 }
 

@@ -1,17 +1,13 @@
-//! The tests of calls, of what no row of smap_rows can say: those behind the commands, devices, places, maps that are read
-//! when they are named, and what is kept of URLs. There is nothing here to call.
+//! The tests of calls, of what no row of smap_rows can say: those behind the commands, devices, maps that are read when they
+//! are named, and what is kept of URLs. There is nothing here to call.
 #![tactic(auto)]
 
 #[cfg(test)]
 mod beginnings;
 #[cfg(test)]
-mod composing;
-#[cfg(test)]
 mod declarations;
 #[cfg(test)]
 mod devices;
-#[cfg(test)]
-mod facts;
 #[cfg(test)]
 mod indexes;
 #[cfg(test)]
@@ -23,17 +19,11 @@ mod lines;
 #[cfg(test)]
 mod names;
 #[cfg(test)]
-mod pieces;
-#[cfg(test)]
-mod places;
-#[cfg(test)]
 mod records;
 #[cfg(test)]
 mod same;
 #[cfg(test)]
 mod shared;
-#[cfg(test)]
-mod shown;
 #[cfg(test)]
 mod stored;
 #[cfg(test)]

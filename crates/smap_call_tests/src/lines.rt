@@ -1,9 +1,8 @@
 //! Look-ups among the checkpoints of their line, and maps that are ready for them. The answers are written by hand.
 ghost use Rattle.smap_index.specs.LineStarts.{AreLineStarts, marked_lines};
 
-use crate::indexes::{index_of, packed};
+use crate::indexes::{Wanted, index_of, is_wanted, packed};
 use crate::same::assert_same;
-use crate::shown::answer_text;
 use smap_index::{Answer, Index, LineStarts};
 use smap_record::{MapFile, Meter, ReadyMap};
 use std::alloc::Global;
@@ -12,44 +11,37 @@ use std::test::Fail;
 
 // A line and a column, from 0, what answers at or before them and at or after them, and how many checkpoints are compared
 // at most.
-type Asked = (u32, u32, &'static str, &'static str, u64);
+type Asked = (u32, u32, Wanted, Wanted, u64);
 
 // Three segments on line 2 and one on line 4, each with a checkpoint.
 const TEXT: &str = ";;AAAA,CAAC,CAAC;;AACA";
 
 const ASKED: &[Asked] = &[
-    (0, 0, "none", "none", 0),
-    (2, 0, "0,0,0,0", "0,0,0,0", 2),
-    (2, 1, "1,0,0,1", "1,0,0,1", 2),
-    (2, 9, "2,0,0,2", "none", 2),
-    (3, 5, "none", "none", 0),
-    (4, 0, "0,0,1,2", "0,0,1,2", 1),
-    (4, 7, "0,0,1,2", "none", 1),
-    (5, 0, "none", "none", 3),
-    (4_294_967_295, 0, "none", "none", 3),
+    (0, 0, None, None, 0),
+    (2, 0, Some((0, 0, 0)), Some((0, 0, 0)), 2),
+    (2, 1, Some((1, 0, 1)), Some((1, 0, 1)), 2),
+    (2, 9, Some((2, 0, 2)), None, 2),
+    (3, 5, None, None, 0),
+    (4, 0, Some((0, 1, 2)), Some((0, 1, 2)), 1),
+    (4, 7, Some((0, 1, 2)), None, 1),
+    (5, 0, None, None, 3),
+    (4_294_967_295, 0, None, None, 3),
 ];
 
 // Asks an index among the checkpoints of a line, in both directions.
-fn assert_asked(
-    rt: &impl Abort,
-    alloc: Global,
-    index: &Index,
-    starts: &LineStarts,
-    asked: &Asked,
-) -> Result<(), Fail>
+fn assert_asked(rt: &impl Abort, alloc: Global, index: &Index, starts: &LineStarts, asked: &Asked)
     requires { AreLineStarts (marked_lines index.now.parts index.now.k) starts.now }
 {
     let (line, column, before, after, compared) = asked;
     let mut meter = Meter::new(alloc);
     assert!(rt; meter.has_room());
     let answer = index.look_up_among(starts, *line, *column, &mut meter);
-    assert_same(rt, "before", &answer_text(alloc, &answer)?, before);
+    assert!(rt; is_wanted(&answer, *before), "before, on line {line}");
     assert!(rt; meter.comparisons() <= *compared, "on line {line}");
     let mut meter = Meter::new(alloc);
     let answer = index.look_up_from_among(starts, *line, *column, &mut meter);
-    assert_same(rt, "after", &answer_text(alloc, &answer)?, after);
+    assert!(rt; is_wanted(&answer, *after), "after, on line {line}");
     assert!(rt; meter.comparisons() <= *compared, "on line {line}");
-    Ok(())
 }
 
 #[test]
@@ -57,7 +49,7 @@ fn the_checkpoints_of_a_line_are_compared(rt: HostRuntime) -> Result<(), Fail> {
     let index = index_of(rt.alloc(), packed(rt.alloc(), TEXT)?, 1)?;
     let starts = index.line_starts(rt.alloc())?;
     for asked in ASKED {
-        assert_asked(&rt, rt.alloc(), &index, &starts, asked)?;
+        assert_asked(&rt, rt.alloc(), &index, &starts, asked);
     }
     Ok(())
 }
@@ -70,7 +62,7 @@ fn no_line_needs_a_start(rt: HostRuntime) -> Result<(), Fail> {
     for asked in ASKED {
         let (line, column, before, after, _) = asked;
         let all = (*line, *column, *before, *after, 3);
-        assert_asked(&rt, rt.alloc(), &index, &starts, &all)?;
+        assert_asked(&rt, rt.alloc(), &index, &starts, &all);
     }
     Ok(())
 }
