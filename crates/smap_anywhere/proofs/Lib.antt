@@ -3,6 +3,7 @@ pub mod MapUrlsLaws
 pub mod MapUrlsExamples
 pub mod SeemingUrlsExamples
 pub mod CountLaws
+pub mod CountedLaws
 pub mod PartStepLaws
 pub mod PutLaws
 pub mod LineOfLaws

@@ -306,10 +306,13 @@ locate_plain = (
         (
           flag_plain 2 (codes "paths") refl,
           (
-            cache_plain 2,
+            flag_plain 2 (codes "names") refl,
             (
-              flag_plain 2 (codes "after") refl,
-              (flag_plain 2 (codes "json") refl, (context_plain 2, (help_plain, tt))),
+              cache_plain 2,
+              (
+                flag_plain 2 (codes "after") refl,
+                (flag_plain 2 (codes "json") refl, (context_plain 2, (help_plain, tt))),
+              ),
             ),
           ),
         ),

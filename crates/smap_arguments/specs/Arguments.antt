@@ -172,6 +172,7 @@ GivesAnswers rows options = (after : Bool) × GivesFlag rows (codes "after") aft
 abbrev pub GivesLocate : List Row → asked.Locate → Type 0
 GivesLocate rows asked = GivesPairs rows (codes "URL=FILE") asked.maps.items × GivesBase rows asked.base
     × GivesInterval rows asked.interval × GivesList rows asked.list × GivesFlag rows (codes "paths") asked.paths
+    × GivesFlag rows (codes "names") asked.names
     × GivesBytes rows (codes "cache") 0 asked.cache_bytes × GivesAnswers rows asked.options
     × GivesNumberIfGiven rows (codes "N") asked.options.context × IfSome asked.options.context (λ lines. lines ≤ most_context)
     × ((is_some asked.options.context && not (is_json asked.options.form)) ≡ false)

@@ -166,7 +166,7 @@ rewrite = with_rules (codes "rewrite") rewrite_rules
 
 abbrev pub locate_rules : List Rule
 locate_rules = texts_rule false (codes "URL=FILE") ∷ list_rule (codes "maps") ∷ base_rule ∷ interval_rule
-    ∷ flag_rule (codes "paths") ∷ bytes_rule 0 (codes "cache") ∷ flag_rule (codes "after")
+    ∷ flag_rule (codes "paths") ∷ flag_rule (codes "names") ∷ bytes_rule 0 (codes "cache") ∷ flag_rule (codes "after")
     ∷ flag_rule (codes "json") ∷ context_rule ∷ []
 
 abbrev pub locate : App

@@ -154,6 +154,9 @@ around it, where the map has the source's text.
 
 The last mapping at a position or before it answers or, with --after, the first at it or after it.
 
+With --names a line may go on with a TAB and a function, as frames have it: its answer then ends with a TAB and the
+function, in JSON it has `function`, with the name that was written where that is known.
+
 Example: printf 'https://a.test/preset-react.js:65:80\\n' | smap locate https://a.test/=examples/";
 
 pub const CHECK_ABOUT: &str = "Checks source map files and prints their counts";
@@ -350,6 +353,10 @@ pub const PATHS_OF_SOURCES_HELP: &str =
 pub const NAMES_HELP: &str = "\
 Name functions as they were written, where the generated file beside a map, FILE without its
 last `.map`, says it; not with --anywhere";
+
+pub const LOCATED_NAMES_HELP: &str = "\
+Answer the function behind a TAB as it was written, where the generated file beside a map,
+FILE without its last `.map`, says it";
 
 pub const MISFITS_REFUSED_HELP: &str =
     "Refuse a map that does not fit the generated file beside it, FILE without its last `.map`";

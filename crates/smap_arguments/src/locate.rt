@@ -44,6 +44,7 @@ pub fn locate_in(
         list: text_if_given(alloc, matches, "LIST")?,
         paths,
         cache_bytes: bytes_in(matches, "cache", 0),
+        names: flag_in(matches, "names"),
         options: AnswerOptions {
             direction: Direction::of(flag_in(matches, "after")),
             form,

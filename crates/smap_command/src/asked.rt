@@ -77,6 +77,9 @@ pub struct Locate {
     /// How many bytes the files may have whose maps are kept for when a line names them again: 0 to `MOST_OPTION_BYTES`, and
     /// `USUAL_CACHE_BYTES` where nothing else is asked for.
     pub cache_bytes: Option<u64>,
+    /// Whether a line may name a function, which gets the name that was written, where the generated file beside the map
+    /// says it.
+    pub names: bool,
     pub options: AnswerOptions,
 }
 

@@ -5,13 +5,21 @@ use Rattle.std.specs.List.{starts_with}
 use Rattle.memchr.specs.Find.{matches, first_of}
 use Rattle.smap_record.specs.FileText.{json_text, without_mark}
 use Rattle.smap_explain.specs.declared.explanation.Beginning.{Beginning}
-use Rattle.smap_explain.specs.declared.explanation.Beginning.TheVariants.{Nothing, Gzip, Zip, Utf16, Html, DataUrl, Script, Json, Other}
+use Rattle.smap_explain.specs.declared.explanation.Beginning.TheVariants.{Nothing, Gzip, Xz, Zstd, Zip, Utf16, Html, DataUrl, Script, Json, Other}
 
 -- ---- files that are no text of UTF-8
 
 -- the first bytes of a file that is packed with gzip (RFC 1952)
 abbrev pub is_gzip : List ℕ → Bool
 is_gzip bytes = starts_with nat_eq bytes (0x1F ∷ 0x8B ∷ [])
+
+-- those of one that is packed with xz
+abbrev pub is_xz : List ℕ → Bool
+is_xz bytes = starts_with nat_eq bytes (0xFD ∷ 0x37 ∷ 0x7A ∷ 0x58 ∷ 0x5A ∷ 0 ∷ [])
+
+-- those of one that is packed with zstd (RFC 8878)
+abbrev pub is_zstd : List ℕ → Bool
+is_zstd bytes = starts_with nat_eq bytes (0x28 ∷ 0xB5 ∷ 0x2F ∷ 0xFD ∷ [])
 
 -- those of a zip archive, or of one with no files
 abbrev pub is_zip : List ℕ → Bool
@@ -91,6 +99,8 @@ unfoldable pub begins_as : List ℕ → Beginning
 begins_as bytes =
     if length (without_blanks (without_mark bytes)) == 0 then Nothing
     else (if is_gzip bytes then Gzip
+    else (if is_xz bytes then Xz
+    else (if is_zstd bytes then Zstd
     else (if is_zip bytes then Zip
     else (if has_wide_mark bytes || has_wide_characters bytes then Utf16
-    else text_begins_as bytes)))
+    else text_begins_as bytes)))))

@@ -1,6 +1,6 @@
 //! What the bytes of a file begin as.
 ghost use Rattle.std.specs.Prelude.{◌≡◌, ◌≤◌, ◌<◌, ◌+◌, ◌||◌, length};
-ghost use Rattle.smap_explain.specs.Beginning.{begins_as, has_bytes, has_wide_characters, has_wide_mark, is_blank, is_data_url, is_gzip, is_high_first, is_html, is_json, is_letter, is_low_first, is_zip, names_a_map, text_begins_as, without_blanks};
+ghost use Rattle.smap_explain.specs.Beginning.{begins_as, has_bytes, has_wide_characters, has_wide_mark, is_blank, is_data_url, is_gzip, is_high_first, is_html, is_json, is_letter, is_low_first, is_xz, is_zip, is_zstd, names_a_map, text_begins_as, without_blanks};
 
 use crate::explanation::Beginning;
 use memchr::memmem;
@@ -16,6 +16,12 @@ pub fn begins_as(bytes: &[u8]) -> Beginning
     }
     if is_gzip(bytes) {
         return Beginning::Gzip;
+    }
+    if is_xz(bytes) {
+        return Beginning::Xz;
+    }
+    if is_zstd(bytes) {
+        return Beginning::Zstd;
     }
     if is_zip(bytes) {
         return Beginning::Zip;
@@ -50,6 +56,18 @@ fn is_gzip(bytes: &[u8]) -> bool
     ensures { result ≡ is_gzip bytes.now }
 {
     bytes.starts_with(&[0x1F, 0x8B])
+}
+
+fn is_xz(bytes: &[u8]) -> bool
+    ensures { result ≡ is_xz bytes.now }
+{
+    bytes.starts_with(&[0xFD, 0x37, 0x7A, 0x58, 0x5A, 0])
+}
+
+fn is_zstd(bytes: &[u8]) -> bool
+    ensures { result ≡ is_zstd bytes.now }
+{
+    bytes.starts_with(&[0x28, 0xB5, 0x2F, 0xFD])
 }
 
 fn is_zip(bytes: &[u8]) -> bool

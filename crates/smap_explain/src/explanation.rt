@@ -36,6 +36,10 @@ pub enum Beginning {
     Nothing,
     /// A file that is packed with gzip.
     Gzip,
+    /// One that is packed with xz.
+    Xz,
+    /// One that is packed with zstd.
+    Zstd,
     /// A zip archive.
     Zip,
     /// UTF-16, by its byte order mark, or by two characters of ASCII.

@@ -1,8 +1,10 @@
 -- What stands in a line for the bytes of a text.
-use Rattle.std.proofs.Common.{◌≡◌, ◌/◌, ◌%◌, ◌==◌, ◌||◌, ℕ, Bool, true, false, cond, ltb, List, [], ◌∷◌, ◌++◌, Some, None, flat_map, refl, sym, ap, ◌∙◌, arith}
+use Rattle.std.proofs.Common.{◌≡◌, ◌/◌, ◌%◌, ◌==◌, ◌||◌, ℕ, Bool, true, false, cond, ltb, List, [], ◌∷◌, ◌++◌, Some, None, append_assoc, flat_map, map, refl, sym, ap, ◌∙◌, arith}
 use Rattle.std.specs.Char.{digit_char, is_ascii_control}
 use Rattle.std.specs.List.{list_any}
 use Rattle.std.proofs.lemmas.Bool.{cond-false, cond-true, or_parts}
+use Rattle.std.proofs.lemmas.Grind.{flat_map-append}
+use Rattle.std.proofs.lemmas.List.{map-append}
 use Rattle.std.proofs.lemmas.List.Concat.{flat_map_single}
 use Rattle.std.proofs.lemmas.Option.{cond_some}
 use Rattle.json.specs.Print.{escape, escape_byte, escape_letter}
@@ -29,7 +31,15 @@ plain_shown byte plain = ap (λ b. b ∷ []) (cond-false (is_ascii_control byte)
 pub plain_text : (text : List ℕ) → list_any is_ascii_control text ≡ false → text ≡ shown text
 plain_text text none = sym (same_text shown_piece is_ascii_control plain_shown text none) ∙ shown_is text
 
+-- two texts print as one
+pub shown_joined : (one other : List ℕ) → shown one ++ shown other ≡ shown (one ++ other)
+unfolding shown
+shown_joined one other = sym (map-append shown_byte one other)
+
 -- ---- as JSON
+
+pub escape_both : (one other rest : List ℕ) → escape one ++ (escape other ++ rest) ≡ escape (one ++ other) ++ rest
+escape_both one other rest = sym (append_assoc (escape one) (escape other) rest) ∙ ap (λ l. l ++ rest) (sym (flat_map-append escape_byte one other))
 
 none_at : (found : ℕ) (has : Bool) → cond has (Some found) None ≡ None → has ≡ false
 none_at found true is = cc

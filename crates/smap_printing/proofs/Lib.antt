@@ -2,6 +2,7 @@ mod PutLaws
 mod PrintedLaws
 mod ShortTextLaws
 mod EscapeLaws
+mod MemberLaws
 pub mod PositionLaws
 pub mod ColumnLaws
 mod ContextLaws

@@ -28,20 +28,26 @@ bad_position_value = object (member (codes "answer") (string (codes "bad positio
 abbrev pub url_members : (url : Option (List ℕ)) → Members
 url_members url = member_where (codes "url") (option_map string url) no_members
 
+-- the function that was asked for beside the position, where one was, and more behind it
+abbrev pub function_members : (function : Option (List ℕ)) → (more : Members) → Members
+function_members function more = member_where (codes "function") (option_map string function) more
+
 -- no mapping answers for this position
-abbrev pub none_value : (url : Option (List ℕ)) → PrintedPosition → Data
-none_value url position = object (
+abbrev pub none_value : (function url : Option (List ℕ)) → PrintedPosition → Data
+none_value function url position = object (
     member (codes "answer") (string (codes "none"))
     (member (codes "column") (count position.column)
-    (member (codes "line") (count position.line) (url_members url))))
+    (function_members function
+    (member (codes "line") (count position.line) (url_members url)))))
 
 -- the mapping that answers stands at this column, and has no original
-abbrev pub unmapped_value : (url : Option (List ℕ)) → PrintedPosition → (column : ℕ) → Data
-unmapped_value url position column = object (
+abbrev pub unmapped_value : (function url : Option (List ℕ)) → PrintedPosition → (column : ℕ) → Data
+unmapped_value function url position column = object (
     member (codes "answer") (string (codes "unmapped"))
     (member (codes "column") (count position.column)
+    (function_members function
     (member (codes "generatedColumn") (count (column + 1))
-    (member (codes "line") (count position.line) (url_members url)))))
+    (member (codes "line") (count position.line) (url_members url))))))
 
 -- the two lines of an excerpt
 abbrev pub excerpt_value : List ℕ → Data
@@ -60,23 +66,24 @@ origin_members origin source name more =
 
 -- where the mapping comes from that answers and stands at this column; the lines around that, up to so many on each side, where they
 -- are asked for and there are some; and the excerpt that shows it, where there is one
-abbrev pub found_value : (most : Option ℕ) → (excerpt url : Option (List ℕ)) → PrintedPosition → (column : ℕ) → Origin → Option StatedSource → (name : Option (List ℕ)) → Data
-found_value most excerpt url position column origin source name = object (
+abbrev pub found_value : (most : Option ℕ) → (excerpt function url : Option (List ℕ)) → PrintedPosition → (column : ℕ) → Origin → Option StatedSource → (name : Option (List ℕ)) → Data
+found_value most excerpt function url position column origin source name = object (
     member (codes "answer") (string (codes "found"))
     (member (codes "column") (count position.column)
     (member_where (codes "context") (option_map context_value (source_context most source origin.line))
     (member_where (codes "excerpt") (option_map excerpt_value excerpt)
+    (function_members function
     (member (codes "generatedColumn") (count (column + 1))
     (member (codes "ignored") (boolean (is_ignored_where source))
-    (member (codes "line") (count position.line) (origin_members origin source name (url_members url)))))))))
+    (member (codes "line") (count position.line) (origin_members origin source name (url_members url))))))))))
 
 -- what a map answers for a position, with so many lines around the place that is found, where they are asked for, with the excerpt that
--- shows it, and with the URL that was asked for, where there is one
-abbrev pub answer_value : (most : Option ℕ) → (excerpt url : Option (List ℕ)) → MapRecord → PrintedPosition → Answer → Data
-answer_value most excerpt url stated position Nothing = none_value url position
-answer_value most excerpt url stated position (Unmapped column) = unmapped_value url position column
-answer_value most excerpt url stated position (Found column origin) =
-    found_value most excerpt url position column origin (slice_get stated.sources origin.source) (option_and_then (slice_get stated.names) origin.name)
+-- shows it, and with the function and the URL that were asked for, where there are such
+abbrev pub answer_value : (most : Option ℕ) → (excerpt function url : Option (List ℕ)) → MapRecord → PrintedPosition → Answer → Data
+answer_value most excerpt function url stated position Nothing = none_value function url position
+answer_value most excerpt function url stated position (Unmapped column) = unmapped_value function url position column
+answer_value most excerpt function url stated position (Found column origin) =
+    found_value most excerpt function url position column origin (slice_get stated.sources origin.source) (option_and_then (slice_get stated.names) origin.name)
 
 -- ---- the lines
 
@@ -87,4 +94,4 @@ json_line value = compact_text value ++ 10 ∷ []
 abbrev pub lookup_json : Direction → (line column : ℕ) → MapRecord → List ℕ
 lookup_json direction line column stated =
     let answer = lookup_answer direction line column stated in
-    json_line (answer_value None (answer_excerpt stated answer) None stated (record { line = line + 1; column = column + 1 }) answer)
+    json_line (answer_value None (answer_excerpt stated answer) None None stated (record { line = line + 1; column = column + 1 }) answer)

@@ -1,5 +1,6 @@
 pub mod Position
 pub mod PositionOf
+pub mod Functions
 pub mod Lines
 pub mod Lookup
 pub mod Context

@@ -25,8 +25,14 @@ name_suffix (Some name) = codes " name " ++ shown name
 abbrev pub ignored_text : Bool → List ℕ
 ignored_text ignored = if ignored then codes " ignored" else []
 
--- a place in a source that prints like this; its line and column count from 0, and print from 1
-abbrev pub place_line : (source : List ℕ) (line column : ℕ) (name : Option (List ℕ)) (ignored : Bool) → List ℕ
-place_line source line column name ignored = line_from (
+-- what prints of the function that is asked for beside a place, where one is
+abbrev pub function_suffix : Option (List ℕ) → List ℕ
+function_suffix None = []
+function_suffix (Some function) = codes "\t" ++ shown function
+
+-- a place in a source that prints like this, and behind it the function, where one is asked for; its line and column count from 0,
+-- and print from 1
+abbrev pub place_line : (source : List ℕ) (line column : ℕ) (name : Option (List ℕ)) (ignored : Bool) (function : Option (List ℕ)) → List ℕ
+place_line source line column name ignored function = line_from (
     source ∷ codes ":" ∷ decimal (line + 1) ∷ codes ":" ∷ decimal (column + 1)
-    ∷ name_suffix name ∷ ignored_text ignored ∷ [])
+    ∷ name_suffix name ∷ ignored_text ignored ∷ function_suffix function ∷ [])

@@ -10,7 +10,7 @@ use Rattle.smap_record.specs.Written.{is_ignored_where, text_of_source}
 use Rattle.smap_text.specs.Excerpt.{excerpt_of}
 use Rattle.smap_text.specs.Shown.{shown}
 use Rattle.smap_command.specs.Lines.{line_from}
-use Rattle.smap_printing.specs.Lines.{none_line, unmapped_line, place_line}
+use Rattle.smap_printing.specs.Lines.{function_suffix, place_line}
 use Rattle.smap_command.specs.declared.options.Direction.{Direction}
 use Rattle.smap_command.specs.declared.options.Direction.TheVariants.{AtOrBefore, AtOrAfter}
 
@@ -19,18 +19,18 @@ abbrev pub source_text : (name : Option (List ℕ)) → ℕ → List ℕ
 source_text (Some name) i = shown name
 source_text None i = codes "[" ++ decimal i ++ codes "]"
 
--- the line for a place in a source
-abbrev pub origin_line : MapRecord → Origin → List ℕ
-origin_line stated origin =
+-- the line for a place in a source, and for the function that is asked for beside it, where one is
+abbrev pub origin_line : MapRecord → (function : Option (List ℕ)) → Origin → List ℕ
+origin_line stated function origin =
     let source = slice_get stated.sources origin.source in
     place_line (source_text (option_and_then text_of_source source) origin.source) origin.line origin.column
-    (option_and_then (slice_get stated.names) origin.name) (is_ignored_where source)
+    (option_and_then (slice_get stated.names) origin.name) (is_ignored_where source) function
 
 -- the line for an answer
-abbrev pub answer_line : MapRecord → Answer → List ℕ
-answer_line stated Nothing = none_line
-answer_line stated (Unmapped column) = unmapped_line
-answer_line stated (Found column origin) = origin_line stated origin
+abbrev pub answer_line : MapRecord → (function : Option (List ℕ)) → Answer → List ℕ
+answer_line stated function Nothing = line_from (codes "none" ∷ function_suffix function ∷ [])
+answer_line stated function (Unmapped column) = line_from (codes "unmapped" ∷ function_suffix function ∷ [])
+answer_line stated function (Found column origin) = origin_line stated function origin
 
 -- the excerpt of the source's content that shows a place, where there is one
 abbrev pub source_excerpt : Option StatedSource → Origin → Option (List ℕ)
@@ -56,4 +56,4 @@ lookup_answer AtOrAfter line column stated = answer_of_map_from stated line colu
 abbrev pub lookup_text : Direction → (line column : ℕ) → MapRecord → List ℕ
 lookup_text direction line column stated =
     let answer = lookup_answer direction line column stated in
-    answer_line stated answer ++ excerpt_lines (answer_excerpt stated answer)
+    answer_line stated None answer ++ excerpt_lines (answer_excerpt stated answer)

@@ -23,7 +23,7 @@ use Rattle.smap_command.specs.declared.options.MappingsOptions.{MappingsOptions}
 -- where it stands and, behind this text, the line for what it answers
 abbrev pub line_with : (between : List ℕ) → MapRecord → Mapping → List ℕ
 line_with between stated mapping =
-    decimal (mapping.line + 1) ++ (codes ":" ++ (decimal (mapping.column + 1) ++ (between ++ answer_line stated (answer_of mapping))))
+    decimal (mapping.line + 1) ++ (codes ":" ++ (decimal (mapping.column + 1) ++ (between ++ answer_line stated None (answer_of mapping))))
 
 abbrev pub mapping_line : MapRecord → Mapping → List ℕ
 mapping_line stated mapping = line_with (codes " ") stated mapping

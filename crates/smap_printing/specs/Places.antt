@@ -13,7 +13,9 @@ use Rattle.smap_record.specs.Record.{MapRecord}
 use Rattle.smap_record.specs.Written.{member_where}
 use Rattle.smap_record.specs.declared.refusal.MapRefusal.{MapRefusal}
 use Rattle.smap_record.specs.declared.refusal.MapRefusal.TheVariants.{Text}
-use Rattle.smap_printing.specs.Json.{count, json_line, url_members}
+use Rattle.smap_printing.specs.Functions.{FunctionAsked}
+use Rattle.smap_printing.specs.Json.{count, function_members, json_line, url_members}
+use Rattle.smap_printing.specs.Lines.{function_suffix}
 use Rattle.smap_printing.specs.Positions.{asked_line}
 use Rattle.smap_command.specs.declared.options.AnswerOptions.{AnswerOptions}
 use Rattle.smap_printing.specs.declared.printed_position.PrintedPosition.{PrintedPosition}
@@ -54,27 +56,29 @@ fault_of Unread = None
 fault_of (Refused refused) = fault_in refused
 fault_of Memory = None
 
-abbrev pub words_of : (word : List ℕ) → (refusal : Option Code) → List (List ℕ)
-words_of word None = word ∷ []
-words_of word (Some code) = word ∷ codes " " ∷ label_of code ∷ []
+abbrev pub words_of : (word : List ℕ) → (refusal : Option Code) → (more : List (List ℕ)) → List (List ℕ)
+words_of word None more = word ∷ more
+words_of word (Some code) more = word ∷ codes " " ∷ label_of code ∷ more
 
-abbrev pub unanswered_line : NoMap → List ℕ
-unanswered_line why = line_from (words_of (unanswered_word why) (code_of why))
+abbrev pub unanswered_line : (function : Option (List ℕ)) → NoMap → List ℕ
+unanswered_line function why = line_from (words_of (unanswered_word why) (code_of why) (function_suffix function ∷ []))
 
-abbrev pub unanswered_value : (url : List ℕ) → PrintedPosition → NoMap → Data
-unanswered_value url position why = object (
+abbrev pub unanswered_value : (function : Option (List ℕ)) → (url : List ℕ) → PrintedPosition → NoMap → Data
+unanswered_value function url position why = object (
     member (codes "answer") (string (unanswered_word why))
     (member (codes "column") (count position.column)
     (member_where (codes "fault") (option_map (λ code. string (label_of code)) (fault_of why))
+    (function_members function
     (member (codes "line") (count position.line)
-    (member_where (codes "refusal") (option_map (λ code. string (label_of code)) (code_of why)) (url_members (Some url)))))))
+    (member_where (codes "refusal") (option_map (λ code. string (label_of code)) (code_of why)) (url_members (Some url))))))))
 
-abbrev pub unanswered : Form → (url : List ℕ) → PrintedPosition → NoMap → List ℕ
-unanswered form url position why = if is_json form then json_line (unanswered_value url position why) else unanswered_line why
+abbrev pub unanswered : Form → (function : Option (List ℕ)) → (url : List ℕ) → PrintedPosition → NoMap → List ℕ
+unanswered form function url position why =
+    if is_json form then json_line (unanswered_value function url position why) else unanswered_line function why
 
 -- ---- a place
 
--- what the map of its URL answers for it, or why none does
-abbrev pub place_line : AnswerOptions → (url : List ℕ) → PrintedPosition → Result MapRecord NoMap → List ℕ
-place_line options url position (Ok stated) = asked_line options (Some url) stated position
-place_line options url position (Err why) = unanswered options.form url position why
+-- what the map of its URL answers for it, or why none does, with the function that was asked for, where one was
+abbrev pub place_line : AnswerOptions → (function : Option FunctionAsked) → (url : List ℕ) → PrintedPosition → Result MapRecord NoMap → List ℕ
+place_line options function url position (Ok stated) = asked_line options function (Some url) stated position
+place_line options function url position (Err why) = unanswered options.form (option_map (λ it. it.text) function) url position why

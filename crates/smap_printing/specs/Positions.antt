@@ -1,11 +1,12 @@
 -- What becomes of a text of positions: each of its lines is answered by a line, in their order. A line of more than 65,536
 -- bytes is none that is answered: it stays as it is.
-use Rattle.std.specs.Prelude.{ℕ, ◌+◌, ◌-◌, Bool, List, [], ◌∷◌, Option, Some, None, is_some, if◌then◌else◌, filter}
+use Rattle.std.specs.Prelude.{ℕ, ◌+◌, ◌-◌, Bool, List, [], ◌∷◌, Option, Some, None, is_some, if◌then◌else◌, filter, option_map}
 use Rattle.smap_index.specs.declared.answer.Answer.{Answer}
 use Rattle.smap_lines.specs.Edited.{edited, is_short}
 use Rattle.smap_lines.specs.Lines.{Line, lines_with_ends}
 use Rattle.smap_record.specs.Record.{MapRecord}
 use Rattle.smap_command.specs.Options.{is_json}
+use Rattle.smap_printing.specs.Functions.{FunctionAsked, function_answered}
 use Rattle.smap_printing.specs.Json.{answer_value, bad_position_value, json_line}
 use Rattle.smap_printing.specs.Lines.{bad_position_line}
 use Rattle.smap_printing.specs.Lookup.{answer_line, lookup_answer}
@@ -20,16 +21,19 @@ use Rattle.smap_printing.specs.declared.printed_position.PrintedPosition.{Printe
 abbrev pub position_answer : Direction → MapRecord → PrintedPosition → Answer
 position_answer direction stated position = lookup_answer direction (position.line - 1) (position.column - 1) stated
 
--- the line for a position, as text, or as JSON with the lines around it, where they are asked for, and the URL that was, where one was
-abbrev pub asked_line : AnswerOptions → (url : Option (List ℕ)) → MapRecord → PrintedPosition → List ℕ
-asked_line options url stated position =
+-- the line for a position, with the function that was asked for, where one was, as text, or as JSON with the lines around it, where they
+-- are asked for, and the URL that was, where one was
+abbrev pub asked_line : AnswerOptions → (function : Option FunctionAsked) → (url : Option (List ℕ)) → MapRecord → PrintedPosition → List ℕ
+asked_line options function url stated position =
     let answer = position_answer options.direction stated position in
-    if is_json options.form then json_line (answer_value options.context None url stated position answer) else answer_line stated answer
+    let answered = option_map (function_answered answer) function in
+    if is_json options.form then json_line (answer_value options.context None answered url stated position answer)
+    else answer_line stated answered answer
 
--- the same without one; and the line for what is no position
+-- the same without these; and the line for what is no position
 abbrev pub position_line : AnswerOptions → MapRecord → Option PrintedPosition → List ℕ
 position_line options stated None = if is_json options.form then json_line bad_position_value else bad_position_line
-position_line options stated (Some position) = asked_line options None stated position
+position_line options stated (Some position) = asked_line options None None stated position
 
 abbrev pub answered_line : MapRecord → AnswerOptions → Line → List ℕ
 answered_line stated options line = position_line options stated (position_of line.bytes)

@@ -100,6 +100,7 @@ impl PositionAnswerer<'_> {
                 self.options,
                 position,
                 None,
+                None,
                 output,
             ),
             None => self.put_bad(output),

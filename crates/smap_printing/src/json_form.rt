@@ -4,6 +4,7 @@ ghost use Rattle.std.specs.List.{after_first, before_first};
 ghost use Rattle.serde_json.specs.Data.{boolean};
 ghost use Rattle.serde_json.specs.Written.{compact_text, members_text};
 ghost use Rattle.smap_record.specs.Sources.{source_of};
+ghost use Rattle.smap_printing.specs.Functions.{pieces_text};
 ghost use Rattle.smap_printing.specs.Json.{answer_value, bad_position_value, excerpt_value, found_value, json_line};
 ghost use Rattle.smap_printing.specs.Json.{none_value, origin_members, unmapped_value, url_members};
 ghost use Rattle.smap_record.specs.Written.{is_ignored_where};
@@ -12,15 +13,19 @@ ghost use Rattle.smap_printing.specs.Private.Members.{excerpt_member, ignored_me
 
 use crate::answer::{from_one, name_at};
 use crate::context_form::put_context;
+use crate::functions::{FunctionText, put_function_member};
 use crate::map_text::put_json_text;
 use crate::output::{Output, put_number};
 use smap_record::{Answer, MapFile, Mapping, Origin, SourceEntry, is_ignored, source_name};
 
-/// The generated line and column that were asked for, both from 1.
+/// The generated line and column that were asked for, both from 1, and beside them a function and the URL, where there were
+/// such.
 #[derive(Clone, Copy)]
-pub struct AskedPosition {
+pub struct AskedPosition<'a> {
     pub line: u64,
     pub column: u64,
+    pub function: Option<FunctionText<'a>>,
+    pub url: Option<&'a str>,
 }
 
 #[tactic(auto, unfolding(json::specs::Print::escape_byte))]
@@ -31,11 +36,10 @@ pub fn put_bad_position<O: Output>(output: &mut O)
 }
 
 /// Puts the line for what a map answers for a position, with so many lines around what was found, where they are asked for,
-/// with this excerpt of it, and with the URL that was asked for, where one was.
+/// and with this excerpt of it.
 pub fn put_answer_object<O: Output>(
     map: &MapFile,
-    asked: AskedPosition,
-    url: Option<&str>,
+    asked: AskedPosition<'_>,
     answer: &Answer,
     context: Option<u32>,
     excerpt: Option<&str>,
@@ -43,21 +47,21 @@ pub fn put_answer_object<O: Output>(
 )
     ensures { O.Puts output.old output.new (json_line
         (answer_value context (option_map (λ excerpt. excerpt.now) excerpt.entry)
-        (option_map (λ url. url.now) url.entry) map.now.stated
-        (record { line = asked.line; column = asked.column }) answer.now)) }
+        (option_map pieces_text asked.entry.function)
+        (option_map (λ url. url.now) asked.entry.url) map.now.stated
+        (record { line = asked.entry.line; column = asked.entry.column }) answer.now)) }
 {
     match answer {
-        Answer::Nothing => put_none(asked, url, output),
+        Answer::Nothing => put_none(asked, output),
         Answer::Unmapped {
             column: generated_column,
-        } => put_unmapped(asked, url, *generated_column, output),
+        } => put_unmapped(asked, *generated_column, output),
         Answer::Found {
             column: generated_column,
             origin,
         } => put_found(
             map,
             asked,
-            url,
             *generated_column,
             origin,
             context,
@@ -69,14 +73,16 @@ pub fn put_answer_object<O: Output>(
 }
 
 // Puts that no mapping answers.
-fn put_none<O: Output>(asked: AskedPosition, url: Option<&str>, output: &mut O)
+fn put_none<O: Output>(asked: AskedPosition<'_>, output: &mut O)
     ensures { O.Puts output.old output.new
-        (compact_text (none_value (option_map (λ url. url.now) url.entry)
-        (record { line = asked.line; column = asked.column }))) }
+        (compact_text (none_value (option_map pieces_text asked.entry.function)
+        (option_map (λ url. url.now) asked.entry.url)
+        (record { line = asked.entry.line; column = asked.entry.column }))) }
 {
     put_number(b"{\"answer\":\"none\",\"column\":", asked.column, output);
+    put_function_member(asked.function, output);
     put_number(b",\"line\":", asked.line, output);
-    put_end(url, output);
+    put_end(asked.url, output);
 }
 
 /// Puts the URL that was asked for, where one was, behind other members, and the end of the object.
@@ -95,31 +101,27 @@ pub fn put_end<O: Output>(url: Option<&str>, output: &mut O)
 }
 
 // Puts that the mapping that answers, which stands at this column, has no original.
-fn put_unmapped<O: Output>(
-    asked: AskedPosition,
-    url: Option<&str>,
-    generated_column: u32,
-    output: &mut O,
-)
+fn put_unmapped<O: Output>(asked: AskedPosition<'_>, generated_column: u32, output: &mut O)
     ensures { O.Puts output.old output.new
-        (compact_text (unmapped_value (option_map (λ url. url.now) url.entry)
-        (record { line = asked.line; column = asked.column }) generated_column)) }
+        (compact_text (unmapped_value (option_map pieces_text asked.entry.function)
+        (option_map (λ url. url.now) asked.entry.url)
+        (record { line = asked.entry.line; column = asked.entry.column }) generated_column)) }
 {
     put_number(
         b"{\"answer\":\"unmapped\",\"column\":",
         asked.column,
         output,
     );
+    put_function_member(asked.function, output);
     put_number(b",\"generatedColumn\":", from_one(generated_column), output);
     put_number(b",\"line\":", asked.line, output);
-    put_end(url, output);
+    put_end(asked.url, output);
 }
 
 // Puts where the mapping that answers, which stands at this column, comes from.
 fn put_found<O: Output>(
     map: &MapFile,
-    asked: AskedPosition,
-    url: Option<&str>,
+    asked: AskedPosition<'_>,
     generated_column: u32,
     origin: &Origin,
     context: Option<u32>,
@@ -128,8 +130,10 @@ fn put_found<O: Output>(
 )
     ensures { O.Puts output.old output.new (compact_text
         (found_value context (option_map (λ excerpt. excerpt.now) excerpt.entry)
-        (option_map (λ url. url.now) url.entry)
-        (record { line = asked.line; column = asked.column }) generated_column origin.now
+        (option_map pieces_text asked.entry.function)
+        (option_map (λ url. url.now) asked.entry.url)
+        (record { line = asked.entry.line; column = asked.entry.column }) generated_column
+        origin.now
         (slice_get map.now.stated.sources origin.now.source)
         (option_and_then (slice_get map.now.stated.names) origin.now.name))) }
 {
@@ -137,10 +141,11 @@ fn put_found<O: Output>(
     put_number(b"{\"answer\":\"found\",\"column\":", asked.column, output);
     put_context(entry, origin.line, context, output);
     put_excerpt(excerpt, output);
+    put_function_member(asked.function, output);
     put_number(b",\"generatedColumn\":", from_one(generated_column), output);
     put_ignored(entry, output);
     put_number(b",\"line\":", asked.line, output);
-    put_origin_members(entry, name_at(map, origin.name), origin, url, output);
+    put_origin_members(entry, name_at(map, origin.name), origin, asked.url, output);
 }
 
 /// Puts whether a source is ignored, behind other members.

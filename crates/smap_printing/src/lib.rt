@@ -18,6 +18,7 @@ mod answer;
 mod answerer;
 mod answering;
 mod context_form;
+mod functions;
 mod gathered_line;
 mod generated;
 mod growing_text;
@@ -36,6 +37,7 @@ mod text_form;
 
 pub use answer::from_one;
 pub use answering::{PositionsSummary, answer_position_lines};
+pub use functions::AskedFunction;
 pub use generated::generated_text;
 pub use lookup::{lookup_as_json, lookup_text};
 pub use mappings::print_mappings;

@@ -1,5 +1,5 @@
 //! The texts of a map, put as text and as JSON.
-ghost use Rattle.std.specs.Prelude.{◌≡◌, ◌<◌, option_map, true};
+ghost use Rattle.std.specs.Prelude.{◌≡◌, ◌<◌, ◌++◌, option_map, true};
 ghost use Rattle.std.specs.List.{list_any};
 ghost use Rattle.std.specs.Char.{digit_char};
 ghost use Rattle.json.specs.Print.{escape, escape_byte, quoted};
@@ -15,11 +15,19 @@ use smap_text::shown_byte;
 
 /// Puts a text of the user's as it prints: a `?` stands for each ASCII control character. Where it is known to have none, it
 /// is not asked for one.
+#[inline(always)]
 pub fn put_shown<O: Output>(text: &str, is_plain: bool, output: &mut O)
     requires { is_plain ≡ true → IsPlain text.now }
     ensures { O.Puts output.old output.new (shown text.now) }
 {
-    let bytes = text.as_bytes();
+    put_shown_bytes(text.as_bytes(), is_plain, output);
+}
+
+/// The same of the bytes of a text.
+pub fn put_shown_bytes<O: Output>(bytes: &[u8], is_plain: bool, output: &mut O)
+    requires { is_plain ≡ true → IsPlain bytes.now }
+    ensures { O.Puts output.old output.new (shown bytes.now) }
+{
     if is_plain_text(bytes, is_plain) {
         return output.put(bytes);
     }
@@ -53,6 +61,16 @@ fn put_json_string<O: Output>(text: &[u8], output: &mut O)
 {
     output.put(b"\"");
     put_escaped(text, output);
+    output.put(b"\"")
+}
+
+/// Puts two texts, one behind the other, as one JSON string.
+pub fn put_json_pieces<O: Output>(first: &[u8], second: &[u8], output: &mut O)
+    ensures { O.Puts output.old output.new (quoted (first.now ++ second.now)) }
+{
+    output.put(b"\"");
+    put_escaped(first, output);
+    put_escaped(second, output);
     output.put(b"\"")
 }
 

@@ -217,6 +217,6 @@ pub fn put_mapping_line<O: Output>(
     output.put(between);
     match mapping.origin {
         None => output.put(UNMAPPED.as_bytes()),
-        Some(origin) => put_origin_line(map, &origin, kept, output),
+        Some(origin) => put_origin_line(map, &origin, kept, None, output),
     }
 }

@@ -3,11 +3,15 @@ ghost use Rattle.std.specs.Prelude.{◌≡◌, option_map};
 ghost use Rattle.std.specs.Result.{result_map_both};
 ghost use Rattle.serde_json.specs.Written.{compact_text};
 ghost use Rattle.smap_lines.specs.LineOutput.{IsPut};
+ghost use Rattle.smap_printing.specs.Functions.{function_asked, pieces_text};
 ghost use Rattle.smap_printing.specs.Places.{bad_place_line, code_of, fault_in, fault_of, place_line, unanswered, unanswered_line, unanswered_value, unanswered_word};
 ghost use Rattle.smap_printing.specs.Positions.{asked_line};
-ghost use Rattle.smap_printing.specs.Private.Members.{code_member};
+ghost use Rattle.smap_printing.specs.Private.Members.{code_member, code_word};
 
 use crate::answer::lookup_answer;
+use crate::functions::{
+    AskedFunction, FunctionText, as_answered, as_asked, put_function_end, put_function_member,
+};
 use crate::gathered_line::GatheredLine;
 use crate::json_form::{AskedPosition, put_answer_object, put_end};
 use crate::map_text::put_json_text;
@@ -30,16 +34,19 @@ pub struct AskedPlace<'a> {
     pub position: PrintedPosition,
 }
 
-/// Puts the line for a place after the bytes that wait: what its map answers, or why none does. The call takes no memory.
+/// Puts the line for a place after the bytes that wait: what its map answers, or why none does; and with it the function that
+/// is asked for, where one is. The call takes no memory.
 pub fn put_place_line<W: ByteSink>(
     alloc: Global,
     options: AnswerOptions,
     place: AskedPlace<'_>,
+    function: Option<AskedFunction<'_>>,
     found: Result<&ReadyMap, NoMap>,
     output: &mut LineOutput<'_, W>,
 ) -> Result<(), DeviceFault>
     ensures { IsPut W.seen output.old output.new
-        (place_line options place.entry.url.now place.entry.position
+        (place_line options (option_map function_asked function.entry) place.entry.url.now
+        place.entry.position
         (result_map_both (λ map. map.now.stated) (λ why. why) found.entry)) result }
 {
     let mut line = GatheredLine {
@@ -47,7 +54,7 @@ pub fn put_place_line<W: ByteSink>(
         text: ShortText::new(),
         done: Ok(()),
     };
-    put_place(alloc, options, place, found, &mut line);
+    put_place(alloc, options, place, function, found, &mut line);
     line.hand_on();
     line.done
 }
@@ -78,82 +85,111 @@ fn put_place<O: Output>(
     alloc: Global,
     options: AnswerOptions,
     place: AskedPlace<'_>,
+    function: Option<AskedFunction<'_>>,
     found: Result<&ReadyMap, NoMap>,
     output: &mut O,
 )
     ensures { O.Puts output.old output.new
-        (place_line options place.entry.url.now place.entry.position
+        (place_line options (option_map function_asked function.entry) place.entry.url.now
+        place.entry.position
         (result_map_both (λ map. map.now.stated) (λ why. why) found.entry)) }
 {
     match found {
-        Ok(map) => put_answer(alloc, map, options, place.position, Some(place.url), output),
-        Err(why) => put_unanswered(options.form, place, why, output),
+        Ok(map) => {
+            let url = Some(place.url);
+            put_answer(alloc, map, options, place.position, function, url, output)
+        }
+        Err(why) => put_unanswered(options.form, place, as_asked(function), why, output),
     }
 }
 
-/// Puts the line for what a map answers for a position, with the URL that was asked for, where one was.
+/// Puts the line for what a map answers for a position, with the function and the URL that were asked for, where there were
+/// such.
 pub fn put_answer<O: Output>(
     alloc: Global,
     map: &ReadyMap,
     options: AnswerOptions,
     position: PrintedPosition,
+    function: Option<AskedFunction<'_>>,
     url: Option<&str>,
     output: &mut O,
 )
     ensures { O.Puts output.old output.new
-        (asked_line options (option_map (λ url. url.now) url.entry) map.now.stated position) }
+        (asked_line options (option_map function_asked function.entry)
+        (option_map (λ url. url.now) url.entry) map.now.stated position) }
 {
     let line = position.line.saturating_sub(1);
     let column = position.column.saturating_sub(1);
     let answer = lookup_answer(alloc, map, line, column, options.direction);
+    let function = as_answered(&answer, function);
     let map = map.map();
     if options.form.is_json() {
         let asked = AskedPosition {
             line: u64::from(position.line),
             column: u64::from(position.column),
+            function,
+            url,
         };
-        put_answer_object(map, asked, url, &answer, options.context, None, output)
+        put_answer_object(map, asked, &answer, options.context, None, output)
     } else {
-        put_answer_line(map, &answer, output)
+        put_answer_line(map, &answer, function, output)
     }
 }
 
 // Puts the line that says why no map answers.
-fn put_unanswered<O: Output>(form: Form, place: AskedPlace<'_>, why: NoMap, output: &mut O)
+fn put_unanswered<O: Output>(
+    form: Form,
+    place: AskedPlace<'_>,
+    function: Option<FunctionText<'_>>,
+    why: NoMap,
+    output: &mut O,
+)
     ensures { O.Puts output.old output.new
-        (unanswered form place.entry.url.now place.entry.position why) }
+        (unanswered form (option_map pieces_text function.entry) place.entry.url.now
+        place.entry.position why) }
 {
     if form.is_json() {
-        put_unanswered_object(place, why, output);
+        put_unanswered_object(place, function, why, output);
         output.put(b"\n");
     } else {
-        put_unanswered_line(why, output);
+        put_unanswered_line(function, why, output);
     }
 }
 
-fn put_unanswered_line<O: Output>(why: NoMap, output: &mut O)
-    ensures { O.Puts output.old output.new (unanswered_line why) }
+fn put_unanswered_line<O: Output>(function: Option<FunctionText<'_>>, why: NoMap, output: &mut O)
+    ensures { O.Puts output.old output.new
+        (unanswered_line (option_map pieces_text function.entry) why) }
 {
-    match why {
-        NoMap::Unnamed => output.put(b"no map\n"),
-        NoMap::Unread => output.put(b"no file\n"),
-        NoMap::Refused(refused) => {
-            output.put(b"refused ");
-            output.put(refused.code().label().as_bytes());
-            output.put(b"\n");
-        }
-        NoMap::Memory => output.put(b"no memory\n"),
+    output.put(word_of(why).as_bytes());
+    put_code_word(code_of(why), output);
+    put_function_end(function, output);
+}
+
+// Puts a code behind a word, where there is one.
+fn put_code_word<O: Output>(code: Option<Code>, output: &mut O)
+    ensures { O.Puts output.old output.new (code_word code) }
+{
+    if let Some(code) = code {
+        output.put(b" ");
+        output.put(code.label().as_bytes());
     }
 }
 
-fn put_unanswered_object<O: Output>(place: AskedPlace<'_>, why: NoMap, output: &mut O)
+fn put_unanswered_object<O: Output>(
+    place: AskedPlace<'_>,
+    function: Option<FunctionText<'_>>,
+    why: NoMap,
+    output: &mut O,
+)
     ensures { O.Puts output.old output.new (compact_text
-        (unanswered_value place.entry.url.now place.entry.position why)) }
+        (unanswered_value (option_map pieces_text function.entry) place.entry.url.now
+        place.entry.position why)) }
 {
     output.put(b"{\"answer\":");
     put_json_text(Some(word_of(why)), output);
     put_number(b",\"column\":", u64::from(place.position.column), output);
     put_code(b",\"fault\":", fault_of(why), output);
+    put_function_member(function, output);
     put_number(b",\"line\":", u64::from(place.position.line), output);
     put_code(b",\"refusal\":", code_of(why), output);
     put_end(Some(place.url), output);

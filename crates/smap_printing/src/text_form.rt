@@ -1,11 +1,13 @@
 //! Answers as lines of text, each with its LF.
 ghost use Rattle.std.specs.Prelude.{◌≡◌, ◌++◌, codes, option_and_then, option_map, slice_get, IfSome, true};
-ghost use Rattle.smap_printing.specs.Lines.{ignored_text, name_suffix};
+ghost use Rattle.smap_printing.specs.Functions.{pieces_text};
+ghost use Rattle.smap_printing.specs.Lines.{function_suffix, ignored_text, name_suffix};
 ghost use Rattle.smap_printing.specs.Lookup.{answer_line, origin_line, source_text};
 ghost use Rattle.smap_printing.specs.Private.Plain.{IsKept, IsPlain};
 ghost use Rattle.smap_record.specs.Written.{text_of_source};
 
 use crate::answer::{from_one, name_at};
+use crate::functions::{FunctionText, put_function_end};
 use crate::kept_source::KeptSource;
 use crate::map_text::put_shown;
 use crate::output::{Output, put_number};
@@ -19,33 +21,50 @@ pub const UNMAPPED: &str = "unmapped\n";
 
 pub const BAD_POSITION: &str = "bad position\n";
 
-/// Puts the line for what a map answers.
-pub fn put_answer_line<O: Output>(map: &MapFile, answer: &Answer, output: &mut O)
-    ensures { O.Puts output.old output.new (answer_line map.now.stated answer.now) }
+/// Puts the line for what a map answers, with the function that was asked for, where one was.
+pub fn put_answer_line<O: Output>(
+    map: &MapFile,
+    answer: &Answer,
+    function: Option<FunctionText<'_>>,
+    output: &mut O,
+)
+    ensures { O.Puts output.old output.new
+        (answer_line map.now.stated (option_map pieces_text function.entry) answer.now) }
 {
     match answer {
-        Answer::Nothing => output.put(NONE.as_bytes()),
-        Answer::Unmapped { .. } => output.put(UNMAPPED.as_bytes()),
-        Answer::Found { origin, .. } => put_origin_line(map, origin, &None, output),
+        Answer::Nothing => put_word_line(b"none", function, output),
+        Answer::Unmapped { .. } => put_word_line(b"unmapped", function, output),
+        Answer::Found { origin, .. } => put_origin_line(map, origin, &None, function, output),
     }
 }
 
-/// Puts the line for a place in a source, which may be kept.
+// Puts a line that is a word, with the function that was asked for, where one was.
+fn put_word_line<O: Output>(word: &[u8], function: Option<FunctionText<'_>>, output: &mut O)
+    ensures { O.Puts output.old output.new
+        (word.now ++ (function_suffix (option_map pieces_text function.entry) ++ codes "\n")) }
+{
+    output.put(word);
+    put_function_end(function, output);
+}
+
+/// Puts the line for a place in a source, which may be kept, with the function that was asked for, where one was.
 #[inline(always)]
 pub fn put_origin_line<O: Output>(
     map: &MapFile,
     origin: &Origin,
     kept: &Option<KeptSource>,
+    function: Option<FunctionText<'_>>,
     output: &mut O,
 )
     requires { IfSome kept.now (IsKept map.now.stated) }
-    ensures { O.Puts output.old output.new (origin_line map.now.stated origin.now) }
+    ensures { O.Puts output.old output.new
+        (origin_line map.now.stated (option_map pieces_text function.entry) origin.now) }
 {
     put_source_at(map, origin.source, kept, output);
     put_number(b":", from_one(origin.line), output);
     put_number(b":", from_one(origin.column), output);
     put_name(name_at(map, origin.name), output);
-    put_line_end(is_ignored(map.source(origin.source)), output);
+    put_line_end(is_ignored(map.source(origin.source)), function, output);
 }
 
 // Puts how the source of this index prints, which may be kept.
@@ -105,13 +124,19 @@ fn put_name<O: Output>(name: Option<&str>, output: &mut O)
     }
 }
 
-// Puts whether a source is ignored, and the end of the line.
-fn put_line_end<O: Output>(ignored: bool, output: &mut O)
-    ensures { O.Puts output.old output.new (ignored_text ignored ++ codes "\n") }
+// Puts whether a source is ignored, the function that was asked for, where one was, and the end of the line.
+fn put_line_end<O: Output>(ignored: bool, function: Option<FunctionText<'_>>, output: &mut O)
+    ensures { O.Puts output.old output.new (ignored_text ignored
+        ++ (function_suffix (option_map pieces_text function.entry) ++ codes "\n")) }
+{
+    put_ignored_text(ignored, output);
+    put_function_end(function, output);
+}
+
+fn put_ignored_text<O: Output>(ignored: bool, output: &mut O)
+    ensures { O.Puts output.old output.new (ignored_text ignored) }
 {
     if ignored {
-        output.put(b" ignored\n");
-    } else {
-        output.put(b"\n");
+        output.put(b" ignored");
     }
 }

@@ -193,10 +193,11 @@ fn locating_text(alloc: Global, asked: &Locate) -> Result<String, AllocError> {
     let (interval, options) = (asked.interval, asked.options);
     let (base, after) = (base_text(&asked.base), after_text(options.direction));
     let (json, paths) = (form_text(options.form), flag_text(asked.paths, " by paths"));
+    let names = flag_text(asked.names, " by names");
     let cache_bytes = asked.cache_bytes.unwrap_or(USUAL_CACHE_BYTES);
     let context = number_text(alloc, " with ", options.context)?;
     let maps = pairs_text(alloc, asked.list.as_deref(), &asked.maps)?;
-    let given = format!(in alloc; "{after}{json}{context}{paths}{maps}")?;
+    let given = format!(in alloc; "{after}{json}{context}{paths}{names}{maps}")?;
     format!(in alloc; "locate{base} every {interval} cache {cache_bytes}{given}")
 }
 

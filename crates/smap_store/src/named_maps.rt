@@ -74,6 +74,10 @@ impl<L: MapLoader, N: NamesLoader> Maps for NamedMaps<'_, '_, '_, L, N> {
         self.maps.map_for(url)
     }
 
+    fn knows_names(&self) -> bool {
+        true
+    }
+
     fn written_name<'a>(
         &'a self,
         alloc: Global,

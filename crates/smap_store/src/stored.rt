@@ -135,6 +135,10 @@ impl<L: MapLoader> Maps for StoredMaps<'_, '_, L> {
         }
     }
 
+    fn knows_names(&self) -> bool {
+        false
+    }
+
     fn written_name<'a>(
         &'a self,
         _alloc: Global,

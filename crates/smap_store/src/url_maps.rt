@@ -37,6 +37,10 @@ impl Maps for UrlMaps<'_> {
         self.table.map_under(url, self.cut)
     }
 
+    fn knows_names(&self) -> bool {
+        false
+    }
+
     fn written_name<'a>(
         &'a self,
         _alloc: Global,

@@ -1,6 +1,6 @@
 -- Laws of answering places over files whose paths give the same whenever they are read: each line is then answered by what these
 -- files have, however few are remembered, or by that memory ran out.
-use Rattle.std.specs.Prelude.{◌≡◌, ◌⊎◌, ℕ, ◌+◌, Bool, true, false, List, [], ◌∷◌, ◌++◌, IfOk, MatchBool, Option, Some, None, Result, Ok, Err, length, unwrap_or}
+use Rattle.std.specs.Prelude.{◌≡◌, ◌⊎◌, ℕ, ◌+◌, Bool, true, false, List, [], ◌∷◌, ◌++◌, IfOk, MatchBool, Option, Some, None, Result, Ok, Err, length}
 use Rattle.std.specs.List.{AllZip, concat}
 use Rattle.std.proofs.Common.{ap, inl, inr, refl, subst, sym, ◌∙◌}
 use Rattle.url.specs.Parts.{Parts}
@@ -11,12 +11,11 @@ use Rattle.smap_lines.specs.Lines.{Line, line_text, lines_with_ends}
 use Rattle.smap_lines.specs.declared.counts.LineCounts.{LineCounts}
 use Rattle.smap_lines.specs.declared.fault.LineFault.{LineFault}
 use Rattle.smap_text_answers.specs.AnswersOfFiles.{AnswersAll, AnswersLine, AnswersPlace, IsDefined, IsFoundFor, IsFoundIn, IsFoundOf, IsKnown}
-use Rattle.smap_text_answers.specs.Locate.{AnswersByPath, IsLocatedOverStore}
+use Rattle.smap_text_answers.specs.Locate.{AnswersByPath, IsLocatedOverStore, LocatesText, map_bytes}
 use Rattle.smap_text_answers.specs.Locating.{LocateStep, Locates}
 use Rattle.smap_text_answers.specs.UrlPlace.{UrlPlace, place_of}
 use Rattle.smap_locations.specs.Laws.Key.{path_of_key}
 use Rattle.smap_locations.specs.Locations.{LocationsSeen, key_for, path_for}
-use Rattle.smap_command.specs.Limits.{usual_cache_bytes}
 use Rattle.smap_command.specs.declared.asked.Locate.{Locate}
 use Rattle.smap_command.specs.declared.options.AnswerOptions.{AnswerOptions}
 use Rattle.smap_record.specs.Record.{MapRecord}
@@ -36,7 +35,7 @@ use Rattle.smap_text_answers.specs.Loader.{FailsWith, LoaderSeen, Loads}
 use Rattle.smap_text_answers.specs.SameBytes.{BytesByPath, ReadsAlike}
 use Rattle.smap_text_answers.specs.Standing.{record_loaded}
 use Rattle.smap_text_answers.specs.StoreRun.{store_start}
-use Rattle.smap_text_answers.specs.Told.{nothing_told}
+use Rattle.smap_text_answers.specs.Told.{ToldSeen, nothing_told}
 use Rattle.smap_text_answers.specs.declared.sources.MapSources.{MapSources}
 use Rattle.smap_text_answers.specs.declared.storing.StoreEnd.{StoreEnd}
 use Rattle.smap_text_answers.proofs.RightLaws.{IsRight, right_after, right_start}
@@ -155,14 +154,20 @@ module _ (Reads : MayRead) (Causes : MayCause) (paths : Bool) (base : Option Par
         (λ old line text new right step. placed options old new (place_of line.bytes) text right step) most before after old new counts
         (right_start (Loads Reads Causes paths base k number None) Found exact locations old words_are locations_are empty) edits
 
+-- the second of two things, by a test
+was_off : (test : Bool) (P Q : Type 0) → test ≡ false → MatchBool test P Q → Q
+was_off true P Q is holds = absurd (cc)
+was_off false P Q is holds = holds
+
 -- and so a run over a store answers each line
-pub run_by_path : (Reads : MayRead) (Causes : MayCause) (asked : Locate) (sources : MapSources) (end : StoreEnd LineCounts) (before after : Streams)
-    → IsLocatedOverStore Reads Causes asked sources end before after → AnswersByPath Reads asked sources end before after
-run_by_path Reads Causes asked sources end before after over bytes_at alike counts result =
-    let start = store_start sources (unwrap_or asked.cache_bytes usual_cache_bytes) before.sinks.errors before.sinks.code nothing_told in
+pub run_by_path : (Reads : MayRead) (Causes : MayCause) (asked : Locate) (sources : MapSources) (end : StoreEnd LineCounts) (told : ToldSeen) (before after : Streams)
+    → IsLocatedOverStore Reads Causes asked sources end told before after → AnswersByPath Reads asked sources end before after
+run_by_path Reads Causes asked sources end told before after over bytes_at alike unnamed counts result =
+    let start = store_start sources (map_bytes asked) before.sinks.errors before.sinks.code nothing_told in
     let number = length asked.maps.items + 1 in
-    let P : Result LineCounts LineFault → Type 0 = λ result. IfOk result (EditsInto
-    (LocateStep (FindsIn (Loads Reads Causes asked.paths asked.base asked.interval number None)) asked.options) most_text_bytes
-    (devices_seen before.input before.sinks.output) (devices_seen after.input after.sinks.output) start over.last) in
+    let P : Result LineCounts LineFault → Type 0 = λ result. IfOk result (λ counts. LocatesText Reads asked sources
+    (FindsIn (Loads Reads Causes asked.paths asked.base asked.interval number None))
+    (devices_seen before.input before.sinks.output) (devices_seen after.input after.sinks.output) start over.last counts told) in
     located_by_path Reads Causes asked.paths asked.base asked.interval number bytes_at alike sources.exact sources.locations asked.options most_text_bytes
-    (devices_seen before.input before.sinks.output) (devices_seen after.input after.sinks.output) start over.last counts refl refl (refl, refl) (subst P result over.whole)
+    (devices_seen before.input before.sinks.output) (devices_seen after.input after.sinks.output) start over.last counts refl refl (refl, refl)
+    (was_off asked.names _ _ unnamed (subst P result over.whole)).0

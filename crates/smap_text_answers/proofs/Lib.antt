@@ -5,11 +5,14 @@ mod BytesLaws
 mod CauseLaws
 mod Examples
 mod FittingLaws
+mod LentStoreLaws
 mod LocatingLaws
 mod NamedLaws
+mod NamedLocatingLaws
 mod NamerLaws
 mod NamingLaws
 mod NearestLaws
+mod NothingLaws
 mod PlaceLaws
 mod RightLaws
 mod SameLaws

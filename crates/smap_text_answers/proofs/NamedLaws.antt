@@ -10,11 +10,9 @@ use Rattle.smap_lines.specs.declared.fault.LineFault.{LineFault}
 use Rattle.smap_lines.specs.declared.fault.LineFault.TheVariants.{Memory}
 use Rattle.smap_locations.specs.ByText.{value_under}
 use Rattle.smap_record.specs.Record.{MapRecord}
-use Rattle.smap_store.specs.Named.{FindsNamed, GivesNamed, IsSameNamed, MayKeep, NamedSeen, NamesMay, NamesOf, NamesStep, holds_map}
+use Rattle.smap_store.specs.Named.{FindsNamed, GivesNamed, MayKeep, NamedSeen, NamesMay, NamesOf, NamesStep, holds_map}
 use Rattle.smap_store.specs.Names.{NamesCame, names_used}
 use Rattle.smap_store.specs.Stored.{StoredSeen, found_in}
-use Rattle.smap_store.specs.StoredMaps.{same_store_on, same_store_self}
-use Rattle.smap_store.specs.declared.named_maps.NamedMaps.{NamedMaps}
 use Rattle.smap_store.specs.declared.names_cache.NamesCache.{NamesCache}
 use Rattle.smap_trace.specs.Frame.{FrameParts}
 use Rattle.smap_trace.specs.FrameOf.{frame_of}
@@ -43,6 +41,7 @@ module _ {M N : Type 0} (Finds : M → (url : List ℕ) → M → Type 0) (found
     hidden = now.hidden;
     passed = now.passed;
     namings = now.namings;
+    text = now.text;
   }
 
   fate_goes : (old new : M) (parts : Option FrameParts) (met : Fate) → Is old → NamedStep Finds found names asked.hide old parts met new
@@ -79,6 +78,7 @@ module _ {M N : Type 0} (Finds : M → (url : List ℕ) → M → Type 0) (found
           hiding = step.hiding;
           passed = step.passed ∙ ap (λ n. old.passed + n) (passed_same new.maps (frame_of line.bytes) line.bytes);
           named = step.named ∙ ap (λ l. old.namings ++ l) (named_same new.maps (frame_of line.bytes));
+          text_noted = step.text_noted;
         },
         one.1,
       )
@@ -98,6 +98,7 @@ module _ {M N : Type 0} (Finds : M → (url : List ℕ) → M → Type 0) (found
         hiding = is.hiding;
         passed = is.passed;
         noted = is.noted;
+        text_noted = is.text_noted;
       }
 
 -- ---- up to a fault
@@ -183,16 +184,3 @@ module _ {N P : Type 0} (Gives Given : (url : List ℕ) → Option MapRecord →
   pub gives_so : (url : List ℕ) (stated : Option MapRecord) (written : Option FunctionNames) → GivesNamed Gives May names namer url stated written
       → GivesNamed Given More names other url stated written
   gives_so url stated written (gives, (kept, keeps, is)) = (given url stated gives, (kept, keep_so url kept keeps, is))
-
--- ---- it stays over the same
-
-module _ {L N : Type 0} where
-  pub same_named_self : (maps : NamedMaps L N) → IsSameNamed maps maps
-  same_named_self maps = record { maps = same_store_self maps.maps; names = refl; namer = refl }
-
-  pub same_named_on : (first old new : NamedMaps L N) → IsSameNamed first old → IsSameNamed old new → IsSameNamed first new
-  same_named_on first old new one two = record {
-    maps = same_store_on first.maps old.maps new.maps one.maps two.maps;
-    names = two.names ∙ one.names;
-    namer = two.namer ∙ one.namer;
-  }

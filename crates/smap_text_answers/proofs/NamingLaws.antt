@@ -17,8 +17,9 @@ use Rattle.smap_text_answers.specs.Names.{IsSameNamer, MayNameBy, NamesBy, Progr
 use Rattle.smap_text_answers.specs.Told.{ToldSeen, nothing_told, told_seen}
 use Rattle.smap_text_answers.specs.Naming.{RewritesNames, RewritesNamesFront, found_beside}
 use Rattle.smap_text_answers.specs.declared.namer.FileNamer.{FileNamer}
-use Rattle.smap_text_answers.proofs.NamedLaws.{gives_so, named_finds, names_front_so, names_seen_so, same_named_on, same_named_self}
-use Rattle.smap_text_answers.proofs.StoreLaws.{store_after}
+use Rattle.smap_text_answers.proofs.NamedLaws.{gives_so, named_finds, names_front_so, names_seen_so}
+use Rattle.smap_text_answers.specs.Laws.NamedLocator.{same_named_on, same_named_self}
+use Rattle.smap_text_answers.proofs.LentStoreLaws.{store_after}
 use Rattle.smap_trace.specs.Laws.Seen.{looked_seen}
 use Rattle.smap_trace.specs.Rewriting.{Looked, RewriteAsked, RewritesNamed, RewritesNamedFront}
 use Rattle.smap_trace.specs.UrlNotes.{NotesSeen}
@@ -87,7 +88,7 @@ module _ {F : Type 0} (gives : F → MayRead) where
 
   module _ (first : FileNamer F) (reader : F) (programs : Programs) (reader_is : first.files.now ≡ reader) (programs_are : programs_seen first ≡ programs)
       (told_is : told_seen first.told ≡ nothing_told) where
-    lists_so : (old new : FileNamer F) (url : List ℕ) (stated : MapRecord) (came : NamesCame) → IsSameNamer first old → NamerNames old url stated came new
+    pub lists_so : (old new : FileNamer F) (url : List ℕ) (stated : MapRecord) (came : NamesCame) → IsSameNamer first old → NamerNames old url stated came new
         → NamesBy (gives reader) programs (told_seen old.told) url stated came (told_seen new.told) × IsSameNamer first new
     lists_so old new url stated came is names = (
       subst (λ f. NamesBy (gives f) programs (told_seen old.told) url stated came (told_seen new.told)) (ap (λ f. f.now) is.files ∙ reader_is)
@@ -95,7 +96,7 @@ module _ {F : Type 0} (gives : F → MayRead) where
       same_namer_on first old new is names.1,
     )
 
-    may_so : (url : List ℕ) (stated : MapRecord) (kept : Option (List Named)) → NamerMay first url stated kept
+    pub may_so : (url : List ℕ) (stated : MapRecord) (kept : Option (List Named)) → NamerMay first url stated kept
         → MayNameBy (gives reader) programs nothing_told url stated kept
     may_so url stated kept may =
         subst (λ f. MayNameBy (gives f) programs nothing_told url stated kept) reader_is

@@ -11,24 +11,25 @@ use Rattle.smap_lines.specs.declared.fault.LineFault.{LineFault}
 use Rattle.smap_lines.specs.declared.fault.LineFault.TheVariants.{Memory}
 use Rattle.smap_locations.specs.Locations.{key_for, path_for}
 use Rattle.smap_anywhere.specs.Laws.AnywhereSeen.{anywhere_front_seen, anywhere_seen}
+use Rattle.smap_command.specs.declared.asked.Locate.{Locate}
 use Rattle.smap_command.specs.declared.options.AnswerOptions.{AnswerOptions}
 use Rattle.smap_record.specs.Record.{MapRecord}
-use Rattle.smap_store.specs.Cache.{CacheSeen, IsKept, kept_under}
+use Rattle.smap_store.specs.Cache.{IsKept, kept_under}
 use Rattle.smap_store.specs.Fileless.{known_of}
 use Rattle.smap_store.specs.Laws.Stored.{Moves, found_moves}
 use Rattle.smap_store.specs.Loaded.{Came, Outcome}
 use Rattle.smap_store.specs.Named.{FindsNamed, names_in}
 use Rattle.smap_store.specs.Names.{names_at_first}
 use Rattle.smap_store.specs.Stored.{Asks, Comes, FindsIn, GivesIn, LoadsMay, LoadsStep, MayCome, Recalled, Recalls, StoredSeen, Untouched, found_in}
-use Rattle.smap_store.specs.StoredMaps.{IsSameStore, same_store_on, same_store_self, stored_seen}
-use Rattle.smap_store.specs.declared.stored.StoredMaps.{StoredMaps}
 use Rattle.smap_trace.specs.Rewriting.{Looked, RewritesOver}
 use Rattle.smap_trace.specs.UrlNotes.{NotesSeen}
 use Rattle.smap_trace.specs.Laws.Seen.{front_seen, looked_seen, rewrites_seen}
 use Rattle.smap_trace.specs.declared.outcome.RewriteCounts.{RewriteCounts}
 use Rattle.smap_replies.specs.Files.{MayCause, MayRead}
 use Rattle.smap_text_answers.specs.Loader.{IsSameLoader, LoaderSeen, Loads, MayLoad, loader_seen}
+use Rattle.smap_text_answers.specs.Locate.{LocatesText, LocatesTextFront, located_programs, names_bytes}
 use Rattle.smap_text_answers.specs.Locating.{BecomesAnswer, LocateStep, Locates, MayLocate}
+use Rattle.smap_text_answers.specs.NamedLocating.{AnswersNames}
 use Rattle.smap_text_answers.specs.UrlPlace.{UrlPlace, place_of}
 use Rattle.smap_text_answers.specs.Request.{RequestSeen}
 use Rattle.smap_text_answers.specs.Names.{MayNameBy, NamesBy}
@@ -40,6 +41,7 @@ use Rattle.smap_text_answers.specs.declared.loader.FileLoader.{FileLoader}
 use Rattle.smap_text_answers.specs.declared.sources.MapSources.{MapSources}
 use Rattle.smap_text_answers.proofs.BesideLaws.{when_both}
 use Rattle.smap_text_answers.proofs.NamedLaws.{gives_so, named_finds, names_front_so, names_seen_so}
+use Rattle.smap_text_answers.proofs.NamedLocatingLaws.{front_more, lines_so}
 
 -- ---- where only some is seen of what loads maps, what is seen goes the same way
 
@@ -256,7 +258,10 @@ module _ {F E : Type 0} (gives : F → MayRead) (causes : F → MayCause) (seen 
             (front_seen (GivesIn May old) (GivesIn (MayLoadOf gives first) (see old)) gives_first request.hide request.limit_bytes before after fault))
 
       -- answering over it
-      module _ (options : AnswerOptions) (before after : DevicesSeen) where
+      module _ (Reads : MayRead) (asked : Locate) (sources : MapSources) (before after : DevicesSeen) where
+        abbrev options : AnswerOptions
+        options = asked.options
+
         locates_so : (old new : StoredSeen (FileLoader F E)) (place : Option UrlPlace) (text : List ℕ) → IsSameLoader first old.loader
             → Locates (FindsIn Steps) options old place text new
             → Locates (FindsIn (LoadsOf gives causes first)) options (see old) place text (see new) × IsSameLoader first new.loader
@@ -270,42 +275,46 @@ module _ {F E : Type 0} (gives : F → MayRead) (causes : F → MayCause) (seen 
         may_more None text may = may
         may_more (Some place) text may = (may.0, gives_first place.url _ may.1, may.2)
 
-        pub answers_from : (counts : LineCounts) → EditsInto (LocateStep (FindsIn Steps) options) most_text_bytes before after old new counts
+        lines_from : (counts : LineCounts) → EditsInto (LocateStep (FindsIn Steps) options) most_text_bytes before after old new counts
             → EditsInto (LocateStep (FindsIn (LoadsOf gives causes first)) options) most_text_bytes before after (see old) (see new) counts
-        answers_from counts locates =
+        lines_from counts locates =
             (edits_seen (LocateStep (FindsIn Steps) options) (LocateStep (FindsIn (LoadsOf gives causes first)) options) see (λ maps. IsSameLoader first maps.loader)
             (λ old line text new is step. locates_so old new (place_of line.bytes) text is step) most_text_bytes before after old new counts at_first locates).0
 
-        pub answers_front_from : (fault : LineFault) → EditsFrontInto (BecomesAnswer (GivesIn May old) options) most_text_bytes before after fault
+        lines_front_from : (fault : LineFault) → EditsFrontInto (BecomesAnswer (GivesIn May old) options) most_text_bytes before after fault
             → EditsFrontInto (BecomesAnswer (GivesIn (MayLoadOf gives first) (see old)) options) most_text_bytes before after fault
-        answers_front_from fault front =
+        lines_front_from fault front =
             edits_front_wider (BecomesAnswer (GivesIn May old) options) (BecomesAnswer (GivesIn (MayLoadOf gives first) (see old)) options)
             (λ line text may. may_more (place_of line.bytes) text may) most_text_bytes before after fault front
+
+        named_lines_from : (counts : LineCounts) (told : ToldSeen)
+            → AnswersNames Reads (located_programs asked sources) (names_bytes asked) options (FindsIn Steps) before after old new counts told
+            → AnswersNames Reads (located_programs asked sources) (names_bytes asked) options (FindsIn (LoadsOf gives causes first)) before after
+            (see old) (see new) counts told
+        named_lines_from counts told is = record {
+          last = record { stored = see is.last.stored; names = is.last.names; namer = is.last.namer };
+          answered = lines_so see (λ told. told) (λ stored url. refl) (λ stored url. refl) (λ stored url. refl) (FindsIn Steps) (FindsIn (LoadsOf gives causes first))
+              (λ maps. IsSameLoader first maps.loader) finds_so (NamesBy Reads (located_programs asked sources)) (NamesBy Reads (located_programs asked sources))
+              (λ told. ⊤) (λ old new url stated came is names. (names, tt)) options before after (named_start (names_bytes asked) old) is.last counts
+              (at_first, tt) is.answered;
+          stored = ap see is.stored;
+          told_is = is.told_is;
+        }
+
+        pub answers_from : (counts : LineCounts) (told : ToldSeen) → LocatesText Reads asked sources (FindsIn Steps) before after old new counts told
+            → LocatesText Reads asked sources (FindsIn (LoadsOf gives causes first)) before after (see old) (see new) counts told
+        answers_from counts told = when_both asked.names _ _ _ _ (named_lines_from counts told) (λ is. (lines_from counts is.0, is.1))
+
+        pub answers_front_from : (fault : LineFault) → LocatesTextFront Reads asked sources (GivesIn May old) before after fault
+            → LocatesTextFront Reads asked sources (GivesIn (MayLoadOf gives first) (see old)) before after fault
+        answers_front_from fault =
+            when_both asked.names _ _ _ _
+            (front_more _ _
+            (gives_so (GivesIn May old) (GivesIn (MayLoadOf gives first) (see old)) gives_first (MayNameBy Reads (located_programs asked sources))
+            (MayNameBy Reads (located_programs asked sources)) (names_at_first (names_bytes asked)) nothing_told nothing_told (λ url stated kept may. may))
+            options before after fault)
+            (lines_front_from fault)
 
 -- where memory ran out, this holds
 pub untouched_by : {C : Type 0} (result : Result C LineFault) (P : Type 0) → IfErr result (λ fault. fault ≡ Memory → P) → result ≡ Err Memory → P
 untouched_by result P untouched is = (subst (λ r. IfErr r (λ fault. fault ≡ Memory → P)) is untouched) refl
-
--- ---- a store of maps that is lent
-
-module _ {L : Type 0} (Steps : LoadsStep L) (first new : StoredMaps L) (cache : CacheSeen) (loader : L) (cache_is : cache ≡ new.cache.now)
-    (loader_is : loader ≡ new.loader.now) where
-  -- it stays over the same maps
-  abbrev After : StoredSeen L
-  After = record { exact = first.exact.now; locations = first.locations.now; cache = cache; loader = loader }
-
-  pub store_after : IsSameStore first new → stored_seen new ≡ After
-  store_after same = λ i. record {
-    exact = ap (λ w. w.now) same.exact i;
-    locations = ap (λ l. l.now) same.locations i;
-    cache = sym cache_is i;
-    loader = sym loader_is i;
-  }
-
-  -- and maps were looked for in it
-  pub looked_after : Looked (λ (maps : StoredMaps L) (url : List ℕ) (after : StoredMaps L). FindsIn Steps (stored_seen maps) url (stored_seen after)
-      × IsSameStore maps after) first new → (stored_seen new ≡ After) × Looked (FindsIn Steps) (stored_seen first) After
-  looked_after looked =
-      let seen = looked_seen _ (λ maps. found_in (stored_seen maps)) (FindsIn Steps) found_in stored_seen (IsSameStore first)
-      (λ old new url is finds. (finds.0, same_store_on first old new is finds.1)) (λ maps url. refl) first new (same_store_self first) looked in
-      (store_after seen.1, subst (λ maps. Looked (FindsIn Steps) (stored_seen first) maps) (store_after seen.1) seen.0)

@@ -8,7 +8,7 @@ use Rattle.url.specs.Parts.{Parts}
 use Rattle.smap_locations.specs.ListLine.{is_rule}
 use Rattle.smap_locations.specs.Locations.{LocationsSeen}
 use Rattle.smap_replies.specs.Files.{MayRead}
-use Rattle.smap_text_answers.specs.UrlLines.{AreAllLines, AreUrlLines, IsUrlLine, nothing_line, word_file}
+use Rattle.smap_text_answers.specs.UrlLines.{AreAllLines, AreUrlLines, IsUrlLine, word_file}
 use Rattle.smap_trace.specs.UrlNotes.{UrlNoteSeen}
 
 module _ (Reads : MayRead) (paths : Bool) (base : Option Parts) (k number : ℕ) (fit : Option ℕ) (arguments : List (List ℕ × List ℕ)) (locations : LocationsSeen)
@@ -44,17 +44,17 @@ module _ (Reads : MayRead) (paths : Bool) (base : Option Parts) (k number : ℕ)
   )
 
   -- or that there is none
-  pub lines_all : (notes others : List UrlNoteSeen) (text : List ℕ) → (length notes + length others ≡ 0 → ⊥) → Are (notes ++ others) text
-      → AreAllLines Reads paths base k number fit arguments locations anywhere (notes ++ others) text
-  lines_all [] [] text some are = absurd (some refl)
-  lines_all [] (note ∷ others) text some are = are
-  lines_all (note ∷ notes) others text some are = are
+  pub lines_all : (nothing : List ℕ) (notes others : List UrlNoteSeen) (text : List ℕ) → (length notes + length others ≡ 0 → ⊥) → Are (notes ++ others) text
+      → AreAllLines Reads paths base k number fit arguments locations anywhere nothing (notes ++ others) text
+  lines_all nothing [] [] text some are = absurd (some refl)
+  lines_all nothing [] (note ∷ others) text some are = are
+  lines_all nothing (note ∷ notes) others text some are = are
 
-  pub lines_none : (notes others : List UrlNoteSeen) (text : List ℕ) → length notes + length others ≡ 0 → text ≡ nothing_line anywhere
-      → AreAllLines Reads paths base k number fit arguments locations anywhere (notes ++ others) text
-  lines_none [] [] text none is = is
-  lines_none [] (note ∷ others) text none is = absurd (omega (arith, none))
-  lines_none (note ∷ notes) others text none is = absurd (omega (arith, none))
+  pub lines_none : (nothing : List ℕ) (notes others : List UrlNoteSeen) (text : List ℕ) → length notes + length others ≡ 0 → text ≡ nothing
+      → AreAllLines Reads paths base k number fit arguments locations anywhere nothing (notes ++ others) text
+  lines_none nothing [] [] text none is = is
+  lines_none nothing [] (note ∷ others) text none is = absurd (omega (arith, none))
+  lines_none nothing (note ∷ notes) others text none is = absurd (omega (arith, none))
 
 -- ---- the file that an argument names
 

@@ -1,3 +1,4 @@
 pub mod Loader
 pub mod Namer
 pub mod Locator
+pub mod NamedLocator

@@ -1,5 +1,6 @@
 pub mod Lines
 pub mod NearestUrl
+pub mod NothingLine
 pub mod UrlLines
 pub mod Dotted
 pub mod Loader
@@ -23,5 +24,7 @@ pub mod UrlPlace
 pub mod PlaceForm
 pub mod PlaceSeen
 pub mod Locating
+pub mod NamedPlace
+pub mod NamedLocating
 pub mod AnswersOfFiles
 pub mod Locate

@@ -12,7 +12,7 @@ use Rattle.smap_store.specs.Stored.{StoredSeen, outcome_at}
 
 -- the line for a place, where this is found under its URL
 abbrev pub located_line : AnswerOptions → UrlPlace → Outcome → List ℕ
-located_line options place outcome = place_line options place.url place.position outcome
+located_line options place outcome = place_line options None place.url place.position outcome
 
 -- ---- a line
 

@@ -6,3 +6,4 @@ pub mod Listing
 pub mod Naming
 pub mod Sources
 pub mod Locator
+pub mod NamedLocator

@@ -67,6 +67,7 @@ request_seen request = request_of request.arguments.now request.hide_ignored req
 abbrev pub fit_number : RequestSeen → Option ℕ
 fit_number request = if request.fit then Some (length request.arguments + 2) else None
 
--- how many of the places are counted, at most, that are passed: all for a summary, and else one where a terminal is told of them
+-- how many of the places are counted, at most, that are passed: all for a summary, and else one where a terminal is told of them, or
+-- it is said what became of the URLs
 abbrev pub most_passed : RequestSeen → ℕ
-most_passed request = if request.summary then 2 ^ 64 - 1 else if request.hint then 1 else 0
+most_passed request = if request.summary then 2 ^ 64 - 1 else if request.hint || request.explain then 1 else 0

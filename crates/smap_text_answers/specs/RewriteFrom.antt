@@ -1,7 +1,7 @@
 -- What `rewrite` does over files and folders of maps that are read when a trace names them: it gathers what it is over, rewrites
 -- the text over a store of maps, and says what that came to. The status is the greatest of all that was reported.
 use Rattle.std.specs.Prelude.{◌≡◌, ◌⊎◌, ℕ, ◌+◌, ◌==◌, Bool, List, [], ◌∷◌, Option, Result, Ok, Err, MatchBool, codes, length, max}
-use Rattle.std.specs.Prelude.{◌++◌, ◌&&◌, ◌||◌, false, if◌then◌else◌, is_ok, nat_lt, not}
+use Rattle.std.specs.Prelude.{◌++◌, ◌&&◌, ◌||◌, false, if◌then◌else◌, nat_lt, not}
 use Rattle.std.specs.Fmt.{decimal}
 use Rattle.std.specs.List.{concat}
 use Rattle.url.specs.Parts.{Parts}
@@ -12,7 +12,7 @@ use Rattle.smap_lines.specs.declared.fault.LineFault.{LineFault}
 use Rattle.smap_anywhere.specs.Anywhere.{PlacesAsked, RewritesAnywhere, RewritesAnywhereFront}
 use Rattle.smap_anywhere.specs.AnywhereBy.{RewritesAnywhereBy}
 use Rattle.smap_anywhere.specs.ChunkParts.{parts_in, unknown_in}
-use Rattle.smap_anywhere.specs.Counted.{others_in}
+use Rattle.smap_anywhere.specs.Counted.{counted_in}
 use Rattle.smap_anywhere.specs.MapUrls.{urls_known}
 use Rattle.smap_anywhere.specs.Parts.{Part}
 use Rattle.smap_anywhere.specs.SeemingUrls.{urls_seeming}
@@ -31,6 +31,7 @@ use Rattle.smap_text_answers.specs.Names.{Programs}
 use Rattle.smap_text_answers.specs.Told.{TellsLines, ToldSeen, nothing_told, told_seen}
 use Rattle.smap_text_answers.specs.Naming.{RewritesNames, RewritesNamesFront}
 use Rattle.smap_text_answers.specs.Required.{Requires}
+use Rattle.smap_text_answers.specs.NothingLine.{nothing_line}
 use Rattle.smap_text_answers.specs.UrlLines.{TellsUrls}
 use Rattle.smap_trace.specs.Rewriting.{Looked, RewriteAsked, RewritesFrontOver, RewritesOver}
 use Rattle.smap_trace.specs.declared.outcome.RewriteCounts.{RewriteCounts}
@@ -80,7 +81,7 @@ asked_by request count = record {
 }
 
 abbrev pub asked_of : RequestSeen → MapSources → RewriteAsked
-asked_of request sources = asked_by request (others_in (urls_of sources))
+asked_of request sources = asked_by request (counted_in (urls_of sources) request.arguments)
 
 -- where the programs are that its maps are of
 abbrev pub programs_of : RequestSeen → MapSources → Programs
@@ -193,17 +194,18 @@ abbrev pub SumsUp : StoreEnd RewriteCounts → (summary anywhere : Bool) → (st
 SumsUp end summary anywhere status before after =
     MatchBool summary (SumsResult end anywhere end.result status before after) ((status ≡ 0) × (after ≡ before))
 
--- what became of the URLs that were noted is said then, where that is asked; and the status of that
-abbrev pub says_urls : RequestSeen → StoreEnd RewriteCounts → Bool
-says_urls request end = request.explain && is_ok end.result
+-- what became of the URLs that were noted is said then, or why there is none, where that is asked; and the status of that
+abbrev pub SaysResult : MayRead → Option Parts → (k : ℕ) → RequestSeen → (sources : MapSources) → Result RewriteCounts LineFault → (notes others : NotesSeen)
+    → (status : ℕ) → (before after : SinkSeen) → Type 0
+SaysResult Reads base k request sources (Ok counts) notes others status before after =
+    TellsUrls Reads request.paths base k (length request.arguments + 1) (fit_number request) request.arguments sources.locations request.anywhere
+    (nothing_line request.anywhere request.arguments counts) notes others status before after
+SaysResult Reads base k request sources (Err fault) notes others status before after = (status ≡ 0) × (after ≡ before)
 
 abbrev pub SaysUrls : MayRead → Option Parts → (k : ℕ) → RequestSeen → (sources : MapSources) → StoreEnd RewriteCounts → (notes others : NotesSeen) → (status : ℕ)
     → (before after : SinkSeen) → Type 0
 SaysUrls Reads base k request sources end notes others status before after =
-    MatchBool (says_urls request end)
-    (TellsUrls Reads request.paths base k (length request.arguments + 1) (fit_number request) request.arguments sources.locations request.anywhere notes others
-    status before after)
-    ((status ≡ 0) × (after ≡ before))
+    MatchBool request.explain (SaysResult Reads base k request sources end.result notes others status before after) ((status ≡ 0) × (after ≡ before))
 
 -- ---- what a terminal is told
 

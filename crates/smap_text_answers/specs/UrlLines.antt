@@ -115,17 +115,6 @@ body_of line = take (length line - 1) line
 abbrev pub late_text : (path : List ℕ) → List ℕ
 late_text path = codes "no map came from " ++ shown path
 
--- ---- no URL was named
-
-abbrev pub no_frame_line : List ℕ
-no_frame_line = codes "no line is a frame: --anywhere finds places in other text; UTF-16 and what is compressed are to be converted first, and a line and a column that stand apart are for smap locate\n"
-
-abbrev pub no_place_line : List ℕ
-no_place_line = codes "no place was found: a place is a URL of an argument before :LINE:COLUMN; UTF-16 and what is compressed are to be converted first, and a line and a column that stand apart are for smap locate\n"
-
-abbrev pub nothing_line : (anywhere : Bool) → List ℕ
-nothing_line anywhere = if anywhere then no_place_line else no_frame_line
-
 module _ (Reads : MayRead) (paths : Bool) (base : Option Parts) (k number : ℕ) (fit : Option ℕ) where
   -- the file can't be read, and of that this is a cause
   abbrev pub IsUnreadFor : (path text : List ℕ) → Type 0
@@ -172,14 +161,14 @@ module _ (Reads : MayRead) (paths : Bool) (base : Option Parts) (k number : ℕ)
       AreUrlLines [] text = text ≡ []
       AreUrlLines (note ∷ notes) text = (line : List ℕ) × (rest : List ℕ) × IsUrlLine note line × AreUrlLines notes rest × (text ≡ line ++ rest)
 
-      -- where no URL was named, no line is a frame, or there is no place, and that is said
-      abbrev pub AreAllLines : List UrlNoteSeen → (text : List ℕ) → Type 0
-      AreAllLines [] text = text ≡ nothing_line anywhere
-      AreAllLines (note ∷ notes) text = AreUrlLines (note ∷ notes) text
+      -- where no URL was named, this is said
+      abbrev pub AreAllLines : (nothing : List ℕ) → List UrlNoteSeen → (text : List ℕ) → Type 0
+      AreAllLines nothing [] text = text ≡ nothing
+      AreAllLines nothing (note ∷ notes) text = AreUrlLines (note ∷ notes) text
 
       -- these lines are reported, of the URLs that were named, and behind them of those that look like one and are not known; or that
       -- memory ran out
-      abbrev pub TellsUrls : (notes others : NotesSeen) → (status : ℕ) → (before after : SinkSeen) → Type 0
-      TellsUrls notes others status before after =
-          ((text : List ℕ) × (status ≡ 0) × (notes.is_short ≡ false) × (others.is_short ≡ false) × AreAllLines (notes.notes ++ others.notes) text
+      abbrev pub TellsUrls : (nothing : List ℕ) → (notes others : NotesSeen) → (status : ℕ) → (before after : SinkSeen) → Type 0
+      TellsUrls nothing notes others status before after =
+          ((text : List ℕ) × (status ≡ 0) × (notes.is_short ≡ false) × (others.is_short ≡ false) × AreAllLines nothing (notes.notes ++ others.notes) text
           × IsReportedTo before after text) ⊎ ((status ≡ 3) × IsReportedTo before after memory_line)

@@ -1,23 +1,20 @@
 //! Answering the places on standard input over files and folders of maps.
 ghost use Rattle.std.specs.Prelude.{◌≡◌, false};
-ghost use Rattle.smap_lines.specs.Editing.{EditsFrontInto, EditsInto};
-ghost use Rattle.smap_lines.specs.Limits.{most_text_bytes};
-ghost use Rattle.smap_lines.specs.RunEnds.{RunEnds};
 ghost use Rattle.smap_replies.specs.Streams.{streams_seen};
-ghost use Rattle.smap_store.specs.Stored.{FindsIn, GivesIn};
-ghost use Rattle.smap_text_answers.specs.Locate.{RunsLocate};
-ghost use Rattle.smap_text_answers.specs.Locating.{BecomesAnswer, LocateStep};
+ghost use Rattle.smap_text_answers.specs.Locate.{EndsLocating, RunsLocate, all_bytes, map_bytes, names_bytes};
 ghost use Rattle.smap_text_answers.specs.StoreRun.{store_of};
-ghost use Rattle.smap_trace.specs.Rewriting.{Looked};
+ghost use Rattle.smap_text_answers.specs.Told.{nothing_told, told_seen};
 
 use crate::dotted::tell_dotted;
 use crate::loader::FileLoader;
+use crate::locating_named::locate_named;
 use crate::locator::Locator;
+use crate::rewriting::say_told;
 use crate::sources::{MapSources, sources_of};
 use crate::storing::{StoreRun, StoreWork, finish, over_store};
 use crate::told::ToldLines;
 use smap_codes::Code;
-use smap_command::{AnswerOptions, Locate, USUAL_CACHE_BYTES};
+use smap_command::{Locate, USUAL_CACHE_BYTES};
 use smap_io::{ByteSink, ByteSource};
 use smap_lines::{LineCounts, LineFault, MOST_TEXT_BYTES, edit_lines};
 use smap_replies::{FileReader, MapReader, report};
@@ -53,45 +50,73 @@ pub fn answer_locate<F: FileReader, R: ByteSource, W: ByteSink, E: ByteSink>(
         Ok(sources) => {
             let arguments: &[(String, String)] = &asked.maps;
             tell_dotted(arguments, errors);
-            let run = StoreRun {
+            let store = StoreRun {
                 maps: &maps,
                 paths: asked.paths,
                 arguments,
                 fit: None,
-                cache_bytes: asked.cache_bytes.unwrap_or(USUAL_CACHE_BYTES),
+                cache_bytes: map_bytes(asked),
                 sources: &sources,
             };
             let mut work = Locating {
                 alloc,
-                options: asked.options,
+                files: reader,
+                asked,
+                told: ToldLines::new(alloc),
             };
             let told = ToldLines::new(alloc);
-            let end = over_store(&run, told, &mut work, input, output, errors, first);
-            finish(&end, false, output, errors, first)
+            let end = over_store(&store, told, &mut work, input, output, errors, first);
+            let ended = finish(&end, false, output, errors, first);
+            let listed = say_told(alloc, &end, &work.told, errors);
+            ended.max(listed)
         }
         Err(failure) => report(&Err(failure), output, errors, first),
     }
 }
 
-// Answering the lines of a text over a store of maps.
-#[derive(Drop)]
-struct Locating {
-    alloc: Global,
-    options: AnswerOptions,
+// How many bytes of files are kept as maps.
+fn map_bytes(asked: &Locate) -> u64
+    ensures { result ≡ map_bytes asked.now }
+{
+    all_bytes(asked).saturating_sub(names_bytes(asked))
 }
 
-impl StoreWork for Locating {
-    ghost use Rattle.smap_lines.specs.Editing.{EditsFrontInto, EditsInto};
-    ghost use Rattle.smap_lines.specs.Limits.{most_text_bytes};
-    ghost use Rattle.smap_text_answers.specs.Locating.{BecomesAnswer, LocateStep};
+// How many bytes of files are kept as declarations: a quarter of all, where they are listed.
+pub fn names_bytes(asked: &Locate) -> u64
+    ensures { result ≡ names_bytes asked.now }
+{
+    if asked.names { all_bytes(asked) / 4 } else { 0 }
+}
+
+// How many bytes of files are kept.
+fn all_bytes(asked: &Locate) -> u64
+    ensures { result ≡ all_bytes asked.now }
+{
+    asked.cache_bytes.unwrap_or(USUAL_CACHE_BYTES)
+}
+
+// Answering the lines of a text over a store of maps, with what is to be told of names.
+#[derive(Drop)]
+struct Locating<'a, Q: FileReader> {
+    alloc: Global,
+    files: &'a Q,
+    asked: &'a Locate,
+    told: ToldLines,
+}
+
+impl<Q: FileReader> StoreWork for Locating<'_, Q> {
+    ghost use Rattle.std.specs.Prelude.{◌≡◌};
+    ghost use Rattle.smap_text_answers.specs.Locate.{LocatesText, LocatesTextFront};
+    ghost use Rattle.smap_text_answers.specs.Told.{nothing_told, told_seen};
 
     type Counts = LineCounts;
 
-    ghost Ready = { λ work. Unit {0} };
+    ghost Ready = { λ work. told_seen work.told ≡ nothing_told };
 
-    ghost Whole = { λ work later sources Finds. EditsInto (LocateStep Finds work.options) most_text_bytes };
+    ghost Whole = { λ work later sources Finds before after old new counts.
+        LocatesText (Q.gives work.files.now) work.asked.now sources Finds before after old new counts (told_seen later.told) };
 
-    ghost Front = { λ work sources Gives. EditsFrontInto (BecomesAnswer Gives work.options) most_text_bytes };
+    ghost Front = { λ work sources. LocatesTextFront (Q.gives work.files.now) work.asked.now sources };
 
     fn run<F: FileReader, E: ByteSink, R: ByteSource, W: ByteSink>(
         &mut self,
@@ -101,42 +126,75 @@ impl StoreWork for Locating {
         input: &mut R,
         output: &mut W,
     ) -> Result<LineCounts, LineFault> {
-        locate_text(self, sources, cache, loader, input, output)
+        let run = LocateRun {
+            alloc: self.alloc,
+            files: self.files,
+            asked: self.asked,
+            sources,
+        };
+        answer_text(&run, cache, loader, &mut self.told, input, output)
     }
 }
 
-// Answers the lines of a text over this store of maps.
-fn locate_text<L: MapLoader, R: ByteSource, W: ByteSink>(
-    work: &Locating,
-    sources: &MapSources,
+/// What is asked, and what places are answered over.
+#[derive(Drop)]
+pub struct LocateRun<'s, 'a, F: FileReader> {
+    pub alloc: Global,
+    pub files: &'a F,
+    pub asked: &'a Locate,
+    pub sources: &'s MapSources,
+}
+
+// Answers the lines of a text over this store of maps. (It is generic in what loads them, as `rewrite_text` is.)
+fn answer_text<F: FileReader, L: MapLoader, R: ByteSource, W: ByteSink>(
+    run: &LocateRun<'_, '_, F>,
+    cache: &mut MapCache,
+    loader: &mut L,
+    told: &mut ToldLines,
+    input: &mut R,
+    output: &mut W,
+) -> Result<LineCounts, LineFault>
+    requires untold { told_seen told.old ≡ nothing_told }
+    requires input_works { (R.seen input.old).failed ≡ false }
+    requires output_works { (W.seen output.old).failed ≡ false }
+    ensures { EndsLocating R.seen W.seen (F.gives run.now.files.now) L.Loads L.MayLoad
+        run.now.asked.now run.now.sources.now input.old input.new output.old output.new
+        (store_of run.now.sources.now cache.old loader.old)
+        (store_of run.now.sources.now cache.new loader.new) (told_seen told.new) result }
+{
+    if run.asked.names {
+        locate_named(run, cache, loader, told, input, output)
+    } else {
+        locate_text(run, cache, loader, input, output)
+    }
+}
+
+// The same where no functions are asked for.
+fn locate_text<F: FileReader, L: MapLoader, R: ByteSource, W: ByteSink>(
+    run: &LocateRun<'_, '_, F>,
     cache: &mut MapCache,
     loader: &mut L,
     input: &mut R,
     output: &mut W,
 ) -> Result<LineCounts, LineFault>
+    requires unnamed { run.now.asked.now.names ≡ false }
     requires input_works { (R.seen input.old).failed ≡ false }
     requires output_works { (W.seen output.old).failed ≡ false }
-    ensures ends { RunEnds R.seen W.seen input.old input.new output.old output.new
-        (λ before after. EditsInto (LocateStep (FindsIn L.Loads) work.now.options)
-        most_text_bytes before after (store_of sources.now cache.old loader.old)
-        (store_of sources.now cache.new loader.new))
-        (EditsFrontInto (BecomesAnswer
-        (GivesIn L.MayLoad (store_of sources.now cache.old loader.old))
-        work.now.options) most_text_bytes) result }
-    ensures looked { Looked (FindsIn L.Loads)
-        (store_of sources.now cache.old loader.old)
-        (store_of sources.now cache.new loader.new) }
+    ensures { EndsLocating R.seen W.seen (F.gives run.now.files.now) L.Loads L.MayLoad
+        run.now.asked.now run.now.sources.now input.old input.new output.old output.new
+        (store_of run.now.sources.now cache.old loader.old)
+        (store_of run.now.sources.now cache.new loader.new) nothing_told result }
 {
-    let MapSources { exact, locations } = sources;
+    let MapSources { exact, locations } = run.sources;
     let mut locator = Locator {
         maps: StoredMaps {
-            alloc: work.alloc,
+            alloc: run.alloc,
             exact,
             locations,
             cache,
             loader,
         },
-        options: work.options,
+        options: run.asked.options,
     };
-    edit_lines(work.alloc, input, output, &mut locator, MOST_TEXT_BYTES)
+    edit_lines(run.alloc, input, output, &mut locator, MOST_TEXT_BYTES)
 }

@@ -38,7 +38,7 @@ impl<L: MapLoader> LineEditor for Locator<'_, '_, L> {
         let url = place.url.as_bytes();
         self.maps.find(url);
         let found = self.maps.outcome_at(url);
-        put_place_line(self.maps.alloc, self.options, place, found, output)
+        put_place_line(self.maps.alloc, self.options, place, None, found, output)
     }
 
     ghost some = { some_answer L.MayLoad };

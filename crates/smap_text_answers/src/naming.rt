@@ -64,7 +64,7 @@ pub fn rewrite_named<F: FileReader, L: MapLoader, R: ByteSource, W: ByteSink>(
 }
 
 // What is told, where memory may have run out for what was remembered.
-fn told_at_end(names: &NamesCache, told: ToldLines) -> ToldLines
+pub fn told_at_end(names: &NamesCache, told: ToldLines) -> ToldLines
     ensures { told_seen result ≡ told_at_end names.now (told_seen told) }
 {
     let ToldLines { text, is_short } = told;
@@ -103,7 +103,7 @@ fn rewrite_named_frames<F: FileReader, L: MapLoader, N: NamesLoader, R: ByteSour
     let Ok(urls) = MapUrls::new(alloc, exact, locations) else {
         return Err(RewriteFault::Memory);
     };
-    let Ok(mut places) = LineCounter::new(alloc, &urls) else {
+    let Ok(mut places) = LineCounter::new(alloc, &urls, run.request.arguments) else {
         return Err(RewriteFault::Memory);
     };
     let maps = StoredMaps {

@@ -93,7 +93,7 @@ impl<F: FileReader> TextRequest<'_, '_, F> {
     {
         if self.options.summary {
             u64::MAX
-        } else if self.hint {
+        } else if self.hint || self.options.explain {
             1
         } else {
             0

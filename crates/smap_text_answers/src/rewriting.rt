@@ -5,7 +5,7 @@ ghost use Rattle.smap_replies.specs.Outcome.{or_reported};
 ghost use Rattle.smap_replies.specs.Streams.{streams_seen};
 ghost use Rattle.smap_text_answers.specs.Told.{TellsLines, nothing_told, told_seen};
 ghost use Rattle.smap_text_answers.specs.Request.{fit_number, request_seen};
-ghost use Rattle.smap_text_answers.specs.RewriteFrom.{EndsText, RewritesCompared, RewritesFrom, RewritesSources, SaysUrls, asked_by, says_urls};
+ghost use Rattle.smap_text_answers.specs.RewriteFrom.{EndsText, RewritesCompared, RewritesFrom, RewritesSources, SaysUrls, asked_by};
 ghost use Rattle.smap_text_answers.specs.Fitting.{Compares};
 ghost use Rattle.smap_text_answers.specs.Private.Fitting.{compared};
 ghost use Rattle.smap_text_answers.specs.Sources.{GathersSources};
@@ -32,8 +32,8 @@ use smap_io::{ByteSink, ByteSource};
 use smap_replies::{DONE, Failure, FileReader, report};
 use smap_store::{MapCache, MapLoader, StoredMaps};
 use smap_trace::{
-    Beside, Maps, PlaceCounter, RewriteCounts, RewriteFault, Table, TraceOptions, UrlNotes,
-    rewrite_over,
+    Beside, Maps, PlaceCounter, RewriteCounts, RewriteFault, Table, TextNote, TraceOptions,
+    UrlNotes, rewrite_over,
 };
 use std::alloc::Global;
 
@@ -303,7 +303,7 @@ fn rewrite_frames<F: FileReader, L: MapLoader, R: ByteSource, W: ByteSink>(
     let Ok(urls) = MapUrls::new(alloc, exact, locations) else {
         return Err(RewriteFault::Memory);
     };
-    let Ok(mut places) = LineCounter::new(alloc, &urls) else {
+    let Ok(mut places) = LineCounter::new(alloc, &urls, run.request.arguments) else {
         return Err(RewriteFault::Memory);
     };
     let mut stored = StoredMaps {
@@ -394,6 +394,7 @@ fn rewrite_places<F: FileReader, L: MapLoader, R: ByteSource, W: ByteSink>(
             summary,
             long: 0,
             passed: 0,
+            text: TextNote::none(),
         }),
         Err(fault) => Err(fault),
     }
@@ -401,16 +402,16 @@ fn rewrite_places<F: FileReader, L: MapLoader, R: ByteSource, W: ByteSink>(
 
 // Says what was told, of names or of maps that were not compared, where the text was rewritten to its end, and gives the
 // status of that.
-fn say_told<E: ByteSink>(
+pub fn say_told<C, E: ByteSink>(
     alloc: Global,
-    end: &StoreEnd<RewriteCounts>,
+    end: &StoreEnd<C>,
     told: &ToldLines,
     errors: &mut E,
 ) -> u8
     ensures { TellsLines (told_seen told.now) end.now.result result (E.seen errors.old)
         (E.seen errors.new) }
 {
-    match end.result {
+    match &end.result {
         Ok(_) => tell_lines(alloc, told, errors),
         Err(_) => DONE,
     }
@@ -429,16 +430,11 @@ fn say_urls<F: FileReader, E: ByteSink>(
         (notes_seen notes.now.named) (notes_seen notes.now.others) result
         (E.seen errors.old) (E.seen errors.new) }
 {
-    if says_urls(run.request, end) {
-        tell_urls(run, notes, errors)
-    } else {
-        DONE
+    if !run.request.options.explain {
+        return DONE;
     }
-}
-
-// Whether it is said what became of the URLs.
-fn says_urls<F: FileReader>(request: &TextRequest<'_, '_, F>, end: &StoreEnd<RewriteCounts>) -> bool
-    ensures { result ≡ says_urls (request_seen request.now) end.now }
-{
-    request.options.explain && end.result.is_ok()
+    match end.result {
+        Ok(counts) => tell_urls(run, notes, &counts, errors),
+        Err(_) => DONE,
+    }
 }

@@ -4,36 +4,34 @@ ghost use Rattle.smap_replies.specs.Arguments.{argument_of};
 ghost use Rattle.smap_text.specs.Shown.{shown};
 ghost use Rattle.smap_text_answers.specs.Request.{fit_number, request_seen};
 ghost use Rattle.smap_text_answers.specs.UrlLines.{AreAllLines, AreUrlLines, IsUrlLine, TellsUrls};
-ghost use Rattle.smap_text_answers.specs.UrlLines.{counts_text, frames_text, nothing_line, places_text};
+ghost use Rattle.smap_text_answers.specs.NothingLine.{nothing_line};
+ghost use Rattle.smap_text_answers.specs.UrlLines.{counts_text, frames_text, places_text};
 ghost use Rattle.smap_trace.specs.NotesSeen.{note_seen, notes_seen};
 
 mod ends;
+mod nothing;
 
 use crate::loader::FileLoader;
 use crate::rewriting::TextRun;
 use crate::told::ToldLines;
 use crate::url_lines::ends::end_of;
+use crate::url_lines::nothing::nothing_line;
 use smap_anywhere::PlaceNotes;
 use smap_io::ByteSink;
 use smap_replies::{DONE, FAILED, FileReader, NO_MEMORY, print_error};
 use smap_text::shown_byte;
-use smap_trace::UrlNote;
+use smap_trace::{RewriteCounts, UrlNote};
 use std::alloc::{AllocError, Global};
 
 // How many bytes of a URL are printed.
 const MOST_URL_BYTES: usize = 1024;
 
-// No URL was noted: no line is a frame.
-const NO_FRAME: &str =
-    "no line is a frame: --anywhere finds places in other text; UTF-16 and what is compressed are to be converted first, and a line and a column that stand apart are for smap locate\n";
-
-const NO_PLACE: &str =
-    "no place was found: a place is a URL of an argument before :LINE:COLUMN; UTF-16 and what is compressed are to be converted first, and a line and a column that stand apart are for smap locate\n";
-
-/// Reports what became of the URLs that were noted, or that memory ran out, and gives the status of that.
+/// Reports what became of the URLs that were noted, or why there is none, or that memory ran out, and gives the status of
+/// that.
 pub fn tell_urls<F: FileReader, E: ByteSink>(
     run: &TextRun<'_, '_, '_, F>,
     notes: &PlaceNotes,
+    counts: &RewriteCounts,
     errors: &mut E,
 ) -> u8
     ensures { let request = run.now.request.now in
@@ -42,10 +40,11 @@ pub fn tell_urls<F: FileReader, E: ByteSink>(
         (length request.arguments.now + 1) (fit_number (request_seen request))
         (map argument_of request.arguments.now)
         run.now.sources.now.locations request.options.now.anywhere
+        (nothing_line request.options.now.anywhere (map argument_of request.arguments.now) counts.now)
         (notes_seen notes.now.named) (notes_seen notes.now.others) result
         (E.seen errors.old) (E.seen errors.new) }
 {
-    match lines_of(run, notes, errors) {
+    match lines_of(run, notes, counts, errors) {
         Ok(text) => {
             print_error(errors, &text);
             DONE
@@ -61,6 +60,7 @@ pub fn tell_urls<F: FileReader, E: ByteSink>(
 fn lines_of<F: FileReader, E: ByteSink>(
     run: &TextRun<'_, '_, '_, F>,
     notes: &PlaceNotes,
+    counts: &RewriteCounts,
     errors: &mut E,
 ) -> Result<Vec<u8>, AllocError>
     ensures same { errors.new ≡ errors.old }
@@ -72,6 +72,7 @@ fn lines_of<F: FileReader, E: ByteSink>(
         (length request.arguments.now + 1) (fit_number (request_seen request))
         (map argument_of request.arguments.now)
         run.now.sources.now.locations request.options.now.anywhere
+        (nothing_line request.options.now.anywhere (map argument_of request.arguments.now) counts.now)
         (map note_seen notes.now.named.notes.items
         ++ map note_seen notes.now.others.notes.items)
         text.items) }
@@ -91,7 +92,13 @@ fn lines_of<F: FileReader, E: ByteSink>(
         None,
         &mut told,
     );
-    all_lines(run, &loader, &notes.named.notes, &notes.others.notes)
+    all_lines(
+        run,
+        &loader,
+        counts,
+        &notes.named.notes,
+        &notes.others.notes,
+    )
 }
 
 // The lines of all of these, or that there is none.
@@ -99,6 +106,7 @@ fn lines_of<F: FileReader, E: ByteSink>(
 fn all_lines<F: FileReader, E: ByteSink>(
     run: &TextRun<'_, '_, '_, F>,
     loader: &FileLoader<'_, '_, '_, F, E>,
+    counts: &RewriteCounts,
     notes: &[UrlNote],
     others: &[UrlNote],
 ) -> Result<Vec<u8>, AllocError>
@@ -107,13 +115,17 @@ fn all_lines<F: FileReader, E: ByteSink>(
         (option_copied loader.now.maps.now.base) loader.now.maps.now.interval loader.now.number loader.now.fit
         (map argument_of request.arguments.now) run.now.sources.now.locations
         request.options.now.anywhere
+        (nothing_line request.options.now.anywhere (map argument_of request.arguments.now) counts.now)
         (map note_seen notes.now ++ map note_seen others.now) text.items) }
 {
     let count = notes.len() + others.len();
     if count == 0 {
-        return Vec::from_slice(
+        let request = run.request;
+        return nothing_line(
             run.alloc,
-            nothing_line(run.request.options.anywhere).as_bytes(),
+            request.options.anywhere,
+            request.arguments,
+            counts,
         );
     }
     lines_of_both(run, loader, notes, others)
@@ -137,13 +149,6 @@ fn lines_of_both<F: FileReader, E: ByteSink>(
     let more = lines_by(run, loader, others)?;
     text.extend_from_slice(&more)?;
     Ok(text)
-}
-
-// That no line is a frame, or that there is no place.
-fn nothing_line(anywhere: bool) -> &'static str
-    ensures { result.now ≡ nothing_line anywhere }
-{
-    if anywhere { NO_PLACE } else { NO_FRAME }
 }
 
 // The lines of all of these.

@@ -11,3 +11,4 @@ pub mod NotesLaws
 pub mod NoteSteps
 pub mod RewritingLaws
 pub mod RememberedLaws
+pub mod TextNoteLaws

@@ -18,8 +18,10 @@ use Rattle.smap_trace.specs.Passed.{PlaceCount, passed_in}
 use Rattle.smap_trace.specs.Private.FrameRewriter.{IsLineNoted, IsNotedIf, RewriterSteps}
 use Rattle.smap_trace.specs.Private.Passing.{passed_after}
 use Rattle.smap_trace.specs.Rewriting.{NamedTraceStep, RewriteAsked, RewritesNamed, TraceNow, asked_seen, trace_start}
+use Rattle.smap_trace.specs.Private.TextNoting.{text_noted}
 use Rattle.smap_trace.specs.Rewritten.{NamedStep, is_frame_line, is_hidden, is_mapped}
-use Rattle.smap_trace.specs.UrlNotes.{NamingSeen, NotesSeen, naming_in}
+use Rattle.smap_trace.specs.TextNote.{TextNoteSeen, no_text_noted, opening_with, text_if, text_note_seen, text_with}
+use Rattle.smap_trace.specs.UrlNotes.{NamingSeen, NotesSeen, as_counted, naming_in}
 use Rattle.smap_trace.specs.declared.frame_rewriter.FrameRewriter.{FrameRewriter}
 
 -- ---- an editor that goes on as another, which it does not determine
@@ -74,6 +76,22 @@ module _ (most passed : ℕ) where
   pub none_yet : 0 ≡ min most 0
   none_yet = grind arith
 
+-- ---- what is noted of the text
+
+counted_more : (n more : ℕ) → as_counted (as_counted n + more) ≡ as_counted (n + more)
+counted_more n more = grind arith
+
+text_goes : (is_noted : Bool) (count : PlaceCount) (note : TextNoteSeen) (line : Line)
+    → text_noted is_noted count (text_if is_noted note) line ≡ text_if is_noted (text_with count note line)
+text_goes true count note line =
+    λ i. record { mentions = counted_more note.mentions (count.mentions line.bytes) i; opening = opening_with note.opening (line_text line) }
+text_goes false count note line = refl
+
+-- nothing at first
+pub no_text_yet : (is_noted : Bool) → no_text_noted ≡ text_if is_noted no_text_noted
+no_text_yet true = refl
+no_text_yet false = refl
+
 -- ---- what is noted
 
 noted_more : (is_noted : Bool) (naming : NamingSeen) (namings : List NamingSeen) (old new : NotesSeen) → AreNotesIf is_noted namings old
@@ -106,6 +124,7 @@ module _ {M P : Type 0} (Finds : M → (url : List ℕ) → M → Type 0) (found
     pub hiding : now.hidden ≡ rewriter.hidden
     pub passed : rewriter.passed ≡ min asked.most_passed now.passed
     pub noted : AreNotesIf asked.is_noted now.namings (notes_seen rewriter.notes.now)
+    pub text_is_noted : text_note_seen rewriter.text ≡ text_if asked.is_noted now.text
 
   abbrev after : (now : TraceNow M) → Line → (new : FrameRewriter M P) → TraceNow M
   after now line new = record {
@@ -115,6 +134,7 @@ module _ {M P : Type 0} (Finds : M → (url : List ℕ) → M → Type 0) (found
     hidden = new.hidden;
     passed = now.passed + passed_in asked.count (found new.maps.now) line;
     namings = now.namings ++ namings_in asked.hide (found new.maps.now) (frame_of line.bytes);
+    text = text_with asked.count now.text line;
   }
 
   step_kept : (old : FrameRewriter M P) (now : TraceNow M) (line : Line) (text : List ℕ) (new : FrameRewriter M P) → Keeps old now
@@ -131,6 +151,7 @@ module _ {M P : Type 0} (Finds : M → (url : List ℕ) → M → Type 0) (found
       hiding = steps.hiding ∙ ap (λ n. n + cond (is_hidden steps.met) 1 0) (sym keeps.hiding);
       passed = refl;
       named = refl;
+      text_noted = refl;
     },
     record {
       asks = (λ i. asked_seen (steps.counter i) (steps.options i).now) ∙ keeps.asks;
@@ -143,6 +164,9 @@ module _ {M P : Type 0} (Finds : M → (url : List ℕ) → M → Type 0) (found
           ∙ passed_goes asked.most_passed now.passed (passed_in asked.count (found new.maps.now) line);
       noted = line_noted asked (found new.maps.now) (frame_of line.bytes) now.namings (notes_seen old.notes.now) (notes_seen new.notes.now) keeps.noted
           (subst (λ a. IsLineNoted a (found new.maps.now) (frame_of line.bytes) (notes_seen old.notes.now) (notes_seen new.notes.now)) keeps.asks steps.noted);
+      text_is_noted = steps.text_is_noted
+          ∙ (λ i. text_noted (keeps.asks i).is_noted (keeps.asks i).count (keeps.text_is_noted i) line)
+          ∙ text_goes asked.is_noted asked.count now.text line;
     },
   )
 
@@ -154,6 +178,7 @@ module _ {M P : Type 0} (Finds : M → (url : List ℕ) → M → Type 0) (found
         summary = record { lines = lines.lines; frames = new.frames; mapped = new.mapped; hidden = new.hidden };
         long = lines.long;
         passed = new.passed;
+        text = new.text;
       })
       (notes_seen new.notes.now)
   rewrites_kept before after old new lines keeps done =
@@ -168,4 +193,5 @@ module _ {M P : Type 0} (Finds : M → (url : List ℕ) → M → Type 0) (found
         hiding = sym kept.2.hiding;
         passed = kept.2.passed;
         noted = kept.2.noted;
+        text_noted = kept.2.text_is_noted;
       }

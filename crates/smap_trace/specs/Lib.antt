@@ -14,6 +14,7 @@ pub mod UrlNotes
 pub mod NotesSeen
 pub mod Noted
 pub mod Passed
+pub mod TextNote
 pub mod Beside
 pub mod MapsOf
 pub mod Codes

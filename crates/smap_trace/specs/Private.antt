@@ -6,3 +6,4 @@ pub mod Remembered
 pub mod FrameRewriter
 pub mod Noting
 pub mod Passing
+pub mod TextNoting

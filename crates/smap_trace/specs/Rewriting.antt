@@ -10,8 +10,9 @@ use Rattle.smap_trace.specs.FrameOf.{frame_of}
 use Rattle.smap_trace.specs.FunctionNames.{FunctionNames}
 use Rattle.smap_trace.specs.Hiding.{HidingSeen, hiding_seen}
 use Rattle.smap_trace.specs.Noted.{AreNotesIf, namings_in}
-use Rattle.smap_trace.specs.Passed.{PlaceCount, passed_in}
+use Rattle.smap_trace.specs.Passed.{PlaceCount, nothing_counted, passed_in}
 use Rattle.smap_trace.specs.Rewritten.{Counts, Fate, MayMeet, NamedMeet, NamedStep, counts_of, is_frame_line, is_hidden, is_mapped, line_after, rewritten_line}
+use Rattle.smap_trace.specs.TextNote.{TextNoteSeen, no_text_noted, text_if, text_note_seen, text_with}
 use Rattle.smap_trace.specs.UrlNotes.{NamingSeen, NotesSeen}
 use Rattle.smap_trace.specs.declared.options.TraceOptions.{TraceOptions}
 use Rattle.smap_trace.specs.declared.outcome.RewriteCounts.{RewriteCounts}
@@ -35,8 +36,8 @@ RewritesFront before after table hide fault = EditsFront (rewritten_line table h
 
 -- ---- over maps that are looked for line by line
 
--- what is asked of it: which frames are left out, how many bytes are taken at most, whether it is noted what frames name, and how
--- many of the places are counted at most that are passed, of which `count` says how many a line has whose URL is another than one
+-- what is asked of it: which frames are left out, how many bytes are taken at most, whether it is noted what frames name and what the
+-- text is, what `count` counts of a line, and how many of the places are counted at most that are passed
 pub record RewriteAsked : Type 0 where
   pub hide : HidingSeen
   pub most : ℕ
@@ -55,9 +56,9 @@ asked_seen count options = record {
 
 -- the frames alone
 abbrev pub frames_alone : HidingSeen → (most : ℕ) → RewriteAsked
-frames_alone hide most = record { hide = hide; most = most; is_noted = false; count = λ own line. 0; most_passed = 0 }
+frames_alone hide most = record { hide = hide; most = most; is_noted = false; count = nothing_counted; most_passed = 0 }
 
--- the maps, what was counted of the lines so far, and what their frames named
+-- the maps, what was counted of the lines so far, what their frames named, and what they are as a text
 pub record TraceNow (M : Type 0) : Type 0 where
   pub maps : M
   pub frames : ℕ
@@ -65,9 +66,10 @@ pub record TraceNow (M : Type 0) : Type 0 where
   pub hidden : ℕ
   pub passed : ℕ
   pub namings : List NamingSeen
+  pub text : TextNoteSeen
 
 abbrev pub trace_start : {M : Type 0} → M → TraceNow M
-trace_start maps = record { maps = maps; frames = 0; mapped = 0; hidden = 0; passed = 0; namings = [] }
+trace_start maps = record { maps = maps; frames = 0; mapped = 0; hidden = 0; passed = 0; namings = []; text = no_text_noted }
 
 -- what a line became, and how the maps, the counts and the namings stand after it
 pub record NamedTraceStep {M : Type 0} (Finds : M → (url : List ℕ) → M → Type 0) (found : M → (url : List ℕ) → Option MapRecord)
@@ -81,6 +83,7 @@ pub record NamedTraceStep {M : Type 0} (Finds : M → (url : List ℕ) → M →
   pub hiding : new.hidden ≡ old.hidden + cond (is_hidden met) 1 0
   pub passed : new.passed ≡ old.passed + passed_in asked.count (found new.maps) line
   pub named : new.namings ≡ old.namings ++ namings_in asked.hide (found new.maps) (frame_of line.bytes)
+  pub text_noted : new.text ≡ text_with asked.count old.text line
 
 -- where nothing is known of the functions' names
 abbrev pub TraceStep : {M : Type 0} → (Finds : M → (url : List ℕ) → M → Type 0) → (found : M → (url : List ℕ) → Option MapRecord) → (asked : RewriteAsked)
@@ -88,7 +91,8 @@ abbrev pub TraceStep : {M : Type 0} → (Finds : M → (url : List ℕ) → M �
 TraceStep Finds found = NamedTraceStep Finds found (λ maps url. None)
 
 -- all that the input had, which is not too much, was read, and what each line became over the maps that were found for it was
--- written, and nothing else; places that were passed are counted in lines of at most 65,536 bytes
+-- written, and nothing else; places that were passed are counted in lines of at most 65,536 bytes, and these are the text that is
+-- noted
 pub record RewritesNamed {M : Type 0} (Finds : M → (url : List ℕ) → M → Type 0) (found : M → (url : List ℕ) → Option MapRecord)
     (names : M → (url : List ℕ) → Option FunctionNames) (asked : RewriteAsked) (before after : DevicesSeen) (old new : M) (counts : RewriteCounts)
     (notes : NotesSeen) : Type 0 where
@@ -101,6 +105,7 @@ pub record RewritesNamed {M : Type 0} (Finds : M → (url : List ℕ) → M → 
   pub hiding : counts.summary.hidden ≡ last.hidden
   pub passed : counts.passed ≡ min asked.most_passed last.passed
   pub noted : AreNotesIf asked.is_noted last.namings notes
+  pub text_noted : text_note_seen counts.text ≡ text_if asked.is_noted last.text
 
 -- where nothing is known of the functions' names
 abbrev pub RewritesOver : {M : Type 0} → (Finds : M → (url : List ℕ) → M → Type 0) → (found : M → (url : List ℕ) → Option MapRecord) → (asked : RewriteAsked)

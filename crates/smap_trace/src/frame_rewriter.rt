@@ -1,5 +1,5 @@
-//! The frames of a trace, rewritten line by line; what became of them, noted where that is asked; and the places that are
-//! passed over, counted as far as a number.
+//! The frames of a trace, rewritten line by line; what became of them and what the text is, noted where that is asked; and
+//! the places that are passed over, counted as far as a number.
 ghost use Rattle.std.specs.Prelude.{◌≡◌, ◌++◌, is_some, map, true};
 ghost use Rattle.std.specs.List.{concat};
 ghost use Rattle.smap_lines.specs.LineOutput.{IsPut};
@@ -26,6 +26,7 @@ use crate::passed::{PlaceCounter, passed_after};
 use crate::printed::{MOST_PRINTED_BYTES, print_place};
 use crate::remembered::Remembered;
 use crate::sight::{Sight, look_at};
+use crate::text_note::{TextNote, text_noted};
 use crate::url_notes::{Naming, UrlNotes};
 use smap_io::{ByteSink, DeviceFault};
 use smap_lines::{LineEditor, LineOutput, end_of_line};
@@ -45,6 +46,7 @@ pub struct FrameRewriter<'m, 'r, 'o, 'h, 'n, 'p, M: Maps, P: PlaceCounter> {
     pub mapped: u64,
     pub hidden: u64,
     pub passed: u64,
+    pub text: TextNote,
 }
 
 impl<M: Maps, P: PlaceCounter> LineEditor for FrameRewriter<'_, '_, '_, '_, '_, '_, M, P> {
@@ -68,6 +70,13 @@ impl<M: Maps, P: PlaceCounter> LineEditor for FrameRewriter<'_, '_, '_, '_, '_, 
     ) -> Result<(), DeviceFault> {
         let Some(frame) = frame_of_line(line) else {
             output.put_line(line, is_ended)?;
+            self.text = text_noted(
+                self.options.is_noted,
+                self.places,
+                self.text,
+                line,
+                is_ended,
+            );
             self.passed = passed_after(self.options, self.places, self.passed, None, false, line);
             return Ok(());
         };
@@ -84,6 +93,13 @@ impl<M: Maps, P: PlaceCounter> LineEditor for FrameRewriter<'_, '_, '_, '_, '_, 
         self.frames += 1;
         self.mapped += u64::from(sight.is_mapped());
         self.hidden += u64::from(sight.is_hidden());
+        self.text = text_noted(
+            self.options.is_noted,
+            self.places,
+            self.text,
+            line,
+            is_ended,
+        );
         self.passed = passed_after(
             self.options,
             self.places,
@@ -177,6 +193,9 @@ fn named_head<'a, M: Maps>(alloc: Global, maps: &'a M, frame: &Frame<'a>) -> Hea
     ensures { head_seen result
         ≡ (named (M.names maps.now frame.now.url.now) (parts_seen frame.now)).head }
 {
+    if !maps.knows_names() {
+        return whole_head(frame.head);
+    }
     let Some(cut) = head_cut(frame.head) else {
         return whole_head(frame.head);
     };

@@ -32,6 +32,7 @@ mod remembered;
 mod rewriting;
 mod sight;
 mod table;
+mod text_note;
 mod url_declarations;
 mod url_notes;
 
@@ -51,5 +52,6 @@ pub use printed::{MOST_PRINTED_BYTES, print_place};
 pub use refusal::TableRefusal;
 pub use rewriting::{rewrite, rewrite_over};
 pub use table::{Table, is_bad_url};
+pub use text_note::{Opening, TextNote};
 pub use url_declarations::UrlDeclarations;
 pub use url_notes::{Naming, UrlNote, UrlNotes};

@@ -36,6 +36,10 @@ pub trait Maps {
     fn map_for(&self, url: &[u8]) -> Option<&ReadyMap>
         ensures { option_map (λ map. map.now.stated) result ≡ found self.now url.now };
 
+    /// Whether written names are known of any functions: if not, none is looked for. The call takes no memory.
+    fn knows_names(&self) -> bool
+        ensures { result ≡ names_any };
+
     /// The name that was written for a function of this name in the program of the URL that was looked for last, at a line
     /// and a column as printed, from 1; `None` where that is not known. The call takes no memory.
     fn written_name<'a>(
@@ -103,6 +107,10 @@ impl Maps for TableMaps<'_> {
 
     fn map_for(&self, url: &[u8]) -> Option<&ReadyMap> {
         self.0.map_for(url)
+    }
+
+    fn knows_names(&self) -> bool {
+        false
     }
 
     fn written_name<'a>(

@@ -42,6 +42,10 @@ impl Maps for NamedTable<'_> {
         self.table.map_for(url)
     }
 
+    fn knows_names(&self) -> bool {
+        true
+    }
+
     fn written_name<'a>(
         &'a self,
         alloc: Global,

@@ -1,5 +1,7 @@
 //! What rewriting a trace comes to.
 
+use crate::text_note::TextNote;
+
 /// What was in a trace that was rewritten.
 #[derive(Clone, Copy, Debug, PartialEq, Eq)]
 pub struct Summary {
@@ -23,6 +25,8 @@ pub struct RewriteCounts {
     /// How many places were passed over, in lines of up to 65,536 bytes that are no frames, or whose frames have a URL
     /// without a map and the places another; where they are counted, and as far as they are.
     pub passed: u64,
+    /// What is noted of it as a text, where that is asked.
+    pub text: TextNote,
 }
 
 /// Why the rewriting of a trace ended before its end: X1 a read failed, X2 a write failed, X3 the trace has more bytes than

@@ -1,16 +1,17 @@
 //! The places that rewriting frames passes over.
-ghost use Rattle.std.specs.Prelude.{◌≡◌, ◌≤◌, ℕ, List, Option, false, length, option_map};
+ghost use Rattle.std.specs.Prelude.{◌≡◌, ◌≤◌, ◌+◌, false, length, option_map};
 ghost use Rattle.smap_lines.specs.Limits.{most_line_bytes};
 ghost use Rattle.smap_lines.specs.Lines.{has_line_end};
-ghost use Rattle.smap_trace.specs.Passed.{passed_beside};
+ghost use Rattle.smap_trace.specs.Passed.{PlaceCount, passed_beside};
 ghost use Rattle.smap_trace.specs.Private.Passing.{passed_after};
+ghost use Rattle.smap_trace.specs.UrlNotes.{as_counted};
 
 use crate::options::TraceOptions;
 
 /// What counts the places of lines. What it takes to count those of one may be kept for the next.
 pub trait PlaceCounter {
-    // How many it has whose URL is another than this, where one is given.
-    ghost count: { Self → (own : Option (List ℕ)) → (line : List ℕ) → ℕ };
+    // How many it has whose URL is another than one, where that is given; and how often URLs stand in it.
+    ghost count: { Self → PlaceCount };
 
     /// How many places a line, which comes without its LF, has whose URL is another than `own`, where that is given. It has
     /// 65,536 bytes at most, so that the room for it can be made before: the call takes no memory. What is counted in
@@ -19,8 +20,12 @@ pub trait PlaceCounter {
         requires one { has_line_end line.now ≡ false }
         requires short { length line.now ≤ most_line_bytes }
         ensures count { result
-            ≡ count self.old (option_map (λ url. url.now) own.entry) line.now }
+            ≡ (count self.old).others (option_map (λ url. url.now) own.entry) line.now }
         ensures same { count self.new ≡ count self.old };
+
+    /// As many as before, and as many more as URLs stand in a line, in places or not; as far as 64 bits can count.
+    fn count_mentions(&self, before: u64, line: &[u8]) -> u64
+        ensures { result ≡ as_counted (before + (count self.now).mentions line.now) };
 }
 
 /// No place is looked for.
@@ -28,10 +33,16 @@ pub trait PlaceCounter {
 pub struct NoPlaces;
 
 impl PlaceCounter for NoPlaces {
-    ghost count = { λ places own line. 0 };
+    ghost use Rattle.smap_trace.specs.Passed.{nothing_counted};
+
+    ghost count = { λ places. nothing_counted };
 
     fn count_in(&mut self, _own: Option<&[u8]>, _line: &[u8]) -> u64 {
         0
+    }
+
+    fn count_mentions(&self, before: u64, _line: &[u8]) -> u64 {
+        before
     }
 }
 

@@ -16,6 +16,7 @@ use crate::outcome::{RewriteCounts, RewriteFault, Summary};
 use crate::passed::{NoPlaces, PlaceCounter};
 use crate::remembered::Remembered;
 use crate::table::Table;
+use crate::text_note::TextNote;
 use crate::url_notes::UrlNotes;
 use smap_io::{ByteSink, ByteSource};
 use smap_lines::{LineCounts, MOST_TEXT_BYTES, edit_lines};
@@ -55,8 +56,8 @@ pub fn rewrite<R: ByteSource, W: ByteSink>(
 
 /// The same over maps that are looked for when a frame names them, and that may know the written names of functions: with an
 /// original a frame gets that of its function, where this is one name. Where that is asked, it is noted what became of the
-/// first 100 different URLs that frames name; and the places that are passed over in lines of up to 65,536 bytes are
-/// counted, as far as a number. The caller gives devices that have not failed, and notes without any. What the counter
+/// first 100 different URLs that frames name, and what its lines of up to 65,536 bytes are as a text; and the places that
+/// are passed over in such lines are counted, as far as a number. The caller gives devices that have not failed, and notes without any. What the counter
 /// counts stays the same. The output is not flushed.
 pub fn rewrite_over<R: ByteSource, W: ByteSink, M: Maps, P: PlaceCounter>(
     alloc: Global,
@@ -92,6 +93,7 @@ pub fn rewrite_over<R: ByteSource, W: ByteSink, M: Maps, P: PlaceCounter>(
         mapped: 0,
         hidden: 0,
         passed: 0,
+        text: TextNote::none(),
     };
     let LineCounts { lines, long } = edit_lines(alloc, input, output, &mut rewriter, options.most)?;
     let summary = Summary {
@@ -104,5 +106,6 @@ pub fn rewrite_over<R: ByteSource, W: ByteSink, M: Maps, P: PlaceCounter>(
         summary,
         long,
         passed: rewriter.passed,
+        text: rewriter.text,
     })
 }

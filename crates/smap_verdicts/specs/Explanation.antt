@@ -18,6 +18,8 @@ use Rattle.smap_verdicts.specs.Texts.{text_from}
 abbrev pub beginning_text : Beginning → List ℕ
 beginning_text begins.Nothing = codes "the file holds nothing"
 beginning_text begins.Gzip = codes "the file is packed with gzip"
+beginning_text begins.Xz = codes "the file is packed with xz"
+beginning_text begins.Zstd = codes "the file is packed with zstd"
 beginning_text begins.Zip = codes "the file is a zip archive"
 beginning_text begins.Utf16 = codes "the file is UTF-16, and JSON is UTF-8"
 beginning_text begins.Html = codes "the file is HTML or XML"

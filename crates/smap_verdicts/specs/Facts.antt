@@ -41,6 +41,8 @@ place_value place = object (member (codes "column") (count place.column) (member
 abbrev pub beginning_name : Beginning → List ℕ
 beginning_name begins.Nothing = codes "nothing"
 beginning_name begins.Gzip = codes "gzip"
+beginning_name begins.Xz = codes "xz"
+beginning_name begins.Zstd = codes "zstd"
 beginning_name begins.Zip = codes "zip"
 beginning_name begins.Utf16 = codes "utf-16"
 beginning_name begins.Html = codes "html"

@@ -246,6 +246,8 @@ fn beginning_name(begins_as: Beginning) -> &'static str
     match begins_as {
         Beginning::Nothing => "nothing",
         Beginning::Gzip => "gzip",
+        Beginning::Xz => "xz",
+        Beginning::Zstd => "zstd",
         Beginning::Zip => "zip",
         Beginning::Utf16 => "utf-16",
         Beginning::Html => "html",

@@ -25,6 +25,8 @@ fn beginning_text(begins_as: Beginning) -> &'static str
     match begins_as {
         Beginning::Nothing => "the file holds nothing",
         Beginning::Gzip => "the file is packed with gzip",
+        Beginning::Xz => "the file is packed with xz",
+        Beginning::Zstd => "the file is packed with zstd",
         Beginning::Zip => "the file is a zip archive",
         Beginning::Utf16 => "the file is UTF-16, and JSON is UTF-8",
         Beginning::Html => "the file is HTML or XML",

@@ -13,6 +13,11 @@ abbrev pub excerpt_member : Option (List ℕ) → List ℕ
 excerpt_member None = []
 excerpt_member (Some excerpt) = codes ",\"excerpt\":" ++ compact_text (excerpt_value excerpt)
 
+-- the function that was asked for beside a place, where one was
+abbrev pub function_member : Option (List ℕ) → List ℕ
+function_member None = []
+function_member (Some function) = codes ",\"function\":" ++ compact_text (string function)
+
 -- the lines around a place, where there are some
 abbrev pub context_member : Option Context → List ℕ
 context_member None = []
@@ -31,6 +36,11 @@ ignored_member ignored = codes ",\"ignored\":" ++ compact_text (boolean ignored)
 abbrev pub code_member : (front : List ℕ) → Option Code → List ℕ
 code_member front None = []
 code_member front (Some code) = front ++ compact_text (string (label_of code))
+
+-- a code behind a word, where there is one
+abbrev pub code_word : Option Code → List ℕ
+code_word None = []
+code_word (Some code) = codes " " ++ label_of code
 
 -- the beginning of the object of a source: its bytes, where they are known
 abbrev pub row_front : Option ℕ → List ℕ

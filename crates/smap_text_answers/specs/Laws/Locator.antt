@@ -28,7 +28,7 @@ known_found None (Some found) = refl
 known_found (Some None) kept = refl
 known_found (Some (Some stated)) kept = refl
 
-outcome_found : {L : Type 0} (maps : StoredSeen L) (url : List ℕ) → result_ok (outcome_at maps url) ≡ found_in maps url
+pub outcome_found : {L : Type 0} (maps : StoredSeen L) (url : List ℕ) → result_ok (outcome_at maps url) ≡ found_in maps url
 outcome_found maps url = known_found (known_of maps.exact maps.locations url) (kept_under (key_for maps.locations url) maps.cache)
 
 module _ {L : Type 0} (MayLoad : LoadsMay L) where

@@ -20,6 +20,7 @@ use Rattle.smap_trace.specs.MapsOf.{MapsByUrl, RewritesBy, counts_by, fate_by, i
 use Rattle.smap_trace.specs.Rewriting.{RewriteAsked, Rewrites, RewritesOver, TraceNow, TraceStep, trace_start}
 use Rattle.smap_trace.specs.Rewritten.{Fate, FateStep, counts_of, fate, fate_at, fate_of, is_frame_line, is_hidden, is_mapped, line_after, original_in}
 use Rattle.smap_trace.specs.Rewritten.{rewritten, rewritten_line}
+use Rattle.smap_trace.specs.TextNote.{no_text_noted}
 use Rattle.smap_trace.specs.UrlNotes.{NotesSeen}
 use Rattle.smap_locations.specs.ByText.{value_under}
 use Rattle.smap_trace.specs.declared.outcome.RewriteCounts.{RewriteCounts}
@@ -87,7 +88,7 @@ abbrev CountsNow : Type 0
 CountsNow = TraceNow ⊤
 
 abbrev counts_now : {M : Type 0} → TraceNow M → CountsNow
-counts_now now = record { maps = tt; frames = now.frames; mapped = now.mapped; hidden = now.hidden; passed = 0; namings = [] }
+counts_now now = record { maps = tt; frames = now.frames; mapped = now.mapped; hidden = now.hidden; passed = 0; namings = []; text = no_text_noted }
 
 module _ (maps : MapsByUrl) (hide : HidingSeen) where
   -- after a line
@@ -215,6 +216,7 @@ module _ {M : Type 0} (Finds : M → (url : List ℕ) → M → Type 0) (found :
             hidden = (step.0.hiding ∙ ap (λ m. old.hidden + cond (is_hidden m) 1 0) met.0) i;
             passed = 0;
             namings = [];
+            text = no_text_noted;
           }),
         ),
         met.1,

@@ -40,6 +40,7 @@ module _ {M N : Type 0} (Finds : M → (url : List ℕ) → M → Type 0) (found
       hidden = now.hidden;
       passed = now.passed;
       namings = now.namings;
+      text = now.text;
     }
 
     fate_goes : (old new : M) (parts : Option FrameParts) (met : Fate) → Is old → FateStep Finds found asked.hide old parts met new
@@ -71,6 +72,7 @@ module _ {M N : Type 0} (Finds : M → (url : List ℕ) → M → Type 0) (found
             hiding = step.hiding;
             passed = step.passed ∙ ap (λ n. old.passed + n) (passed_same new.maps (frame_of line.bytes) line.bytes);
             named = step.named ∙ ap (λ l. old.namings ++ l) (named_same new.maps (frame_of line.bytes));
+            text_noted = step.text_noted;
           },
           one.1,
         )
@@ -89,6 +91,7 @@ module _ {M N : Type 0} (Finds : M → (url : List ℕ) → M → Type 0) (found
           hiding = is.hiding;
           passed = is.passed;
           noted = is.noted;
+          text_noted = is.text_noted;
         }
 
 -- what may be found may be found by more

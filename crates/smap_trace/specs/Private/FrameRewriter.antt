@@ -11,8 +11,10 @@ use Rattle.smap_trace.specs.NotesSeen.{notes_seen}
 use Rattle.smap_trace.specs.Passed.{PlaceCount, passed_in}
 use Rattle.smap_trace.specs.Private.Passing.{passed_after}
 use Rattle.smap_trace.specs.Private.Remembered.{is_right}
+use Rattle.smap_trace.specs.Private.TextNoting.{text_noted}
 use Rattle.smap_trace.specs.Rewriting.{BecomesNamed, Looked, RewriteAsked, asked_seen}
 use Rattle.smap_trace.specs.Rewritten.{Fate, NamedStep, is_frame_line, is_hidden, is_mapped, line_after}
+use Rattle.smap_trace.specs.TextNote.{text_note_seen}
 use Rattle.smap_trace.specs.UrlNotes.{NamingSeen, NotesSeen, naming_in}
 use Rattle.smap_trace.specs.declared.frame_rewriter.FrameRewriter.{FrameRewriter}
 
@@ -54,6 +56,7 @@ module _ {M P : Type 0} where
     pub hiding : new.hidden ≡ old.hidden + cond (is_hidden met) 1 0
     pub passed : new.passed ≡ passed_after old.options.now.most_passed old.passed (passed_in (count old.places.now) (found new.maps.now) line)
     pub noted : IsLineNoted (asked_seen (count old.places.now) old.options.now) (found new.maps.now) (frame_of line.bytes) (notes_seen old.notes.now) (notes_seen new.notes.now)
+    pub text_is_noted : text_note_seen new.text ≡ text_noted old.options.now.is_noted (count old.places.now) (text_note_seen old.text) line
     pub options : new.options ≡ old.options
     pub counter : count new.places.now ≡ count old.places.now
     pub same : IsSameRewriter old new

@@ -12,7 +12,7 @@ use Rattle.smap_text_answers.specs.Request.{request_seen}
 use Rattle.smap_text_answers.specs.RewriteFrom.{places_asked}
 use Rattle.smap_text_answers.specs.StoreRun.{store_of}
 use Rattle.smap_text_answers.proofs.BesideLaws.{text_front_of_none, when_on}
-use Rattle.smap_text_answers.proofs.StoreLaws.{store_after}
+use Rattle.smap_text_answers.proofs.LentStoreLaws.{store_after}
 use Rattle.smap_text_answers.proofs.rewriting.rewrite_places.Goals as goal
 
 pub returns-in_default : goal.returns-in_default

@@ -1,6 +1,6 @@
 use Rattle.std.proofs.Common.{ap, ◌∙◌}
 use Rattle.smap_trace.specs.FrameSeen.{parts_seen}
-use Rattle.smap_trace.specs.FunctionNames.{named, with_head}
+use Rattle.smap_trace.specs.FunctionNames.{with_head}
 use Rattle.smap_trace.specs.HeadSeen.{head_seen}
 use Rattle.smap_trace.specs.Hiding.{hiding_seen}
 use Rattle.smap_trace.specs.Rewritten.{fate_at, original_in}

@@ -7,21 +7,24 @@ use Rattle.smap_text_answers.proofs.locating.LocatingStoreWork.run.Goals as goal
 
 pub returns-clause-ends : goal.returns-clause-ends
 returns-clause-ends g c =
-    let made = c.locate_text in
+    let made = c.answer_text in
     let sources = c.args.sources.now in
+    let reads = g.Q.FileReader.gives c.args.self.now.files.now in
+    let asked = c.args.self.now.asked.now in
     let old = store_of sources c.args.cache.now c.args.loader.now in
     let new = store_of sources made.new.cache made.new.loader in
     let before = devices_seen (g.R.ByteSource.seen c.args.input.now) (g.W.ByteSink.seen c.args.output.now) in
     let after = devices_seen (g.R.ByteSource.seen made.new.input) (g.W.ByteSink.seen made.new.output) in
     ends_wider made.result
-    (λ counts is. answers_from g.F.FileReader.gives g.F.FileReader.causes g.E.ByteSink.seen _ old new refl c.args.self.now.options before after counts is)
-    (λ fault is. answers_front_from g.F.FileReader.gives g.F.FileReader.causes g.E.ByteSink.seen _ old new refl c.args.self.now.options before after fault is) made.ensures.ends
+    (λ counts is. answers_from g.F.FileReader.gives g.F.FileReader.causes g.E.ByteSink.seen _ old new refl reads asked sources before after counts _ is)
+    (λ fault is. answers_front_from g.F.FileReader.gives g.F.FileReader.causes g.E.ByteSink.seen _ old new refl reads asked sources before after fault is)
+    made.ensures.ends
 
 pub returns-clause-looked : goal.returns-clause-looked
-returns-clause-looked g c = (looked_from g.F.FileReader.gives g.F.FileReader.causes g.E.ByteSink.seen _ _ _ refl c.locate_text.ensures.looked).0
+returns-clause-looked g c = (looked_from g.F.FileReader.gives g.F.FileReader.causes g.E.ByteSink.seen _ _ _ refl c.answer_text.ensures.looked).0
 
 pub returns-clause-same_errors : goal.returns-clause-same_errors
-returns-clause-same_errors g c = (looked_from g.F.FileReader.gives g.F.FileReader.causes g.E.ByteSink.seen _ _ _ refl c.locate_text.ensures.looked).1.errors
+returns-clause-same_errors g c = (looked_from g.F.FileReader.gives g.F.FileReader.causes g.E.ByteSink.seen _ _ _ refl c.answer_text.ensures.looked).1.errors
 
 pub returns-clause-same_told : goal.returns-clause-same_told
-returns-clause-same_told g c = (looked_from g.F.FileReader.gives g.F.FileReader.causes g.E.ByteSink.seen _ _ _ refl c.locate_text.ensures.looked).1.told
+returns-clause-same_told g c = (looked_from g.F.FileReader.gives g.F.FileReader.causes g.E.ByteSink.seen _ _ _ refl c.answer_text.ensures.looked).1.told

@@ -1,4 +1,4 @@
-use Rattle.std.proofs.Common.{◌≡◌, ◌+◌, ◌<◌, ℕ, Bool, true, false, cond, Option, Some, None, List, ap, arith, refl, sym, subst, ◌∙◌}
+use Rattle.std.proofs.Common.{◌≡◌, ◌+◌, ◌<◌, ℕ, Bool, true, false, cond, Option, Some, List, ap, arith, refl, subst, ◌∙◌}
 use Rattle.std.specs.Prelude.{Err, IsErrAnd, Ok, Result, is_some}
 use mir.Val.{bool_byte}
 use Rattle.smap_io.specs.Device.{SinkSeen}
@@ -101,6 +101,7 @@ returns-clause-put g c =
             ∙ ap (λ o. passed_after most was (passed_of count found o c.args.line.now)) here;
         noted = noted_of (asked_seen count c.args.self.now.options.now) found parts (frame_of c.args.line.now) _ _ _ _ here
             c.look_named-has_map.ensures.has_map (c.look_named-has_map.ensures.sight sound) c.note_if.ensures;
+        text_is_noted = c.text_noted-self-2.ensures;
         options = refl;
         counter = c.passed_after-self-2.ensures.same;
         same = (refl, refl, refl);

@@ -1,6 +1,6 @@
 use Rattle.std.proofs.Common.{flat_map, take}
 use Rattle.smap_printing.specs.Private.Escapes.{shown_piece}
-use Rattle.smap_printing.proofs.map_text.put_shown.Given as goal
+use Rattle.smap_printing.proofs.map_text.put_shown_bytes.Given as goal
 
 abbrev pub invariant-loop-byte : goal.invariant-loop-byte
 invariant-loop-byte g l = record {
