@@ -75,15 +75,15 @@ function esbuildBy(...words) {
   };
 }
 
-function withTypescript({ text, name }, target) {
+function withTypescript({ text, name }, target, module = 'CommonJS') {
   const { ScriptTarget, ModuleKind, transpileModule } = typescript;
-  const compilerOptions = { sourceMap: true, inlineSources: true, target: ScriptTarget[target], module: ModuleKind.CommonJS, allowJs: true };
+  const compilerOptions = { sourceMap: true, inlineSources: true, target: ScriptTarget[target], module: ModuleKind[module], allowJs: true };
   const made = transpileModule(text, { fileName: name, compilerOptions });
   return { text: made.outputText, map: JSON.parse(made.sourceMapText), name };
 }
 
-function withBabel({ text, name }) {
-  const presets = [[require('@babel/preset-env'), { targets: 'ie 11', modules: isModule(text) ? 'commonjs' : false }]];
+function withBabel({ text, name }, modules = isModule(text) ? 'commonjs' : false) {
+  const presets = [[require('@babel/preset-env'), { targets: 'ie 11', modules }]];
   const made = babel.transformSync(text, { filename: name, presets, sourceMaps: true, compact: false, configFile: false, babelrc: false, sourceType: 'unambiguous' });
   return { text: made.code, map: made.map, name };
 }
@@ -172,4 +172,4 @@ async function* builds(files, modules) {
   }
 }
 
-module.exports = { builds, FILES, MODULES };
+module.exports = { builds, terserBy, withBabel, withTypescript, FILES, MODULES, TERSERS };

@@ -5,14 +5,13 @@
 //   node tests/vectors/engines/record.js [ENGINE]...
 //
 // README.md in the folder above says what it needs. It makes the folder /srv/engines, which must not be there, and
-// removes it. The browsers ask this program, as their proxy, for every URL, so no name is looked up.
+// removes it.
 'use strict';
 
 const fs = require('fs');
-const http = require('http');
-const os = require('os');
 const path = require('path');
-const { execFileSync, spawn, spawnSync } = require('child_process');
+const { execFileSync, spawnSync } = require('child_process');
+const { chromium, firefox, posted } = require('./browsers.js');
 
 const APP = '/srv/engines';
 const ORIGIN = 'http://example.test';
@@ -115,60 +114,17 @@ function given(url, sites) {
   return null;
 }
 
-const wait = (ms) => new Promise((done) => setTimeout(done, ms));
-
 // Opens each page in a browser that `start` starts, and gives what it reported.
 async function browse(start, hasSites) {
   const result = {};
-  let reported;
-  let sites = false;
-  const server = http.createServer((request, response) => {
-    if (process.env.TELL) console.error(request.method, request.url);
-    if (request.method === 'POST' && request.url.startsWith(ORIGIN)) {
-      let text = '';
-      request.setEncoding('utf8');
-      request.on('data', (part) => { text += part; });
-      request.on('end', () => { response.end(); reported(text); });
-      return;
-    }
-    const [type, text] = (request.url.startsWith('http') && given(request.url, sites)) || [];
-    response.writeHead(type ? 200 : 404, { 'content-type': type ?? 'text/plain', 'cache-control': 'no-store', 'access-control-allow-origin': '*' });
-    response.end(text ?? '');
-  });
-  server.on('connect', (_, socket) => socket.destroy());
-  await new Promise((done) => server.listen(0, '127.0.0.1', done));
   for (const page of Object.keys(PAGES)) {
-    for (sites of hasSites ? [false, true] : [false]) {
-      const folder = fs.mkdtempSync(path.join(os.tmpdir(), 'engines-'));
-      const came = new Promise((done) => { reported = done; });
-      const child = start(`${ORIGIN}/${page}.html${sites ? '?sites' : ''}`, server.address().port, folder);
-      const text = await Promise.race([came, wait(60000)]);
-      process.kill(-child.pid, 'SIGKILL');
-      await wait(500);
-      fs.rmSync(folder, { recursive: true, force: true });
-      if (!text) throw new Error(`${page} reported nothing`);
+    for (const sites of hasSites ? [false, true] : [false]) {
+      const url = `${ORIGIN}/${page}.html${sites ? '?sites' : ''}`;
+      const [text] = await posted(start, url, (asked) => given(asked, sites));
       result[sites ? `${page} sites` : page] = JSON.parse(text);
     }
   }
-  server.close();
   return result;
-}
-
-const detached = (program, args, env = {}) => spawn('nice', ['-n', '5', program, ...args], { detached: true, stdio: process.env.TELL ? 'inherit' : 'ignore', env: { ...process.env, ...env } });
-
-function chromium(url, port, folder) {
-  return detached('chromium', ['--headless=new', '--no-sandbox', '--disable-gpu', `--user-data-dir=${folder}`, `--proxy-server=127.0.0.1:${port}`, '--proxy-bypass-list=<-loopback>', '--no-first-run', url]);
-}
-
-function firefox(url, port, folder) {
-  const preferences = {
-    'network.proxy.type': 1, 'network.proxy.http': '127.0.0.1', 'network.proxy.http_port': port,
-    'dom.security.https_first': false, 'dom.security.https_only_mode': false, 'browser.shell.checkDefaultBrowser': false,
-    'datareporting.policy.dataSubmissionEnabled': false, 'app.update.enabled': false, 'network.captive-portal-service.enabled': false,
-    'browser.aboutwelcome.enabled': false, 'termsofuse.bypassNotification': true,
-  };
-  fs.writeFileSync(path.join(folder, 'user.js'), Object.entries(preferences).map(([key, value]) => `user_pref(${JSON.stringify(key)}, ${JSON.stringify(value)});\n`).join(''));
-  return detached('firefox-esr', ['--headless', '--no-remote', '--profile', folder, url], { HOME: folder, MOZ_CRASHREPORTER_DISABLE: '1' });
 }
 
 // Puts a text where a shell finds it under a URL.
