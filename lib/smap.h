@@ -304,6 +304,13 @@ uint32_t smap_names_new(smap_map *map, const uint8_t *generated, size_t length, 
  * the function is no such name, as `Object.f` or `<anonymous>`, and where it gets none. */
 uint32_t smap_name_of(const smap_names *names, const uint8_t *function, size_t length, uint32_t line, uint32_t column, smap_text *name);
 
+/* Makes `other` another handle of the same names. Each is freed by itself, in any order. */
+uint32_t smap_names_share(smap_names *names, smap_names *other);
+
+/* Says for how many bytes of memory the names count: 48 for each function or class that has a name. Their map counts for itself. Returns
+ * 0. */
+uint32_t smap_names_size(const smap_names *names, uint64_t *size);
+
 /* Frees names of functions, and leaves their handle empty. */
 void smap_names_free(smap_names *names);
 
@@ -416,6 +423,11 @@ uint32_t smap_table_add(smap_table *table, const uint8_t *url, size_t url_length
 /* The same, where the table holds the map with the handle, which stays as it is. */
 uint32_t smap_table_add_shared(smap_table *table, const uint8_t *url, size_t url_length, smap_map *map, smap_code *refusal);
 
+/* Puts names of functions beside the map that the table has under this very URL or pattern, which is to be theirs: frames whose URL has
+ * that map get them when they are rewritten. The table holds the names with their handle, which stays as it is. Returns 1 where it has
+ * no map there, or names beside it. */
+uint32_t smap_table_add_names(smap_table *table, const uint8_t *url, size_t url_length, smap_names *names);
+
 /* Looks a generated position up in the map of this URL, as smap_look_up does, and lends the source that answers and the name
  * of the mapping; what there is not has length 0. Returns 1 where the table has no such map. */
 uint32_t smap_table_look_up(const smap_table *table, const uint8_t *url, size_t url_length, uint32_t line, uint32_t column,
@@ -427,17 +439,17 @@ uint32_t smap_cut_url(const uint8_t *url, size_t length, smap_text *cut);
 /* Frees the table, with those of its maps that nothing else holds, and leaves its handle empty. */
 void smap_table_free(smap_table *table);
 
-/* Rewrites a trace: each frame whose URL has a map in the table and whose place has an original gets it in its place, and every
- * other byte stays. With `hide_ignored` lines of frames from ignored sources are dropped. Returns 1 where the trace has
- * more than 1,073,741,824 bytes, or more would come out. `counts` is set where it returns 0. The bytes are freed by smap_bytes_free. */
+/* Rewrites a trace: each frame whose URL has a map in the table and whose place has an original gets it in its place, and, where names
+ * stand beside the map, its function the name that smap_name_of gives it; every other byte stays. With `hide_ignored` lines of frames
+ * from ignored sources are dropped. Returns 1 where the trace has more than 1,073,741,824 bytes, or more would come out. `counts` is
+ * set where it returns 0. The bytes are freed by smap_bytes_free. */
 uint32_t smap_rewrite(smap_table *table, const uint8_t *trace, size_t length, bool hide_ignored,
                       smap_bytes *bytes, smap_trace_count *counts);
 
 /* Rewrites a text: each place URL:line:column, wherever it stands in a line, whose URL has a map in the table and which has an
- * original gets it in its stead, and every other byte stays. Returns 1 where the text has more than 1,073,741,824 bytes, where more
- * would come out, and where the table has a map under `*` alone.
- * `counts` is set where it returns 0: `frames` are the places, and none is hidden. The bytes are freed by
- * smap_bytes_free. */
+ * original gets it in its stead, and every other byte stays, names of functions too. Returns 1 where the text has more than
+ * 1,073,741,824 bytes, where more would come out, and where the table has a map under `*` alone. `counts` is set where it returns 0:
+ * `frames` are the places, and none is hidden. The bytes are freed by smap_bytes_free. */
 uint32_t smap_rewrite_anywhere(smap_table *table, const uint8_t *text, size_t length, smap_bytes *bytes,
                                smap_trace_count *counts);
 
@@ -476,6 +488,14 @@ uint32_t smap_store_new(uint64_t most, smap_store *store);
 /* Puts the map of this very URL, in the place of what was known under it; it counts for `bytes`, as smap_map_size has them.
  * The store holds the map with the handle, which stays as it is. */
 uint32_t smap_store_put(smap_store *store, const uint8_t *url, size_t url_length, smap_map *map, uint64_t bytes);
+
+/* The same with the map of the names, and with them beside it; they count for `bytes`, as smap_map_size and smap_names_size have them
+ * together. */
+uint32_t smap_store_put_named(smap_store *store, const uint8_t *url, size_t url_length, smap_names *names, uint64_t bytes);
+
+/* Fills `names` with those that the store has with the map of a URL at a time, as smap_names_new made them: nothing is copied. Returns 1
+ * where it has none with it. The look-up is not counted. */
+uint32_t smap_store_names(smap_store *store, const uint8_t *url, size_t url_length, uint64_t now, smap_names *names);
 
 /* Puts why this very URL has no map, in the place of what was known under it: SMAP_MISSING or SMAP_FAILED, and 1 is returned
  * for another. With `has_until` that holds before the time `until`, in whatever the caller counts `now` in, and else for

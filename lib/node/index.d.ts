@@ -396,8 +396,8 @@ export class Maps {
   get(url: string): TraceMap | null;
   lookUp(url: string, line: number, column: number): Place | null;
   context(url: string, index: number, line: number, before?: number, after?: number): Context | null;
-  /** Puts a map under this very URL. */
-  add(url: string, map: Given): void;
+  /** Puts a map under this very URL; with its generated file functions of frames get the names of their sources. */
+  add(url: string, map: Given, options?: { generated?: string | Uint8Array }): void;
   /** Drops what is known of a URL, so that it is asked for anew. */
   discard(url: string): void;
   /** Asks for the maps of these URLs that are not known. */

@@ -6,6 +6,7 @@ const addon = require('./addon.js');
 const given = require('./given.js');
 const { Made, TraceMap, sourceContext } = require('./map.js');
 const { madeUnder } = require('./reading.js');
+const { refusedAs } = require('./refused.js');
 const { Store } = require('./store.js');
 const { Told, counted, rewriting, storeOf, wholePart } = require('./table.js');
 const { begun, locationsIn, rewrittenLater } = require('./texts.js');
@@ -163,9 +164,12 @@ class Maps extends Told {
     return map && sourceContext(map, index, line, before, after);
   }
 
-  // Puts a map under this very URL, in place of what is kept of it. A pattern is no URL here.
-  add(url, map) {
-    this.inner.put(whole(url, 'url'), madeUnder(this.inner.under(url), map));
+  // Puts a map under this very URL, in place of what is kept of it. With `generated`, its generated file, functions of frames get the names of
+  // their sources, and the map counts for what that declares. A pattern is no URL here.
+  add(url, map, options = undefined) {
+    const { generated } = given.options(options, 'generated');
+    const under = this.inner.under(whole(url, 'url'));
+    this.inner.put(url, generated === undefined ? madeUnder(under, map) : withFile(madeUnder(under, map), generated));
   }
 
   // Drops what is kept of a URL, so that its map is asked for anew.
@@ -205,6 +209,14 @@ class Maps extends Told {
     for (const key of left) if (!this.inner.holds(key)) this.#kept.delete(key);
     this.#mostKept = 2 * this.#kept.size + 16;
   }
+}
+
+// What was made of a map, which has read what its generated file declares.
+function withFile(made, generated) {
+  const refusal = addon.withGenerated(made.handle, given.bytes(generated, 'generated'));
+  if (refusal === undefined) return made;
+  if (!made.map) addon.closeMap(made.handle);
+  throw refusedAs(refusal);
 }
 
 // When a file was written, which file it is and how long, or null where there is none.

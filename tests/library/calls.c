@@ -789,6 +789,76 @@ static void pieces(void) {
     smap_map_free(&map);
 }
 
+/* The generated file of this map calls `main` `f`, at column 9. */
+static const char main_map[] = "{\"version\":3,\"sources\":[\"a.ts\"],\"names\":[\"main\"],\"mappings\":\"SAAAA\"}";
+static const char main_file[] = "function f(){g()}";
+
+static void named_frames(void) {
+    static const char trace[] = "    at async f (/u?q:1:14)\nf@/js/v.js:1:14\n    at Object.f (/u:1:14)\n    at f (/w:1:14)\n";
+    smap_map map = read_map(main_map);
+    smap_names names = {0}, other = {0};
+    smap_code why = 9;
+    uint64_t size = 9;
+    done(smap_names_new(&map, BYTES(main_file), &names, &why), "names");
+    done(smap_names_share(&names, &other), "the same names");
+    smap_names_free(&names);
+    done(smap_names_size(&other, &size), "their size");
+    insist(size == 48, "that of one declaration");
+    smap_table table = {0};
+    done(smap_table_new(&table), "a table");
+    refused(smap_table_add_names(&table, BYTES("/u"), &other), "names where no map is");
+    done(smap_table_add_shared(&table, BYTES("/u"), &map, &why), "a map under a URL");
+    done(smap_table_add_shared(&table, BYTES("*v.js"), &map, &why), "a map under a pattern");
+    done(smap_table_add_shared(&table, BYTES("/w"), &map, &why), "a map without names");
+    refused(smap_table_add_names(&table, BYTES("*w.js"), &other), "names where no pattern is");
+    done(smap_table_add_names(&table, BYTES("/u"), &other), "names beside a map");
+    done(smap_table_add_names(&table, BYTES("*v.js"), &other), "names beside the map of a pattern");
+    refused(smap_table_add_names(&table, BYTES("/u"), &other), "names twice");
+    refused(smap_table_add_names(&table, BYTES("*v.js"), &other), "names of a pattern twice");
+    smap_bytes bytes = {0};
+    smap_trace_count count = {9, 9, 9, 9};
+    const smap_rewrite_options cut = {.cut = true};
+    done(smap_rewrite_with(&table, BYTES(trace), &cut, &bytes, &count), "a trace with names");
+    insist(counted(&count, 4, 4, 4), "the counts");
+    handed_out(&bytes, "    at async main (a.ts:1:1)\nmain@a.ts:1:1\n    at Object.f (a.ts:1:1)\n    at f (a.ts:1:1)\n");
+    done(smap_rewrite(&table, BYTES(trace), false, &bytes, &count), "a trace whose URLs are not cut");
+    handed_out(&bytes, "    at async f (/u?q:1:14)\nmain@a.ts:1:1\n    at Object.f (a.ts:1:1)\n    at f (a.ts:1:1)\n");
+    done(smap_rewrite_anywhere(&table, BYTES(trace), &bytes, &count), "places keep names");
+    handed_out(&bytes, "    at async f (a.ts:1:1)\nf@a.ts:1:1\n    at Object.f (a.ts:1:1)\n    at f (a.ts:1:1)\n");
+    /* Piece by piece the store is asked for what the table has not. */
+    smap_store store = {0};
+    done(smap_store_new(1000, &store), "a store");
+    done(smap_store_put_named(&store, BYTES("/x"), &other, 7), "a map and its names in it");
+    smap_names_free(&other);
+    smap_map_free(&map);
+    smap_rewriting_options options = frames_within(200);
+    smap_rewriting rewriting = given(options, "    at new f (/x:1:14)\n    at f (/u#a:1:14)\n");
+    smap_rewrite_refusal refusal = {9, 9};
+    done(smap_rewriting_end(&rewriting), "the end");
+    done(smap_rewriting_run(&rewriting, &table, &store, 0, &refusal), "all of it");
+    rewriting_lends(&rewriting, "    at new main (a.ts:1:1)\n    at main (a.ts:1:1)\n");
+    smap_rewriting_free(&rewriting);
+    smap_table_free(&table);
+    /* A map that is put alone has none. */
+    uint32_t no = 9;
+    done(smap_store_names(&store, BYTES("/x?v"), 0, &names), "the names of a map of the store");
+    done(smap_store_map(&store, BYTES("/x"), 0, &map, &no), "the map");
+    refused(smap_store_names(&store, BYTES("/y"), 0, &other), "no names where no map is");
+    done(smap_store_put(&store, BYTES("/x"), &map, 7), "a map alone");
+    refused(smap_store_names(&store, BYTES("/x"), 0, &other), "no names with it");
+    smap_text name = SMAP_TEXT;
+    done(smap_name_of(&names, BYTES("f"), 0, 13, &name), "they name as before");
+    insist(is(name, "main"), "a function");
+    rewriting = given(options, "    at f (/x:1:14)\n");
+    done(smap_rewriting_end(&rewriting), "the end");
+    done(run(&rewriting, &store, 9), "all of it");
+    rewriting_lends(&rewriting, "    at f (a.ts:1:1)\n");
+    smap_rewriting_free(&rewriting);
+    smap_names_free(&names);
+    smap_map_free(&map);
+    smap_store_free(&store);
+}
+
 static void locations(void) {
     smap_bytes path = {0};
     done(smap_is_location(BYTES("js/a.js")), "a location");
@@ -809,6 +879,7 @@ int main(void) {
     freed();
     locations();
     long_names();
+    named_frames();
     mappings();
     next_columns();
     originals();

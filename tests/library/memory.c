@@ -351,7 +351,7 @@ static void free_calls(void) {
     uint32_t place = smap_table_look_up(&table, url, sizeof url - 1, 0, 0, &options, &found, &source, &text);
     uint32_t file = smap_file(&outer, &text);
     smap_place_url found_url = {0};
-    statuses |= smap_name_of(&made_names, (const uint8_t *)"f", 1, 0, 13, &text);
+    statuses |= smap_name_of(&made_names, (const uint8_t *)"f", 1, 0, 13, &text) | smap_names_size(&made_names, &size);
     smap_names_free(&made_names);
     smap_map_free(&named);
     statuses |= smap_next_place_url(&made_finder, trace, sizeof trace - 1, 0, &found_url);
@@ -383,6 +383,13 @@ static uint32_t none_call(void) { return smap_store_put_none(&store, other_url, 
 static uint32_t none_again_call(void) { return smap_store_put_none(&store, url, sizeof url - 1, SMAP_MISSING, false, 0); }
 static uint32_t own_call(void) { return smap_store_put(&store, (const uint8_t *)"a.js?v", 6, &inner, 5); }
 static uint32_t map_call(void) { return smap_store_map(&store, url, sizeof url - 1, 0, &made, &why); }
+/* Names that the store has with the map of one more URL, and a table that has their map. */
+static const uint8_t names_url[] = "https://e.test/n.js";
+static smap_names put_names;
+static uint32_t put_named_call(void) { return smap_store_put_named(&store, other_url, sizeof other_url - 1, &put_names, 5); }
+static uint32_t store_names_call(void) { return smap_store_names(&store, names_url, sizeof names_url - 1, 0, &made_names); }
+static uint32_t share_names_call(void) { return smap_names_share(&put_names, &made_names); }
+static uint32_t add_names_call(void) { return smap_table_add_names(&table, base, sizeof base - 1, &put_names); }
 static uint32_t rewriting_new_call(void) { return smap_rewriting_new(&of_any_text, &made_rewriting); }
 static uint32_t give_call(void) { return smap_rewriting_give(&rewriting, trace, sizeof trace - 1); }
 static uint32_t run_call(void) {
@@ -398,6 +405,10 @@ static const struct store_call { const char *name; uint32_t (*make)(void); } sto
     {"smap_store_put_none in the place of a map", none_again_call},
     {"smap_store_put under a URL with a query", own_call},
     {"smap_store_map", map_call},
+    {"smap_store_put_named", put_named_call},
+    {"smap_store_names", store_names_call},
+    {"smap_names_share", share_names_call},
+    {"smap_table_add_names", add_names_call},
     {"smap_rewriting_new", rewriting_new_call},
     {"smap_rewriting_give", give_call},
     {"smap_rewriting_run", run_call},
@@ -422,8 +433,13 @@ static bool stored_without(const struct store_call *call, long number) {
     if (smap_store_new(1000000, &store) || smap_store_put(&store, url, sizeof url - 1, &outer, 7)) fail(call->name, "has no store");
     if (smap_store_put_none(&store, missing, sizeof missing - 1, SMAP_MISSING, false, 0)) fail(call->name, "has no none");
     if (smap_rewriting_new(&of_any_text, &rewriting) || smap_table_new(&table)) fail(call->name, "has no text");
+    if (read_named() || smap_names_new(&named, (const uint8_t *)named_file, sizeof named_file - 1, &put_names, &why) ||
+        smap_table_add_shared(&table, base, sizeof base - 1, &named, &why) ||
+        smap_store_put_named(&store, names_url, sizeof names_url - 1, &put_names, 3))
+        fail(call->name, "has no names");
     if (call->make == run_call && (give_call() || smap_rewriting_end(&rewriting))) fail(call->name, "is given nothing");
     made = (smap_map){0};
+    made_names = (smap_names){0};
     made_store = (smap_store){0};
     made_rewriting = (smap_rewriting){0};
     report_store(&before);
@@ -434,7 +450,7 @@ static bool stored_without(const struct store_call *call, long number) {
     bool was_refused = number >= 0 && asked > number;
     if (status == SMAP_NO_MEMORY) {
         if (!was_refused) fail(call->name, "is out of memory where none was refused");
-        if (made.at || made_store.at || made_rewriting.at) fail(call->name, "has filled a handle");
+        if (made.at || made_names.at || made_store.at || made_rewriting.at) fail(call->name, "has filled a handle");
         report_store(&after);
         if (call->make != run_call && !alike(&before, &after)) fail(call->name, "has changed the store");
         status = call->make();
@@ -444,11 +460,14 @@ static bool stored_without(const struct store_call *call, long number) {
     report_store(number < 0 ? &ample : &now);
     if (number >= 0 && !alike(&ample, &now)) fail(call->name, "has another answer");
     if (made.at) smap_map_free(&made);
+    if (made_names.at) smap_names_free(&made_names);
     if (made_store.at) smap_store_free(&made_store);
     if (made_rewriting.at) smap_rewriting_free(&made_rewriting);
     smap_store_free(&store);
     smap_rewriting_free(&rewriting);
     smap_table_free(&table);
+    smap_names_free(&put_names);
+    smap_map_free(&named);
     smap_map_free(&outer);
     smap_map_free(&inner);
     if (live != 0) fail(call->name, "leaks");

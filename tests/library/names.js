@@ -58,4 +58,39 @@ for (const place of [[1, 14, Buffer.from('fe')], [1, 14, null], [1, 14], ['1', 1
 for (const place of [[0, 14, 'fe'], [1, -1, 'fe']]) refuses('Error', () => map.functionName(...place), /must be greater/);
 for (const generated of [null, 7, ['a'], undefined]) refuses('TypeError', () => map.withGenerated(generated), /`generated` must be/);
 
+// Frames get the names of their functions, from a table, from maps and piece by piece: V8's, Firefox's, one of several names, one of which the
+// map says nothing, and one of another map.
+const TRACE = 'x\n    at async fe (/js/u.js:1:15)\nfe@/js/u.js?v:1:15\n    at Object.fe (/js/u.js:1:15)\n    at fe (/js/u.js:2:9)\n    at b (/js/u.js:1:36)\n';
+const NAMED = 'x\n    at async main (a.ts:1:1)\nmain@a.ts:1:1\n    at Object.fe (a.ts:1:1)\n    at fe (/js/u.js:2:9)\n    at b (a.ts:1:1)\n';
+const BARE = NAMED.replace(/main/g, 'fe');
+const read = (generated) => {
+  const map = new smap.TraceMap(MAP);
+  return generated === undefined ? map : map.withGenerated(generated);
+};
+for (const [url, generated, wanted] of [['/js/u.js', TEXT, NAMED], ['*u.js', TEXT, NAMED], ['/js/u.js', undefined, BARE], ['*u.js', undefined, BARE]]) {
+  const table = new smap.Table({ [url]: read(generated) });
+  same(String(smap.rewrite(table, TRACE)), wanted);
+  same(String(smap.rewrite(table, TRACE, { anywhere: true })), BARE);
+  same(table.counts, { lines: 6, places: 5, mapped: 4 });
+}
+const maps = new smap.Maps({ load: (url) => (url === '/js/u.js' ? read(TEXT) : null), maxBytes: 1 << 20 });
+same(String(smap.rewrite(maps, TRACE)), NAMED);
+same(named(maps.get('/js/u.js')), ['main', 'main', 'main', 'b']);
+const whole = maps.nbytes;
+same(smap.generatedPositionFor(maps.get('/js/u.js'), { source: 'a.ts', line: 1, column: 0 }).line, 1);
+same(maps.nbytes > whole, true);
+same(String(smap.rewrite(maps, TRACE)), NAMED);
+maps.add('/js/u.js', MAP);
+same(String(smap.rewrite(maps, TRACE)), BARE);
+const bare = maps.nbytes;
+maps.add('/js/u.js', MAP, { generated: TEXT });
+same(maps.nbytes > bare, true);
+same(String(smap.rewrite(maps, TRACE)), NAMED);
+refuses('Refused', () => maps.add('/js/u.js', MAP, { generated: 'function fe' }), /A4 Misfit/, { code: 'A4' });
+refuses('TypeError', () => maps.add('/js/u.js', MAP, { file: TEXT }), /no option here/);
+same(String(smap.rewrite(maps, TRACE)), NAMED);
+maps.maxBytes = 1 << 21;
+same(String(smap.rewrite(maps, TRACE)), NAMED);
+maps.close();
+
 console.log(`names ${checks}`);

@@ -1,9 +1,10 @@
 """Names of functions in Python: a map is given its generated file. What is expected is worked out by hand."""
 
+import asyncio
 import pathlib
 import tempfile
 
-from smap import Refused, SourceMap
+from smap import AsyncMaps, Maps, Refused, Rewriter, SourceMap
 
 # Line 0: `fe` was written as `main`, and `b` as it is; `c` is a property. Line 1: `fe` again, of which the map says nothing.
 TEXT = "function fe(){throw x}function b(){}o.c=()=>{}\nfe=()=>{}"
@@ -77,5 +78,47 @@ for asked in ((-1, 14, "fe"), (0, -1, "fe")):
     refuses(ValueError, lambda: source_map.function_name(*asked), "")
 for generated in (None, 7, ["a"]):
     refuses(TypeError, lambda: source_map.with_generated(generated), "generated file")
+
+# Frames get the names of their functions, from a rewriter and from maps: V8's, Firefox's, one of several names, one of which the map says
+# nothing, and one that was written as it is.
+TRACE = (b"x\n    at async fe (/js/u.js:1:15)\nfe@/js/u.js?v:1:15\n    at Object.fe (/js/u.js:1:15)\n    at fe (/js/u.js:2:9)\n"
+         b"    at b (/js/u.js:1:36)\n")
+NAMED = (b"x\n    at async main (a.ts:1:1)\nmain@a.ts:1:1\n    at Object.fe (a.ts:1:1)\n    at fe (/js/u.js:2:9)\n"
+         b"    at b (a.ts:1:1)\n")
+BARE = NAMED.replace(b"main", b"fe")
+
+for url in ("/js/u.js", "*u.js"):
+    for given, wanted in (((MAP, TEXT), NAMED), ((SourceMap(MAP), TEXT.encode()), NAMED), (SourceMap(MAP).with_generated(TEXT), NAMED), (MAP, BARE)):
+        with Rewriter({url: given}) as rewriter:
+            same(rewriter.rewrite(TRACE), wanted)
+            same(rewriter.rewrite(TRACE, anywhere=True), BARE)
+            same(rewriter.counts, {"lines": 6, "places": 5, "mapped": 4})
+alone = SourceMap(MAP)
+for load in (lambda url: (MAP, TEXT), lambda url: (alone, TEXT), lambda url: SourceMap(MAP).with_generated(TEXT)):
+    maps = Maps(load, max_bytes=1 << 20)
+    same(maps.rewrite(TRACE), NAMED)
+    same(named(maps.get("/js/u.js")), ["main", "main", "main", "b"])
+    whole = maps.nbytes
+    maps.get("/js/u.js").generated(0, 0, 0)
+    same(maps.nbytes > whole, True)
+    same(maps.rewrite(TRACE), NAMED)
+    maps.add("/js/u.js", MAP)
+    same(maps.rewrite(TRACE), BARE)
+    bare = maps.nbytes
+    maps.add("/js/u.js", MAP, generated=TEXT)
+    same(maps.nbytes > bare, True)
+    same(maps.rewrite(TRACE), NAMED)
+    refuses(Refused, lambda: maps.add("/js/u.js", MAP, generated="function fe"), "A4 Misfit", "A4")
+    same(maps.rewrite(TRACE), NAMED)
+refuses(ValueError, lambda: alone.function_name(0, 14, "fe"), "no generated file")
+
+
+async def rewrites():
+    async def load(url):
+        return MAP, TEXT
+
+    return await AsyncMaps(load, max_bytes=1 << 20).rewrite(TRACE)
+
+same(asyncio.run(rewrites()), NAMED)
 
 print("names", reported)

@@ -35,8 +35,8 @@ pub fn run<R: ByteSource, W: ByteSink, E: ByteSink>(
     requires input_works { (R.seen input.old).failed ≡ false }
     requires output_works { (W.seen output.old).failed ≡ false }
     requires errors_work { (E.seen errors.old).failed ≡ false }
-    ensures { (first : Option Code) × RunsTold (gives_loaded files.now) (causes_loaded files.now) false
-        command.now result
+    ensures { (first : Option Code) × RunsTold (gives_loaded files.now) (causes_loaded files.now)
+        false command.now result
         (streams_seen (R.seen input.old) (W.seen output.old) (E.seen errors.old) None)
         (streams_seen (R.seen input.new) (W.seen output.new) (E.seen errors.new) first) }
 {

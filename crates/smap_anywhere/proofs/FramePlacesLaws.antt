@@ -155,7 +155,7 @@ module _ (known : UrlsKnown) (frames : (line : List ℕ) → known.frame_url lin
 
   -- the place of the frame
   abbrev pub place : Span
-  place = record { start = start; url_end = end; end = end + size; line = parts.line; column = parts.column; is_halved = false }
+  place = record { frame_start = 0; start = start; url_end = end; end = end + size; line = parts.line; column = parts.column; is_halved = false }
 
   url_is : slice_range line start end ≡ parts.url
   url_is =

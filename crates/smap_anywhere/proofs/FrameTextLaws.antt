@@ -61,13 +61,13 @@ one_chunk text some one few =
 
 -- ---- what stands between places stays
 
-others_stay : (maps : MapsByUrl) (text : List ℕ) → parts_text maps (map other text) ≡ text
+pub others_stay : (maps : MapsByUrl) (text : List ℕ) → parts_text maps (map other text) ≡ text
 others_stay maps [] = refl
 others_stay maps (byte ∷ text) = ap (λ l. byte ∷ l) (others_stay maps text)
 
 -- ---- parts of a text
 
-slice_at : (front own rest : List ℕ) (from to : ℕ) → from ≡ length front → to ≡ length front + length own → slice_range (front ++ (own ++ rest)) from to ≡ own
+pub slice_at : (front own rest : List ℕ) (from to : ℕ) → from ≡ length front → to ≡ length front + length own → slice_range (front ++ (own ++ rest)) from to ≡ own
 slice_at front own rest from to begin end =
     let size : to - from ≡ length own = omega (arith, begin, end) in
     ap (λ n. take n (drop from (front ++ (own ++ rest)))) size
@@ -76,7 +76,7 @@ slice_at front own rest from to begin end =
 
 -- ---- what stands in a place's stead
 
-same_original : (parts : FrameParts) (stated : Option MapRecord) → text_in stated parts.line parts.column ≡ text_of_original (original_in parts stated)
+pub same_original : (parts : FrameParts) (stated : Option MapRecord) → text_in stated parts.line parts.column ≡ text_of_original (original_in parts stated)
 same_original parts None = refl
 same_original parts (Some stated) = refl
 
@@ -114,7 +114,7 @@ module _ (known : UrlsKnown) (frames : (line : List ℕ) → known.frame_url lin
   own = location_text parts.url parts.line parts.column
 
   -- what stands before the place, in it and behind it
-  joined : text ≡ parts.head ++ (own ++ (parts.tail ++ end_in line.is_ended))
+  pub joined : text ≡ parts.head ++ (own ++ (parts.tail ++ end_in line.is_ended))
   joined = ap (λ l. l ++ end_in line.is_ended) frame.joined ∙ simp append_assoc
 
   bounds : (nat_le (length line.bytes) most_line_bytes ≡ true) × (has_line_end line.bytes ≡ false)
@@ -133,13 +133,13 @@ module _ (known : UrlsKnown) (frames : (line : List ℕ) → known.frame_url lin
       go [] none few = absurd (none refl)
       go (byte ∷ url) none few = omega (arith, few)
 
-  is_chunk : cuts_of text ≡ chunk text ∷ []
+  pub is_chunk : cuts_of text ≡ chunk text ∷ []
   is_chunk =
       let size = length-append line.bytes (end_in line.is_ended) in
       one_chunk text (omega (arith, some, size)) (omega (arith, size, few_ends line.is_ended, bytes))
       (omega (arith, bytes, leb-true (length line.bytes) most_line_bytes bounds.0))
 
-  is_line : line_of text ≡ line.bytes
+  pub is_line : line_of text ≡ line.bytes
   is_line = ap (λ n. take n text) bytes ∙ take_at line.bytes (end_in line.is_ended) (length line.bytes) refl
 
   -- from which byte on it stands, and to which
@@ -149,14 +149,14 @@ module _ (known : UrlsKnown) (frames : (line : List ℕ) → known.frame_url lin
   abbrev stop : ℕ
   stop = length parts.head + length parts.url + (length (decimal parts.line) + length (decimal parts.column) + 2)
 
-  own_size : length own ≡ length parts.url + (length (decimal parts.line) + length (decimal parts.column) + 2)
+  pub own_size : length own ≡ length parts.url + (length (decimal parts.line) + length (decimal parts.column) + 2)
   own_size = simp length-append (omega arith)
 
-  before_is : slice_range text 0 start ≡ parts.head
+  pub before_is : slice_range text 0 start ≡ parts.head
   before_is =
       ap (λ l. slice_range l 0 start) joined ∙ slice_at [] parts.head (own ++ (parts.tail ++ end_in line.is_ended)) 0 start refl (omega arith)
 
-  url_is : slice_range text start (length parts.head + length parts.url) ≡ parts.url
+  pub url_is : slice_range text start (length parts.head + length parts.url) ≡ parts.url
   url_is =
       let rest = codes ":" ++ decimal parts.line ++ codes ":" ++ decimal parts.column ++ parts.tail ++ end_in line.is_ended in
       let parted : text ≡ parts.head ++ (parts.url ++ (codes ":" ++ decimal parts.line ++ codes ":" ++ decimal parts.column ++ parts.tail ++ end_in line.is_ended))
@@ -169,7 +169,7 @@ module _ (known : UrlsKnown) (frames : (line : List ℕ) → known.frame_url lin
       ap (λ l. slice_range l start stop) joined
       ∙ slice_at parts.head own (parts.tail ++ end_in line.is_ended) start stop refl (omega (arith, own_size))
 
-  behind_is : drop stop text ≡ parts.tail ++ end_in line.is_ended
+  pub behind_is : drop stop text ≡ parts.tail ++ end_in line.is_ended
   behind_is =
       let rest = parts.tail ++ end_in line.is_ended in
       ap (drop stop) (joined ∙ sym (append_assoc parts.head own rest))

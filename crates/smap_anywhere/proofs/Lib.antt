@@ -5,6 +5,7 @@ pub mod SeemingUrlsExamples
 pub mod CountLaws
 pub mod CountedLaws
 pub mod PartStepLaws
+pub mod GivenLaws
 pub mod PutLaws
 pub mod LineOfLaws
 pub mod CutLaws
@@ -14,6 +15,7 @@ pub mod ChunkPutLaws
 pub mod ThroughLaws
 pub mod RewritingLaws
 pub mod TextPartsLaws
+pub mod NamedLaws
 pub mod ChunkBegins
 pub mod PrintedLaws
 pub mod PartStates
@@ -23,6 +25,9 @@ pub mod KnownStrings
 pub mod StaysLaws
 pub mod FramePlacesLaws
 pub mod FrameTextLaws
+pub mod NamedTextLaws
+pub mod NamedFrameLaws
+pub mod NamedStates
 pub mod FrameFileLaws
 pub mod FramePlacesExamples
 pub mod FoundUrlLaws

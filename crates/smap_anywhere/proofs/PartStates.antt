@@ -58,7 +58,7 @@ place_stays state bytes (Some text) plain begin end stands =
       ap (λ s. past_all s text) here ∙ plain_between text (plain text refl) ∙ sym end,
     )
 
-stays_both : (state : InString) (bytes rest became later text : List ℕ) → Stays state bytes became → Stays (past_all state bytes) rest later
+pub stays_both : (state : InString) (bytes rest became later text : List ℕ) → Stays state bytes became → Stays (past_all state bytes) rest later
     → text ≡ became ++ later → Stays state (bytes ++ rest) text
 stays_both state bytes rest became later text one more is = (
   ap (all_may_stand state) is ∙ both_may_stand state became later ∙ ap (λ b. b && all_may_stand (past_all state became) later) one.0

@@ -1,5 +1,5 @@
 -- Lines without what all URLs begin with have no places, and are put as they are.
-use Rattle.std.proofs.Common.{◌≡◌, ◌+◌, ◌<◌, ◌≤◌, ℕ, Bool, false, List, [], ◌∷◌, ◌++◌, length, map, take, drop, get_or, Option, Some, None}
+use Rattle.std.proofs.Common.{◌≡◌, ◌+◌, ◌<◌, ◌≤◌, ℕ, Bool, true, false, List, [], ◌∷◌, ◌++◌, length, map, take, drop, get_or, Option, Some, None}
 use Rattle.std.proofs.Common.{refl, sym, ap, subst, ◌∙◌, arith, append_assoc, length-append}
 use Rattle.std.specs.Prelude.{IfSome, MatchOption}
 use Rattle.std.specs.List.{flat_map}
@@ -14,11 +14,12 @@ use Rattle.smap_pairs.specs.Chunks.Cut.{chunk, stays}
 use Rattle.smap_pairs.specs.Known.{AllBegin, IsNowhereIn, UrlsKnown}
 use Rattle.smap_pairs.specs.Laws.Chunks.{cuts_whole, lines_apart}
 use Rattle.smap_pairs.proofs.FrontLaws.{no_place, occurs_within}
-use Rattle.smap_record.specs.Record.{MapRecord}
 use Rattle.smap_trace.specs.NotesSeen.{notes_seen}
 use Rattle.smap_anywhere.specs.Parts.{other}
-use Rattle.smap_anywhere.specs.PartSteps.{MayBecome}
-use Rattle.smap_anywhere.specs.ChunkParts.{chunk_parts, cut_parts, cut_unknown, line_of, parts_by_spans}
+use Rattle.smap_anywhere.specs.PartSteps.{MayBecomeBy}
+use Rattle.smap_anywhere.specs.ChunkParts.{chunk_parts, cut_unknown, line_of, parts_by_spans, spans_of}
+use Rattle.smap_anywhere.specs.NamedParts.{cut_parts_by, named_by_spans}
+use Rattle.smap_anywhere.specs.Replaced.{Replacing}
 use Rattle.smap_anywhere.specs.SeemingUrls.{urls_seeming}
 use Rattle.smap_anywhere.specs.Private.ChunkWriter.{FailsToPutParts, IsCut, Passes, parts_behind}
 use Rattle.smap_anywhere.specs.Private.PartsWriter.{AreNoted, Becomes}
@@ -50,24 +51,30 @@ module _ (known : UrlsKnown) (front : List ℕ) (begin : AllBegin known front) w
   unfolding chunk_parts
   plain_chunk text none = ap (parts_by_spans text 0) (no_place known front (line_of text) begin (nowhere_taken text front _ none))
 
-  plain_cut : (cut : Cut) → IsNowhereIn (cut_bytes cut) front → cut_parts known cut ≡ map other (cut_bytes cut)
-  plain_cut (chunk text) none = plain_chunk text none
-  plain_cut (stays byte) none = refl
+  plain_named : (text : List ℕ) → IsNowhereIn text front → named_by_spans text 0 (spans_of known text) ≡ map other text
+  plain_named text none = ap (named_by_spans text 0) (no_place known front (line_of text) begin (nowhere_taken text front _ none))
 
-  plain_cuts : (cuts : List Cut) → IsNowhereIn (flat_map cut_bytes cuts) front → flat_map (cut_parts known) cuts ≡ map other (flat_map cut_bytes cuts)
-  plain_cuts [] none = refl
-  plain_cuts (cut ∷ cuts) none =
-      (λ i. plain_cut cut (nowhere_front (cut_bytes cut) (flat_map cut_bytes cuts) front none) i
-      ++ plain_cuts cuts (nowhere_behind (cut_bytes cut) (flat_map cut_bytes cuts) front none) i)
+  plain_cut : (is_named : Bool) (cut : Cut) → IsNowhereIn (cut_bytes cut) front → cut_parts_by is_named known cut ≡ map other (cut_bytes cut)
+  plain_cut false (chunk text) none = plain_chunk text none
+  plain_cut false (stays byte) none = refl
+  plain_cut true (chunk text) none = plain_named text none
+  plain_cut true (stays byte) none = refl
+
+  plain_cuts : (is_named : Bool) (cuts : List Cut) → IsNowhereIn (flat_map cut_bytes cuts) front
+      → flat_map (cut_parts_by is_named known) cuts ≡ map other (flat_map cut_bytes cuts)
+  plain_cuts is_named [] none = refl
+  plain_cuts is_named (cut ∷ cuts) none =
+      (λ i. plain_cut is_named cut (nowhere_front (cut_bytes cut) (flat_map cut_bytes cuts) front none) i
+      ++ plain_cuts is_named cuts (nowhere_behind (cut_bytes cut) (flat_map cut_bytes cuts) front none) i)
       ∙ sym (map_both (cut_bytes cut) (flat_map cut_bytes cuts))
     where
       map_both : (one more : List ℕ) → map other (one ++ more) ≡ map other one ++ map other more
       map_both [] more = refl
       map_both (byte ∷ one) more = ap (λ l. other byte ∷ l) (map_both one more)
 
-  pub plain_text : (text : List ℕ) → IsNowhereIn text front → flat_map (cut_parts known) (cuts_of text) ≡ map other text
-  plain_text text none =
-      plain_cuts (cuts_of text) (subst (λ l. IsNowhereIn l front) (sym (cuts_whole text)) none) ∙ ap (map other) (cuts_whole text)
+  pub plain_text : (is_named : Bool) (text : List ℕ) → IsNowhereIn text front → flat_map (cut_parts_by is_named known) (cuts_of text) ≡ map other text
+  plain_text is_named text none =
+      plain_cuts is_named (cuts_of text) (subst (λ l. IsNowhereIn l front) (sym (cuts_whole text)) none) ∙ ap (map other) (cuts_whole text)
 
 -- it stands nowhere before the first place where it is found
 nowhere_before : (text part : List ℕ) (found : ℕ) → 0 < length part → FindsNeedle text part 0 (Some found) → IsNowhereIn (take found text) part
@@ -79,26 +86,26 @@ nowhere_before text part found some first = λ at occurs.
 -- lines before the first place have none
 module _ (known : UrlsKnown) (text : List ℕ) (n : ℕ) where
   abbrev pub IsPlain : Type 0
-  IsPlain = flat_map (cut_parts known) (cuts_of (take n text)) ≡ map other (take n text)
+  IsPlain = (is_named : Bool) → flat_map (cut_parts_by is_named known) (cuts_of (take n text)) ≡ map other (take n text)
 
   abbrev pub IsFrontFound : (front : Option (List ℕ)) → (found : Option ℕ) → Type 0
   IsFrontFound front found = MatchOption front (found ≡ Some 0) (λ front. FindsNeedle text front 0 found)
 
   pub plain_all : (front : Option (List ℕ)) → IfSome front (AllBegin known) → IsFrontFound front None → IsPlain
-  plain_all None begin found = absurd (cc)
-  plain_all (Some front) begin none =
-      plain_text known front begin (take n text)
+  plain_all None begin found is_named = absurd (cc)
+  plain_all (Some front) begin none is_named =
+      plain_text known front begin is_named (take n text)
       (nowhere_taken text front n (λ at occurs. none at (omega arith) (omega (arith, occurs.fits)) occurs))
 
   pub plain_before : (front : Option (List ℕ)) (at : ℕ) → n ≤ at → IfSome front (AllBegin known) → IsFrontFound front (Some at) → IsPlain
   unfolding cuts_from
-  plain_before None at within begin found =
+  plain_before None at within begin found is_named =
       let first : at ≡ 0 = cc in
       let nothing : n ≡ 0 = omega (arith, within, first) in
-      ap (λ k. flat_map (cut_parts known) (cuts_of (take k text))) nothing ∙ ap (λ k. map other (take k text)) (sym nothing)
-  plain_before (Some front) at within begin found =
+      ap (λ k. flat_map (cut_parts_by is_named known) (cuts_of (take k text))) nothing ∙ ap (λ k. map other (take k text)) (sym nothing)
+  plain_before (Some front) at within begin found is_named =
       let less : take n (take at text) ≡ take n text = take-take n at text within in
-      plain_text known front begin (take n text) (subst (λ l. IsNowhereIn l front) less
+      plain_text known front begin is_named (take n text) (subst (λ l. IsNowhereIn l front) less
       (nowhere_taken (take at text) front n (nowhere_before text front at begin.some found)))
 
 -- ---- lines that are put as they are
@@ -113,18 +120,18 @@ lines_cut is_last text count within whole = record {
       ∙ lines_apart (take count text) (drop count text ++ later) whole;
 }
 
-module _ {W : Type 0} (seen : W → SinkSeen) (known : UrlsKnown) (before after : LineOutput W) (is_last : Bool) (text : List ℕ) (count : ℕ)
+module _ {W : Type 0} (seen : W → SinkSeen) (is_named : Bool) (known : UrlsKnown) (before after : LineOutput W) (is_last : Bool) (text : List ℕ) (count : ℕ)
     (within : count ≤ length text) (whole : IsWholeLines (take count text))
-    (plain : flat_map (cut_parts known) (cuts_of (take count text)) ≡ map other (take count text)) where
-  pub lines_pass : {M K : Type 0} (Finds : M → (url : List ℕ) → M → Type 0) (under : M → (url : List ℕ) → Option MapRecord) (old : ChunkWriter M K)
+    (plain : flat_map (cut_parts_by is_named known) (cuts_of (take count text)) ≡ map other (take count text)) where
+  pub lines_pass : {M K F : Type 0} (by : Replacing F) (Finds : M → (url : List ℕ) → M → Type 0) (under : M → (url : List ℕ) → F) (old : ChunkWriter M K)
       → old.is_broken ≡ false → old.writer.is_noted ≡ false → Puts seen before after (take count text)
-      → Passes Finds under seen known old old before after is_last text count
-  lines_pass Finds under old whole_chunk unnoted puts = record {
+      → Passes by Finds under seen is_named known old old before after is_last text count
+  lines_pass by Finds under old whole_chunk unnoted puts = record {
     cuts = cuts_of (take count text);
     cut = subst (λ b. IsCut b b is_last text count (cuts_of (take count text))) (sym whole_chunk) (lines_cut is_last text count within whole);
     put = record {
       text = take count text;
-      become = subst (λ parts. Becomes Finds under old.writer old.writer parts (take count text)) (sym plain) (becomes_others Finds under old.writer (take count text));
+      become = subst (λ parts. Becomes by Finds under old.writer old.writer parts (take count text)) (sym plain) (becomes_others by Finds under old.writer (take count text));
       others = subst (λ on. AreNoted on (flat_map (cut_unknown known urls_seeming) (cuts_of (take count text))) (notes_seen old.others.now) (notes_seen old.others.now))
           (sym unnoted) refl;
       puts = puts;
@@ -133,13 +140,13 @@ module _ {W : Type 0} (seen : W → SinkSeen) (known : UrlsKnown) (before after 
     few_mapped = omega arith;
   }
 
-  pub lines_fail : (Allows : (url : List ℕ) → Option MapRecord → Type 0) → ((url : List ℕ) → (stated : Option MapRecord) × Allows url stated)
+  pub lines_fail : {F : Type 0} (by : Replacing F) → (Allows : (url : List ℕ) → F → Type 0) → ((url : List ℕ) → (one : F) × Allows url one)
       → (is_broken : Bool) → is_broken ≡ false → FailsToPut seen before after (take count text)
-      → FailsToPutParts Allows seen before after (parts_behind known is_broken text)
-  lines_fail Allows some is_broken whole_chunk fails =
-      subst (λ b. FailsToPutParts Allows seen before after (parts_behind known b text)) (sym whole_chunk)
-      (fails_with Allows some seen known before after false false is_last text count (cuts_of (take count text)) (lines_cut is_last text count within whole) (record {
+      → FailsToPutParts by Allows seen before after (parts_behind is_named known is_broken text)
+  lines_fail by Allows some is_broken whole_chunk fails =
+      subst (λ b. FailsToPutParts by Allows seen before after (parts_behind is_named known b text)) (sym whole_chunk)
+      (fails_with by Allows some seen is_named known before after false false is_last text count (cuts_of (take count text)) (lines_cut is_last text count within whole) (record {
         text = take count text;
-        may = subst (λ parts. MayBecome Allows parts (take count text)) (sym plain) (may_others Allows (take count text));
+        may = subst (λ parts. MayBecomeBy by Allows parts (take count text)) (sym plain) (may_others by Allows (take count text));
         fails = fails;
       }))

@@ -13,15 +13,15 @@ use Rattle.smap_lines.specs.Lines.{IsWholeLines, has_line_end}
 use Rattle.smap_pairs.specs.Chunks.{Cut, IsCutOfLine, cut_bytes, cuts_from, cuts_of}
 use Rattle.smap_pairs.specs.Chunks.Cut.{chunk, stays}
 use Rattle.smap_pairs.specs.Laws.Chunks.{cuts_in_lines, cuts_whole, lines_apart}
-use Rattle.smap_record.specs.Record.{MapRecord}
 use Rattle.smap_trace.specs.Noted.{AreNotesIf, AreNotesOf, nothing_noted}
 use Rattle.smap_trace.specs.Rewriting.{Looked}
 use Rattle.smap_trace.specs.UrlNotes.{NamingSeen, NotesSeen}
 use Rattle.smap_anywhere.specs.Parts.{Part}
-use Rattle.smap_anywhere.specs.PartSteps.{MayBecome, PlacesNow, places_start}
+use Rattle.smap_anywhere.specs.PartSteps.{MayBecomeBy, PlacesNow, places_start}
 use Rattle.smap_anywhere.specs.Private.ChunkWriter.{IsCut}
 use Rattle.smap_anywhere.specs.Private.PartsWriter.{AreNoted}
 use Rattle.smap_anywhere.specs.Private.Passage.{IsThrough, Passage, passage_now}
+use Rattle.smap_anywhere.specs.Replaced.{Replacing}
 use Rattle.smap_anywhere.proofs.PartStepLaws.{IsGiven, IsSame, Steps, became_may, looked_before, may_apart, may_both, may_wider, some_text, steps_behind}
 use Rattle.smap_anywhere.proofs.PartStepLaws.{steps_both, steps_looked}
 
@@ -97,12 +97,12 @@ lines_within front window first rest none is whole = ⊎_elim
         let deeper = before_last front line tail in
         (deeper.0, λ i. head i ∷ deeper.1 i)
 
-module _ {M : Type 0} (Finds : M → (url : List ℕ) → M → Type 0) (under : M → (url : List ℕ) → Option MapRecord) (parts : Cut → List Part)
+module _ {M F : Type 0} (by : Replacing F) (Finds : M → (url : List ℕ) → M → Type 0) (under : M → (url : List ℕ) → F) (parts : Cut → List Part)
     (unknown : Cut → List NamingSeen) (old : M) where
   -- ---- the beginning, and bytes that are read
 
   pub through_start : (taken : Option (List ℕ)) (on : Bool) (notes others : NotesSeen) → notes ≡ nothing_noted → others ≡ nothing_noted →
-      IsThrough Finds under parts unknown old taken [] (record {
+      IsThrough by Finds under parts unknown old taken [] (record {
         window = [];
         is_broken = false;
         maps = old;
@@ -127,8 +127,8 @@ module _ {M : Type 0} (Finds : M → (url : List ℕ) → M → Type 0) (under :
     few_mapped = omega arith;
   }
 
-  module _ (before : Option (List ℕ)) (front : List ℕ) (now : Passage M) (is : IsThrough Finds under parts unknown old before front now) where
-    pub through_read : (more : List ℕ) → IsThrough Finds under parts unknown old before front (record {
+  module _ (before : Option (List ℕ)) (front : List ℕ) (now : Passage M) (is : IsThrough by Finds under parts unknown old before front now) where
+    pub through_read : (more : List ℕ) → IsThrough by Finds under parts unknown old before front (record {
       window = now.window ++ more;
       is_broken = now.is_broken;
       maps = now.maps;
@@ -155,24 +155,24 @@ module _ {M : Type 0} (Finds : M → (url : List ℕ) → M → Type 0) (under :
     }
 
     pub through_looked : Looked Finds old now.maps
-    through_looked = steps_looked Finds under (places_start old) (passage_now now is.text is.namings) (flat_map parts is.cuts) is.steps
+    through_looked = steps_looked by Finds under (places_start old) (passage_now now is.text is.namings) (flat_map parts is.cuts) is.steps
 
     -- ---- more of it is cut, and what became of that was written
 
     module _ (broken_then is_last : Bool) (count : ℕ) (cuts : List Cut) (cut : IsCut now.is_broken broken_then is_last now.window count cuts)
         (maps : M) (places mapped : ℕ) (taken : Option (List ℕ)) (text : List ℕ) (namings : List NamingSeen)
-        (steps : Steps Finds under (passage_now now [] []) (flat_map parts cuts)
+        (steps : Steps by Finds under (passage_now now [] []) (flat_map parts cuts)
         (record { maps = maps; text = text; places = places; mapped = mapped; namings = namings })) (took : Takes now.taken taken text) where
       abbrev pub then_now : PlacesNow M
       then_now = record { maps = maps; text = is.text ++ text; places = places; mapped = mapped; namings = is.namings ++ namings }
 
-      pub both_steps : Steps Finds under (places_start old) (flat_map parts (is.cuts ++ cuts)) then_now
+      pub both_steps : Steps by Finds under (places_start old) (flat_map parts (is.cuts ++ cuts)) then_now
       both_steps =
-          subst (λ l. Steps Finds under (places_start old) l then_now) (sym (flat_map-append parts is.cuts cuts))
-          (steps_both Finds under (places_start old) (passage_now now is.text is.namings) then_now (flat_map parts is.cuts) (flat_map parts cuts) is.steps
-          (subst (λ l. Steps Finds under (passage_now now l is.namings) (flat_map parts cuts) then_now) (append-nil is.text)
-          (subst (λ l. Steps Finds under (passage_now now (is.text ++ []) l) (flat_map parts cuts) then_now) (append-nil is.namings)
-          (steps_behind Finds under is.text is.namings (passage_now now [] [])
+          subst (λ l. Steps by Finds under (places_start old) l then_now) (sym (flat_map-append parts is.cuts cuts))
+          (steps_both by Finds under (places_start old) (passage_now now is.text is.namings) then_now (flat_map parts is.cuts) (flat_map parts cuts) is.steps
+          (subst (λ l. Steps by Finds under (passage_now now l is.namings) (flat_map parts cuts) then_now) (append-nil is.text)
+          (subst (λ l. Steps by Finds under (passage_now now (is.text ++ []) l) (flat_map parts cuts) then_now) (append-nil is.namings)
+          (steps_behind by Finds under is.text is.namings (passage_now now [] [])
           (record { maps = maps; text = text; places = places; mapped = mapped; namings = namings }) (flat_map parts cuts) steps))))
 
       pub took_both : Takes before taken (is.text ++ text)
@@ -193,7 +193,7 @@ module _ {M : Type 0} (Finds : M → (url : List ℕ) → M → Type 0) (under :
 
         -- the bytes of it are let go
         pub through_written : is_last ≡ false → places ≤ now.places + count → mapped ≤ now.mapped + count
-            → IsThrough Finds under parts unknown old before (front ++ take count now.window) (record {
+            → IsThrough by Finds under parts unknown old before (front ++ take count now.window) (record {
               window = drop count now.window;
               is_broken = broken_then;
               maps = maps;
@@ -236,11 +236,11 @@ module _ {M : Type 0} (Finds : M → (url : List ℕ) → M → Type 0) (under :
 
     -- ---- a call fails
 
-    module _ (Gives : M → (url : List ℕ) → Option MapRecord → Type 0)
-        (some : (maps : M) (url : List ℕ) → (stated : Option MapRecord) × Gives maps url stated) (given : IsGiven Gives Finds under)
+    module _ (Gives : M → (url : List ℕ) → F → Type 0)
+        (some : (maps : M) (url : List ℕ) → (one : F) × Gives maps url one) (given : IsGiven Gives Finds under)
         (same : IsSame Gives Finds) where
-      written_may : MayBecome (Gives old) (flat_map parts is.cuts) is.text
-      written_may = became_may Gives Finds same under given old (passage_now now is.text is.namings) (flat_map parts is.cuts) 0 0 is.steps
+      written_may : MayBecomeBy by (Gives old) (flat_map parts is.cuts) is.text
+      written_may = became_may by Gives Finds same under given old (passage_now now is.text is.namings) (flat_map parts is.cuts) 0 0 is.steps
 
       abbrev rest : List Cut
       rest = cuts_from 0 now.is_broken now.window
@@ -254,29 +254,29 @@ module _ {M : Type 0} (Finds : M → (url : List ℕ) → M → Type 0) (under :
       whole = ap (flat_map parts) whole_cuts ∙ flat_map-append parts is.cuts rest
 
       -- a read fails, or gives too much
-      pub through_front : (later : List ℕ) × MayBecome (Gives old) (flat_map parts (cuts_of (front ++ now.window))) (is.text ++ later)
+      pub through_front : (later : List ℕ) × MayBecomeBy by (Gives old) (flat_map parts (cuts_of (front ++ now.window))) (is.text ++ later)
       through_front =
-          let more = some_text (Gives old) (some old) (flat_map parts rest) in
-          let both = may_both (Gives old) (flat_map parts is.cuts) (flat_map parts rest) is.text more.0 written_may more.1 in
-          (more.0, subst (λ l. MayBecome (Gives old) l (is.text ++ more.0)) (sym whole) both)
+          let more = some_text by (Gives old) (some old) (flat_map parts rest) in
+          let both = may_both by (Gives old) (flat_map parts is.cuts) (flat_map parts rest) is.text more.0 written_may more.1 in
+          (more.0, subst (λ l. MayBecomeBy by (Gives old) l (is.text ++ more.0)) (sym whole) both)
 
       -- a write fails
-      pub through_fails : (text : List ℕ) (taken : Option (List ℕ)) → MayBecome (Gives now.maps) (flat_map parts rest) text → TakesFront now.taken taken text →
-          (written : List ℕ) × (later : List ℕ) × MayBecome (Gives old) (flat_map parts (cuts_of (front ++ now.window))) (written ++ later) × Takes before taken written
+      pub through_fails : (text : List ℕ) (taken : Option (List ℕ)) → MayBecomeBy by (Gives now.maps) (flat_map parts rest) text → TakesFront now.taken taken text →
+          (written : List ℕ) × (later : List ℕ) × MayBecomeBy by (Gives old) (flat_map parts (cuts_of (front ++ now.window))) (written ++ later) × Takes before taken written
       through_fails text taken may took =
-          let here = may_wider (Gives now.maps) (Gives old) (looked_before Gives Finds same old now.maps through_looked) (flat_map parts rest) text may in
+          let here = may_wider by (Gives now.maps) (Gives old) (looked_before by Gives Finds same old now.maps through_looked) (flat_map parts rest) text may in
           let joined : is.text ++ text ≡ (is.text ++ took.0) ++ took.1 = ap (λ l. is.text ++ l) took.2 ∙ sym (append_assoc is.text took.0 took.1) in (
             is.text ++ took.0,
             took.1,
-            subst (λ l. MayBecome (Gives old) l ((is.text ++ took.0) ++ took.1)) (sym whole)
-                (subst (MayBecome (Gives old) (flat_map parts is.cuts ++ flat_map parts rest)) joined
-                (may_both (Gives old) (flat_map parts is.cuts) (flat_map parts rest) is.text text written_may here)),
+            subst (λ l. MayBecomeBy by (Gives old) l ((is.text ++ took.0) ++ took.1)) (sym whole)
+                (subst (MayBecomeBy by (Gives old) (flat_map parts is.cuts ++ flat_map parts rest)) joined
+                (may_both by (Gives old) (flat_map parts is.cuts) (flat_map parts rest) is.text text written_may here)),
             takes_both before now.taken taken is.text took.0 is.taken took.3,
           )
 
       -- what was written holds all of what whole lines became
       pub through_whole : has_line_end now.window ≡ false → (first rest : List ℕ) → front ++ now.window ≡ first ++ rest → IsWholeLines first
-          → (text : List ℕ) × (more : List ℕ) × MayBecome (Gives old) (flat_map parts (cuts_of first)) text × (is.text ≡ text ++ more)
+          → (text : List ℕ) × (more : List ℕ) × MayBecomeBy by (Gives old) (flat_map parts (cuts_of first)) text × (is.text ≡ text ++ more)
       through_whole none first behind cut_is lines =
           let within = lines_within front now.window first behind none cut_is lines in
           let bytes : flat_map cut_bytes is.cuts ≡ flat_map cut_bytes (cuts_of first) ++ within.0 =
@@ -285,6 +285,6 @@ module _ {M : Type 0} (Finds : M → (url : List ℕ) → M → Type 0) (under :
           (sym (lines_apart first behind lines) ∙ ap cuts_of (sym cut_is) ∙ whole_cuts) bytes in
           let apart : flat_map parts is.cuts ≡ flat_map parts (cuts_of first) ++ flat_map parts lasts.0 =
           ap (flat_map parts) lasts.1 ∙ flat_map-append parts (cuts_of first) lasts.0 in
-          let two = may_apart (Gives old) (flat_map parts (cuts_of first)) (flat_map parts lasts.0) is.text
-          (subst (λ l. MayBecome (Gives old) l is.text) apart written_may) in
+          let two = may_apart by (Gives old) (flat_map parts (cuts_of first)) (flat_map parts lasts.0) is.text
+          (subst (λ l. MayBecomeBy by (Gives old) l is.text) apart written_may) in
           (two.0, two.1, two.2, two.4)

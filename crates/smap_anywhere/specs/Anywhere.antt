@@ -14,7 +14,8 @@ use Rattle.smap_trace.specs.Rewriting.{counts_seen}
 use Rattle.smap_trace.specs.UrlNotes.{NamingSeen, NotesSeen}
 use Rattle.smap_trace.specs.declared.outcome.Summary.{Summary}
 use Rattle.smap_anywhere.specs.Parts.{Part}
-use Rattle.smap_anywhere.specs.PartSteps.{MayBecome, PartStep, PlacesNow, places_start}
+use Rattle.smap_anywhere.specs.PartSteps.{MayBecomeBy, PartStep, PlacesNow, places_start}
+use Rattle.smap_anywhere.specs.Replaced.{Replacing, by_maps}
 use Rattle.smap_anywhere.specs.declared.notes.PlaceNotes.{PlaceNotes}
 
 -- what is asked: the parts of a text, how many bytes are taken at most, and whether it is noted what became of the URLs that its
@@ -31,14 +32,14 @@ AreNone notes = (notes_seen notes.named ≡ nothing_noted) × (notes_seen notes.
 
 -- all that the input had, which is at most so many bytes, was read, and what its parts became one after another was written, and
 -- nothing else; and these are the notes of what its places named, and of others
-pub record RewritesAnywhere {M : Type 0} (Finds : M → (url : List ℕ) → M → Type 0) (under : M → (url : List ℕ) → Option MapRecord) (asked : PlacesAsked)
-    (before after : DevicesSeen) (old new : M) (summary : Summary) (named others : NotesSeen) : Type 0 where
+pub record RewritesAnywhereOver {M F : Type 0} (by : Replacing F) (Finds : M → (url : List ℕ) → M → Type 0) (under : M → (url : List ℕ) → F)
+    (asked : PlacesAsked) (before after : DevicesSeen) (old new : M) (summary : Summary) (named others : NotesSeen) : Type 0 where
   pub bytes : List ℕ
   pub last : PlacesNow M
   pub read : Gives before.input.left after.input.left bytes
   pub ended : IsAtEnd after.input.left
   pub fits : length bytes ≤ asked.most_bytes
-  pub steps : FoldsTo (PartStep Finds under) (places_start old) (asked.parts bytes) last
+  pub steps : FoldsTo (PartStep by Finds under) (places_start old) (asked.parts bytes) last
   pub maps : last.maps ≡ new
   pub written : Takes before.output.taken after.output.taken last.text
   pub counted : counts_seen summary ≡ record { lines = length (lines_with_ends bytes); frames = last.places; mapped = last.mapped; hidden = 0 }
@@ -47,13 +48,23 @@ pub record RewritesAnywhere {M : Type 0} (Finds : M → (url : List ℕ) → M �
 
 -- these bytes were read, and a front of a text that they may become was written; they are more than so many where that is
 -- the fault, and only there; where a read failed, all of a text that their whole lines may become
-pub record RewritesAnywhereFront (Allows : (url : List ℕ) → Option MapRecord → Type 0) (asked : PlacesAsked) (before after : DevicesSeen) (fault : LineFault) : Type 0 where
+pub record RewritesAnywhereFrontOver {F : Type 0} (by : Replacing F) (Allows : (url : List ℕ) → F → Type 0) (asked : PlacesAsked)
+    (before after : DevicesSeen) (fault : LineFault) : Type 0 where
   pub bytes : List ℕ
   pub written : List ℕ
   pub later : List ℕ
   pub read : Gives before.input.left after.input.left bytes
   pub taken : Takes before.output.taken after.output.taken written
-  pub front : MayBecome Allows (asked.parts bytes) (written ++ later)
+  pub front : MayBecomeBy by Allows (asked.parts bytes) (written ++ later)
   pub many : (fault ≡ TooMuch) ↔ (asked.most_bytes < length bytes)
   pub whole : fault ≡ Read → (first rest : List ℕ) → bytes ≡ first ++ rest → IsWholeLines first
-      → (text : List ℕ) × (more : List ℕ) × MayBecome Allows (asked.parts first) text × (written ≡ text ++ more)
+      → (text : List ℕ) × (more : List ℕ) × MayBecomeBy by Allows (asked.parts first) text × (written ≡ text ++ more)
+
+-- ---- the same where functions keep their names
+
+abbrev pub RewritesAnywhere : {M : Type 0} → (Finds : M → (url : List ℕ) → M → Type 0) → (under : M → (url : List ℕ) → Option MapRecord) → PlacesAsked
+    → (before after : DevicesSeen) → (old new : M) → Summary → (named others : NotesSeen) → Type 0
+RewritesAnywhere = RewritesAnywhereOver by_maps
+
+abbrev pub RewritesAnywhereFront : (Allows : (url : List ℕ) → Option MapRecord → Type 0) → PlacesAsked → (before after : DevicesSeen) → LineFault → Type 0
+RewritesAnywhereFront = RewritesAnywhereFrontOver by_maps

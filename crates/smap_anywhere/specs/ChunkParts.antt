@@ -1,6 +1,6 @@
 -- The places of a text, wherever they stand, over URLs that are known (this project's own): those of each chunk that it is cut into,
 -- as a line by itself. Every other byte belongs to none.
-use Rattle.std.specs.Prelude.{ℕ, ◌-◌, ◌||◌, Bool, false, List, [], ◌∷◌, ◌++◌, drop, if◌then◌else◌, map, take}
+use Rattle.std.specs.Prelude.{ℕ, ◌-◌, ◌||◌, Bool, false, List, [], ◌∷◌, ◌++◌, drop, None, if◌then◌else◌, map, take}
 use Rattle.std.specs.List.{flat_map, slice_range}
 use Rattle.smap_locations.specs.Paths.{without_query}
 use Rattle.smap_pairs.specs.Chunks.{Cut, chunk, cuts_of, line_bytes, stays}
@@ -16,7 +16,7 @@ use Rattle.smap_trace.specs.UrlNotes.{NamingSeen}
 
 -- the place that stands there, where it has this URL
 abbrev pub place_with : (url : List ℕ) → Span → PlaceUrl
-place_with url span = record { url = url; line = span.line; column = span.column; size = span.end - span.start }
+place_with url span = record { url = url; line = span.line; column = span.column; size = span.end - span.start; function = None }
 
 -- the place that stands there in a chunk
 abbrev pub place_of_span : (text : List ℕ) → Span → PlaceUrl

@@ -7,6 +7,8 @@ pub mod Replaced
 pub mod FramePlaces
 pub mod PartSteps
 pub mod ChunkParts
+pub mod NamedParts
+pub mod Renamed
 pub mod FoundUrls
 pub mod Counted
 pub mod Anywhere

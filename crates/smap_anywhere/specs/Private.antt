@@ -6,3 +6,4 @@ pub mod PartsWriter
 pub mod ChunkWriter
 pub mod Passage
 pub mod UrlFinder
+pub mod FunctionPut

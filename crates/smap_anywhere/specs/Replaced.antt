@@ -35,6 +35,15 @@ text_in (Some stated) line column = text_of_original (original_at stated line co
 unfoldable pub replacement : (map : Option MapRecord) → PlaceUrl → Option (List ℕ)
 replacement map place = text_in map place.line place.column
 
+-- what is found under a URL: what stands in the stead of a place by it, and whether it is a map
+pub record Replacing (F : Type 0) : Type 0 where
+  pub text : F → PlaceUrl → Option (List ℕ)
+  pub has : F → Bool
+
+-- a map, or none
+abbrev pub by_maps : Replacing (Option MapRecord)
+by_maps = record { text = replacement; has = is_some }
+
 -- ---- a text
 
 -- what becomes of a part of a text, where these are the maps of URLs

@@ -1,12 +1,14 @@
 //! A text that is cut into chunks while it is read, and what becomes of each, written as soon as it is decided.
 ghost use Rattle.std.specs.Prelude.{◌≡◌, ◌<◌, ◌≤◌, ◌+◌, ◌^◌, [], IfOk, OnErr, OnOk, drop, length, suc};
-ghost use Rattle.smap_anywhere.specs.ChunkParts.{chunk_parts, has_any, line_of, place_of_span, spans_of, unknown_among, unless_any};
+ghost use Rattle.smap_anywhere.specs.ChunkParts.{has_any, line_of, place_of_span, spans_of, unknown_among, unless_any};
+ghost use Rattle.smap_anywhere.specs.NamedParts.{cut_parts_by, found_by, gives_by, replacing};
 ghost use Rattle.smap_anywhere.specs.Private.ChunkWriter.{FailsToPutParts, HasRoom, IsSameChunkWriter};
 ghost use Rattle.smap_anywhere.specs.Private.ChunkWriter.{IsUndecided, Passes, PutsParts, Writes, parts_behind};
 ghost use Rattle.smap_anywhere.specs.Private.PartsWriter.{AddsNotes, AreNoted};
 ghost use Rattle.smap_anywhere.specs.SeemingUrls.{urls_seeming};
 ghost use Rattle.smap_lines.specs.Limits.{most_line_bytes};
 ghost use Rattle.smap_lines.specs.LineOutput.{IsSameOutput};
+ghost use Rattle.smap_pairs.specs.Chunks.Cut.{chunk};
 ghost use Rattle.smap_pairs.specs.Chunks.{IsInOneLine};
 ghost use Rattle.smap_pairs.specs.LinePlaces.{span_url};
 ghost use Rattle.smap_pairs.specs.Spans.{AreSpansInOrder};
@@ -50,7 +52,8 @@ impl<M: Maps, K: KnownUrls> ChunkWriter<'_, '_, '_, '_, '_, M, K> {
         ensures same { IsSameChunkWriter self.old self.new }
         ensures same_output { IsSameOutput output.old output.new }
         ensures looked { Looked M.Finds self.old.writer.maps.now self.new.writer.maps.now }
-        ensures writes { IfOk result (λ count. Writes M.Finds M.found W.seen
+        ensures writes { IfOk result (λ count. Writes (replacing M.names_any)
+            M.Finds (found_by M.names_any M.found M.names) W.seen M.names_any
             (K.known self.old.known.now) self.old self.new output.old output.new
             is_last text.now count) }
         ensures undecided { IfOk result (λ count. IsUndecided is_last (drop count text.now)) }
@@ -58,9 +61,10 @@ impl<M: Maps, K: KnownUrls> ChunkWriter<'_, '_, '_, '_, '_, M, K> {
         ensures no_failure { OnOk result
             ((W.seen output.new.sink.now).failed ≡ (W.seen output.old.sink.now).failed) }
 
-        ensures fails { OnErr result (FailsToPutParts (M.Gives self.old.writer.maps.now) W.seen
-            output.old output.new
-            (parts_behind (K.known self.old.known.now) self.old.is_broken text.now)) }
+        ensures fails { OnErr result (FailsToPutParts (replacing M.names_any)
+            (gives_by M.names_any (M.Gives self.old.writer.maps.now)
+            (M.GivesNames self.old.writer.maps.now)) W.seen output.old output.new
+            (parts_behind M.names_any (K.known self.old.known.now) self.old.is_broken text.now)) }
     {
         let mut done = 0;
         loop {
@@ -87,14 +91,16 @@ impl<M: Maps, K: KnownUrls> ChunkWriter<'_, '_, '_, '_, '_, M, K> {
         requires countable_mapped { self.old.writer.mapped + length text.now < 2 ^ 64 }
         ensures same { IsSameChunkWriter self.old self.new }
         ensures looked { Looked M.Finds self.old.writer.maps.now self.new.writer.maps.now }
-        ensures passes { IfOk result (λ count. Passes M.Finds M.found W.seen
+        ensures passes { IfOk result (λ count. Passes (replacing M.names_any)
+            M.Finds (found_by M.names_any M.found M.names) W.seen M.names_any
             (K.known self.old.known.now) self.old self.new output.old output.new
             is_last text.now count) }
         ensures undecided { IfOk result (λ count. count ≡ 0 → IsUndecided is_last text.now) }
 
-        ensures fails { OnErr result (FailsToPutParts (M.Gives self.old.writer.maps.now) W.seen
-            output.old output.new
-            (parts_behind (K.known self.old.known.now) self.old.is_broken text.now)) }
+        ensures fails { OnErr result (FailsToPutParts (replacing M.names_any)
+            (gives_by M.names_any (M.Gives self.old.writer.maps.now)
+            (M.GivesNames self.old.writer.maps.now)) W.seen output.old output.new
+            (parts_behind M.names_any (K.known self.old.known.now) self.old.is_broken text.now)) }
     {
         if self.is_broken {
             let bytes = staying_bytes(text);
@@ -131,8 +137,9 @@ impl<M: Maps, K: KnownUrls> ChunkWriter<'_, '_, '_, '_, '_, M, K> {
         ensures same { IsSameChunkWriter self.old self.new }
         ensures same_broken { self.new.is_broken ≡ self.old.is_broken }
         ensures looked { Looked M.Finds self.old.writer.maps.now self.new.writer.maps.now }
-        ensures puts { OnOk result (PutsParts M.Finds M.found W.seen self.old self.new
-            output.old output.new (chunk_parts (K.known self.old.known.now) text.now)
+        ensures puts { OnOk result (PutsParts (replacing M.names_any) M.Finds
+            (found_by M.names_any M.found M.names) W.seen self.old self.new output.old output.new
+            (cut_parts_by M.names_any (K.known self.old.known.now) (chunk text.now))
             (unknown_among (K.known self.old.known.now) text.now
             (spans_of urls_seeming text.now))) }
         ensures few_places { OnOk result
@@ -140,8 +147,10 @@ impl<M: Maps, K: KnownUrls> ChunkWriter<'_, '_, '_, '_, '_, M, K> {
         ensures few_mapped { OnOk result
             (self.new.writer.mapped ≤ self.old.writer.mapped + length text.now) }
 
-        ensures fails { OnErr result (FailsToPutParts (M.Gives self.old.writer.maps.now) W.seen
-            output.old output.new (chunk_parts (K.known self.old.known.now) text.now)) }
+        ensures fails { OnErr result (FailsToPutParts (replacing M.names_any)
+            (gives_by M.names_any (M.Gives self.old.writer.maps.now)
+            (M.GivesNames self.old.writer.maps.now)) W.seen output.old output.new
+            (cut_parts_by M.names_any (K.known self.old.known.now) (chunk text.now))) }
     {
         let line = line_of(text);
         find(self.places, self.known, line);

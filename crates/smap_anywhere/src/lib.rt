@@ -13,6 +13,7 @@
 mod chunk_line;
 mod chunk_writer;
 mod counting;
+mod frame_function;
 mod frame_url;
 pub mod laws;
 mod lengths;

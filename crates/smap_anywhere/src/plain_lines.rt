@@ -1,7 +1,7 @@
 //! Lines without a place, which need not be looked at.
-ghost use Rattle.std.specs.Prelude.{◌≡◌, ◌≤◌, length, map, take};
+ghost use Rattle.std.specs.Prelude.{◌≡◌, ◌≤◌, Bool, length, map, take};
 ghost use Rattle.std.specs.List.{flat_map};
-ghost use Rattle.smap_anywhere.specs.ChunkParts.{cut_parts};
+ghost use Rattle.smap_anywhere.specs.NamedParts.{cut_parts_by};
 ghost use Rattle.smap_anywhere.specs.Parts.{other};
 ghost use Rattle.smap_lines.specs.Lines.{IsWholeLines};
 ghost use Rattle.smap_pairs.specs.Chunks.{cuts_of};
@@ -13,7 +13,8 @@ use smap_pairs::KnownUrls;
 pub fn plain_lines<K: KnownUrls>(known: &K, text: &[u8]) -> usize
     ensures within { result ≤ length text.now }
     ensures whole { IsWholeLines (take result text.now) }
-    ensures plain { flat_map (cut_parts (K.known known.now)) (cuts_of (take result text.now))
+    ensures plain { (is_named : Bool) →
+        flat_map (cut_parts_by is_named (K.known known.now)) (cuts_of (take result text.now))
         ≡ map other (take result text.now) }
 {
     match known.find_front(text) {

@@ -1,7 +1,8 @@
 //! Rewriting the places of a text.
 ghost use Rattle.std.specs.Prelude.{◌≡◌, ◌<◌, ◌^◌, false, length, suc, IfErr, IfOk, OnErr};
-ghost use Rattle.smap_anywhere.specs.Anywhere.{AreNone, RewritesAnywhere, RewritesAnywhereFront};
+ghost use Rattle.smap_anywhere.specs.Anywhere.{AreNone, RewritesAnywhereFrontOver, RewritesAnywhereOver};
 ghost use Rattle.smap_anywhere.specs.Asked.{asked_seen};
+ghost use Rattle.smap_anywhere.specs.NamedParts.{found_by, gives_by, replacing};
 ghost use Rattle.smap_lines.specs.Limits.{most_line_bytes};
 ghost use Rattle.smap_lines.specs.RunEnds.{RunEnds};
 ghost use Rattle.smap_lines.specs.declared.fault.LineFault.TheVariants.{Memory};
@@ -34,8 +35,9 @@ pub struct PlaceOptions<'k, K: KnownUrls> {
 }
 
 /// Rewrites a text while it is read: a place, wherever it stands, whose URL is known and that has an original gets it in its
-/// stead, and every other byte stays. The map of its URL is looked for when the place is met. The summary counts places as
-/// frames; none is hidden. A text of more than `most_bytes` bytes is refused when more were read. The caller gives devices
+/// stead, and the function of its frame, where it is that of one, the name that is known to be written for it; and every
+/// other byte stays. The map of its URL is looked for when the place is met. The summary counts places as frames; none is
+/// hidden. A text of more than `most_bytes` bytes is refused when more were read. The caller gives devices
 /// that have not failed, and notes without any. The output is not flushed.
 ///
 /// All room is made before the first read. What became of each line that was read was written before more is read. The
@@ -54,9 +56,12 @@ pub fn rewrite_anywhere<R: ByteSource, W: ByteSink, M: Maps, K: KnownUrls>(
     requires most_bytes { options.now.most_bytes < 2 ^ 63 }
     requires unnoted { AreNone notes.old }
     ensures ends { RunEnds R.seen W.seen input.old input.new output.old output.new
-        (λ before after summary. RewritesAnywhere M.Finds M.found (asked_seen K.known options.now)
+        (λ before after summary. RewritesAnywhereOver (replacing M.names_any) M.Finds
+        (found_by M.names_any M.found M.names) (asked_seen M.names_any K.known options.now)
         before after maps.old maps.new summary (notes_seen notes.new.named) (notes_seen notes.new.others))
-        (RewritesAnywhereFront (M.Gives maps.old) (asked_seen K.known options.now)) result }
+        (RewritesAnywhereFrontOver (replacing M.names_any)
+        (gives_by M.names_any (M.Gives maps.old) (M.GivesNames maps.old))
+        (asked_seen M.names_any K.known options.now)) result }
     ensures notes_stay { OnErr result (notes.new ≡ notes.old) }
     ensures looked { Looked M.Finds maps.old maps.new }
     ensures memory_maps { IfErr result (λ fault. fault ≡ Memory → maps.new ≡ maps.old) }

@@ -30,10 +30,6 @@ many_hidden_line = codes "usage: more than 16 --hide" ++ 10 ∷ []
 abbrev pub hidden_anywhere_line : Text
 hidden_anywhere_line = codes "usage: not together: --hide, --anywhere" ++ 10 ∷ []
 
--- frames get the names that were written, beside places anywhere in a line
-abbrev pub names_anywhere_line : Text
-names_anywhere_line = codes "usage: not together: --names, --anywhere" ++ 10 ∷ []
-
 module _ {A : Type 0} (maps : List (String A × String A)) where
   -- a pair is of all URLs
   abbrev pub has_any_url : Bool
@@ -46,5 +42,4 @@ module _ {A : Type 0} (maps : List (String A × String A)) where
       else (if not options.anywhere then None
       else (if hide_ignored then Some both_flags_line
       else (if not (vec_len options.hide == 0) then Some hidden_anywhere_line
-      else (if options.names then Some names_anywhere_line
-      else (if has_any_url then Some any_url_line else None))))))
+      else (if has_any_url then Some any_url_line else None)))))

@@ -123,7 +123,8 @@ Answer: the trace, line by line. In a frame of V8, Firefox or Safari whose URL h
 the original one; the rest of the line stays, and so does each other line, byte for byte. With --hide-ignored
 the lines of frames from sources that a map says to pass over are left out, and with --hide those from sources
 whose printed names have TEXT in them. With --anywhere each place URL:LINE:COLUMN whose URL
-has a map becomes the original one, wherever it stands in a line.
+has a map becomes the original one, wherever it stands in a line; with --names too, functions
+of frames that are a line, or one of a string of JSON, are named.
 
 With --explain standard error says at the end of each URL that the text names which map it has, or why it has none.
 
@@ -352,7 +353,7 @@ pub const PATHS_OF_SOURCES_HELP: &str =
 
 pub const NAMES_HELP: &str = "\
 Name functions as they were written, where the generated file beside a map, FILE without its
-last `.map`, says it; not with --anywhere";
+last `.map`, says it";
 
 pub const LOCATED_NAMES_HELP: &str = "\
 Answer the function behind a TAB as it was written, where the generated file beside a map,

@@ -21,8 +21,6 @@ pub const MANY_HIDDEN: &str = "usage: more than 16 --hide\n";
 
 pub const HIDDEN_ANYWHERE: &str = "usage: not together: --hide, --anywhere\n";
 
-pub const NAMES_ANYWHERE: &str = "usage: not together: --names, --anywhere\n";
-
 /// Standard error: a URL is `*` alone, which each place has, as times of day are.
 pub const ANY_URL: &str = "usage: not together: *=FILE, --anywhere\n";
 

@@ -7,7 +7,7 @@ ghost use Rattle.smap_arguments.specs.Excludes.{excluded_line, has_any_url, is_a
 ghost use Rattle.smap_arguments.specs.Refusals.{IsNamedRefusal, ReportsBadWord, ReportsRewrite, bad_missing_line};
 
 use crate::mistakes::{
-    ANY_URL, BAD_MISSING, BASE_AND_PATHS, BOTH_FLAGS, HIDDEN_ANYWHERE, MANY_HIDDEN, NAMES_ANYWHERE,
+    ANY_URL, BAD_MISSING, BASE_AND_PATHS, BOTH_FLAGS, HIDDEN_ANYWHERE, MANY_HIDDEN,
 };
 use crate::pairs::maps_in;
 use crate::usage::Usage;
@@ -76,8 +76,6 @@ fn excluded_line(
         Some(BOTH_FLAGS)
     } else if !options.hide.is_empty() {
         Some(HIDDEN_ANYWHERE)
-    } else if options.names {
-        Some(NAMES_ANYWHERE)
     } else if has_any_url(maps) {
         Some(ANY_URL)
     } else {

@@ -7,11 +7,7 @@ use Rattle.std.specs.Result.{IfErr, IfOk}
 use Rattle.std.proofs.lemmas.Bool.{cond-false, cond-true}
 use Rattle.smap_locations.specs.ByText.{value_under}
 use Rattle.smap_io.specs.Device.{Gives, Takes}
-use Rattle.smap_lines.specs.Edited.{IsEdited}
 use Rattle.smap_lines.specs.Editing.{DevicesSeen}
-use Rattle.smap_lines.specs.Lines.{Line}
-use Rattle.smap_lines.specs.Laws.OneText.{Only, edited_is}
-use Rattle.smap_lines.specs.Laws.Step.{edited_wider}
 use Rattle.smap_lines.specs.Limits.{most_text_bytes}
 use Rattle.smap_lines.specs.declared.fault.LineFault.{LineFault}
 use Rattle.smap_lines.specs.declared.fault.LineFault.TheVariants.{Memory, TooMuch}
@@ -23,20 +19,20 @@ use Rattle.smap_anywhere.specs.Laws.AnywhereBy.{anywhere_by}
 use Rattle.smap_anywhere.specs.PartSteps.{MayBe, MayBecome}
 use Rattle.smap_anywhere.specs.Replaced.{part_text, parts_text, replacement}
 use Rattle.smap_anywhere.specs.Parts.{Part, found, other}
-use Rattle.smap_store.specs.UrlTable.{UrlTableSeen, map_by_pattern, map_of_cut, map_under}
+use Rattle.smap_store.specs.Laws.NamedOf.{front_named_by, rewrites_named_by}
+use Rattle.smap_store.specs.NamedOf.{RewritesNamedBy, counts_named, rewritten_named}
+use Rattle.smap_store.specs.UrlTable.{UrlTableSeen, map_by_pattern, map_of_cut, map_under, named_by_url, names_under}
 use Rattle.smap_store.specs.declared.url_maps.UrlMaps.{UrlMaps}
-use Rattle.smap_trace.specs.Frame.{FrameParts}
-use Rattle.smap_trace.specs.FrameOf.{frame_of}
-use Rattle.smap_trace.specs.Hiding.{HidingSeen, only_ignored}
-use Rattle.smap_trace.specs.MapsOf.{MapsByUrl, RewritesBy, counts_by, fate_by, line_by, rewritten_by}
-use Rattle.smap_trace.specs.Rewriting.{BecomesFrame, RewritesFrontOver, RewritesOver, frames_alone}
-use Rattle.smap_trace.specs.Rewritten.{Fate, MayMeet, fate_at, line_after, original_in}
-use Rattle.smap_trace.specs.Laws.MapsOf.{rewrites_by}
+use Rattle.smap_trace.specs.Hiding.{only_ignored}
+use Rattle.smap_trace.specs.FunctionNames.{FunctionNames}
+use Rattle.smap_trace.specs.MapsOf.{MapsByUrl}
+use Rattle.smap_trace.specs.Rewriting.{RewritesNamed, RewritesNamedFront, frames_alone}
 use Rattle.smap_trace.specs.UrlNotes.{NotesSeen}
 use Rattle.smap_trace.specs.declared.outcome.RewriteCounts.{RewriteCounts}
 use Rattle.smap_trace.specs.declared.outcome.Summary.{Summary}
 use Rattle.smap_c.specs.Private.Rewriting.{EndsRewriting, HasFront, IsRewritten, IsTooMuch}
 use Rattle.smap_c.specs.Trace.{place_counts_by, placed_by, places_asked, text_of, urls_of}
+use Rattle.smap_c.specs.declared.place_maps.PlaceMaps.{PlaceMaps}
 use Rattle.smap_c.specs.declared.trace.RewriteOptions.{RewriteOptions}
 
 module _ (table : UrlTableSeen) (cut : Bool) where
@@ -46,6 +42,9 @@ module _ (table : UrlTableSeen) (cut : Bool) where
   abbrev url_found : UrlMaps → (url : List ℕ) → Option MapRecord
   url_found maps url = map_under maps.cut maps.table.now url
 
+  abbrev url_names : UrlMaps → (url : List ℕ) → Option FunctionNames
+  url_names maps url = names_under maps.cut maps.table.now url
+
   -- those stay
   abbrev IsOver : UrlMaps → Type 0
   IsOver maps = (maps.table.now ≡ table) × (maps.cut ≡ cut)
@@ -53,44 +52,40 @@ module _ (table : UrlTableSeen) (cut : Bool) where
   over_found : (maps : UrlMaps) (url : List ℕ) → IsOver maps → url_found maps url ≡ map_under cut table url
   over_found maps url is = λ i. map_under (is.1 i) (is.0 i) url
 
+  over_names : (maps : UrlMaps) (url : List ℕ) → IsOver maps → url_names maps url ≡ names_under cut table url
+  over_names maps url is = λ i. names_under (is.1 i) (is.0 i) url
+
   over_next : (old new : UrlMaps) → new ≡ old → IsOver old → IsOver new
   over_next old new same is = (ap (λ m. m.table.now) same ∙ is.0, ap (λ m. m.cut) same ∙ is.1)
 
   -- so a trace becomes what those make of it
   pub rewrites_table : (hide : Bool) (before after : DevicesSeen) (old new : UrlMaps) (counts : RewriteCounts) (notes : NotesSeen) → IsOver old
-      → RewritesOver UrlFinds url_found (frames_alone (only_ignored hide) most_text_bytes) before after old new counts notes
-      → RewritesBy (map_under cut table) (only_ignored hide) most_text_bytes before after counts
+      → RewritesNamed UrlFinds url_found url_names (frames_alone (only_ignored hide) most_text_bytes) before after old new counts notes
+      → RewritesNamedBy (named_by_url cut table) (only_ignored hide) most_text_bytes before after counts
   rewrites_table hide before after old new counts notes is all =
-      rewrites_by UrlFinds url_found (map_under cut table) (λ maps. ⊤) IsOver (λ old new url finds good. tt)
-      (λ old new url finds good is. let stays = over_next old new finds is in (over_found new url stays, stays))
-      (frames_alone (only_ignored hide) most_text_bytes) before after old new counts notes all tt is
+      rewrites_named_by UrlFinds url_found url_names (named_by_url cut table) IsOver
+      (λ old new url finds is. let stays = over_next old new finds is in (over_found new url stays, over_names new url stays, stays))
+      (frames_alone (only_ignored hide) most_text_bytes) before after old new counts notes all is
 
-  -- ---- places
+-- ---- places
 
-  -- and a text by its places
-  pub places_table : (before after : DevicesSeen) (old new : UrlMaps) (summary : Summary) (named others : NotesSeen) → IsOver old
-      → RewritesAnywhere UrlFinds url_found (places_asked table) before after old new summary named others
-      → RewritesAnywhereBy (map_under cut table) (parts_in (urls_of table)) most_text_bytes before after summary
+module _ (table : UrlTableSeen) where
+  abbrev PlaceFinds : PlaceMaps → (url : List ℕ) → PlaceMaps → Type 0
+  PlaceFinds maps url after = after ≡ maps
+
+  abbrev place_found : PlaceMaps → (url : List ℕ) → Option MapRecord
+  place_found maps url = map_under true maps.table.now url
+
+  -- a text becomes by its places what those make of it
+  pub places_table : (before after : DevicesSeen) (old new : PlaceMaps) (summary : Summary) (named others : NotesSeen) → old.table.now ≡ table
+      → RewritesAnywhere PlaceFinds place_found (places_asked table) before after old new summary named others
+      → RewritesAnywhereBy (map_under true table) (parts_in (urls_of table)) most_text_bytes before after summary
   places_table before after old new summary named others is all =
-      anywhere_by UrlFinds url_found (map_under cut table) (λ maps. ⊤) IsOver (λ old new url finds good. tt)
-      (λ old new url finds good is. let stays = over_next old new finds is in (over_found new url stays, stays))
+      anywhere_by PlaceFinds place_found (map_under true table) (λ maps. ⊤) (λ maps. maps.table.now ≡ table) (λ old new url finds good. tt)
+      (λ old new url finds good is. let stays = ap (λ m. m.table.now) finds ∙ is in (ap (λ t. map_under true t url) stays, stays))
       (places_asked table) before after old new summary named others all tt is
 
 -- ---- a front of a text
-
-module _ (maps : MapsByUrl) (hide : HidingSeen) where
-  may_meet : (parts : Option FrameParts) (met : Fate) → MayMeet (λ url stated. stated ≡ maps url) hide parts met → met ≡ fate_by maps hide parts
-  may_meet None met may = may
-  may_meet (Some parts) met may = may.2 ∙ ap (λ found. fate_at hide parts (original_in parts found)) may.1
-
-  becomes_by : (line : Line) (text : List ℕ) → BecomesFrame (λ url stated. stated ≡ maps url) hide line text → text ≡ line_by maps hide line
-  becomes_by line text may = may.2 ∙ ap (line_after line) (may_meet (frame_of line.bytes) may.0 may.1)
-
-  -- what lines may become over these maps is what they make of them
-  frames_by : (bytes text : List ℕ) → IsEdited (BecomesFrame (λ url stated. stated ≡ maps url) hide) bytes text → text ≡ rewritten_by maps hide bytes
-  frames_by bytes text is =
-      edited_is (line_by maps hide) bytes text
-      (edited_wider (BecomesFrame (λ url stated. stated ≡ maps url) hide) (Only (line_by maps hide)) becomes_by bytes text is)
 
 module _ (maps : MapsByUrl) (Allows : (url : List ℕ) → Option MapRecord → Type 0)
     (allowed : (url : List ℕ) (stated : Option MapRecord) → Allows url stated → stated ≡ maps url) where
@@ -165,17 +160,17 @@ module _ (options : RewriteOptions) (table : UrlTableSeen) (read written : List 
       all_taken written made (subst (λ o. Takes o (Some written) made) empty (subst (λ o. Takes before.output.taken o made) full takes))
 
   pub frames_are : (counts : RewriteCounts) → options.anywhere ≡ false
-      → RewritesBy (map_under options.cut table) (only_ignored options.hide_ignored) most_text_bytes before after counts
+      → RewritesNamedBy (named_by_url options.cut table) (only_ignored options.hide_ignored) most_text_bytes before after counts
       → IsRewritten options table read written counts.summary
   frames_are counts by_frames is =
-      let maps = map_under options.cut table in
+      let maps = named_by_url options.cut table in
       let hide = only_ignored options.hide_ignored in
       let all : is.bytes ≡ read = all_read is.bytes is.edits.read is.edits.ended in
       record {
-        text_is = all_written (rewritten_by maps hide is.bytes) is.edits.written ∙ ap (rewritten_by maps hide) all
-            ∙ sym (cond-false options.anywhere (placed_by table read) (rewritten_by maps hide read) by_frames);
-        counted = is.counted ∙ ap (counts_by maps hide) all
-            ∙ sym (cond-false options.anywhere (place_counts_by table read) (counts_by maps hide read) by_frames);
+        text_is = all_written (rewritten_named maps hide is.bytes) is.edits.written ∙ ap (rewritten_named maps hide) all
+            ∙ sym (cond-false options.anywhere (placed_by table read) (rewritten_named maps hide read) by_frames);
+        counted = is.counted ∙ ap (counts_named maps hide) all
+            ∙ sym (cond-false options.anywhere (place_counts_by table read) (counts_named maps hide read) by_frames);
         fits = subst (λ l. length l ≤ most_text_bytes) all is.edits.fits;
       }
 
@@ -188,9 +183,9 @@ module _ (options : RewriteOptions) (table : UrlTableSeen) (read written : List 
       let all : is.bytes ≡ read = all_read is.bytes is.read is.ended in
       record {
         text_is = all_written (placed_by table is.bytes) is.written ∙ ap (placed_by table) all
-            ∙ sym (cond-true options.anywhere (placed_by table read) (rewritten_by (map_under options.cut table) hide read) anywhere);
+            ∙ sym (cond-true options.anywhere (placed_by table read) (rewritten_named (named_by_url options.cut table) hide read) anywhere);
         counted = is.counted ∙ ap (place_counts_by table) all
-            ∙ sym (cond-true options.anywhere (place_counts_by table read) (counts_by (map_under options.cut table) hide read) anywhere);
+            ∙ sym (cond-true options.anywhere (place_counts_by table read) (counts_named (named_by_url options.cut table) hide read) anywhere);
         fits = subst (λ l. length l ≤ most_text_bytes) all is.fits;
       }
 
@@ -198,10 +193,12 @@ module _ (options : RewriteOptions) (table : UrlTableSeen) (read written : List 
   front_read bytes gives = given_front read bytes after.input.left (subst (λ o. Gives o after.input.left bytes) at_first gives)
 
   pub frames_front : (fault : LineFault) → options.anywhere ≡ false
-      → RewritesFrontOver (λ url stated. stated ≡ map_under options.cut table url) (only_ignored options.hide_ignored) most_text_bytes before after fault
+      → RewritesNamedFront (λ url stated. stated ≡ map_under options.cut table url)
+      (λ url stated written. (stated ≡ map_under options.cut table url) × (written ≡ names_under options.cut table url))
+      true (only_ignored options.hide_ignored) most_text_bytes before after fault
       → IsTooMuch read fault × HasFront options table read written
   frames_front fault by_frames is =
-      let maps = map_under options.cut table in
+      let maps = named_by_url options.cut table in
       let hide = only_ignored options.hide_ignored in
       let front = front_read is.bytes is.read in (
         too_much read before.input.left after.input.left at_first is.bytes is.read fault is.many.0,
@@ -210,8 +207,10 @@ module _ (options : RewriteOptions) (table : UrlTableSeen) (read written : List 
           rest = front.0;
           later = is.later;
           is_front = front.1;
-          made = cond-false options.anywhere (placed_by table is.bytes) (rewritten_by maps hide is.bytes) by_frames
-              ∙ sym (frames_by maps hide is.bytes (is.written ++ is.later) is.front)
+          made = cond-false options.anywhere (placed_by table is.bytes) (rewritten_named maps hide is.bytes) by_frames
+              ∙ sym (front_named_by (λ url stated. stated ≡ map_under options.cut table url)
+              (λ url stated written. (stated ≡ map_under options.cut table url) × (written ≡ names_under options.cut table url))
+              maps hide (λ url stated written is. is) is.bytes (is.written ++ is.later) is.front)
               ∙ ap (λ w. w ++ is.later) (sym (all_written is.written is.taken));
         },
       )
@@ -230,7 +229,7 @@ module _ (options : RewriteOptions) (table : UrlTableSeen) (read written : List 
           rest = front.0;
           later = is.later;
           is_front = front.1;
-          made = cond-true options.anywhere (placed_by table is.bytes) (rewritten_by (map_under options.cut table) hide is.bytes) anywhere
+          made = cond-true options.anywhere (placed_by table is.bytes) (rewritten_named (named_by_url options.cut table) hide is.bytes) anywhere
               ∙ sym (parts_by maps (λ url stated. stated ≡ map_under true table url) (λ url stated is. is)
               (parts_in (urls_of table) is.bytes) (is.written ++ is.later) is.front)
               ∙ ap (λ w. w ++ is.later) (sym (all_written is.written is.taken));

@@ -1,7 +1,6 @@
 -- What contracts of private functions alone cite.
 pub mod Base
 pub mod FirstLine
-pub mod Lending
 pub mod Places
 pub mod Rewriting
 pub mod Unread

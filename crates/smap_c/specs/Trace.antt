@@ -13,9 +13,9 @@ use Rattle.smap_anywhere.specs.SeemingUrls.{urls_seeming}
 use Rattle.smap_pairs.specs.Known.{UrlsKnown}
 use Rattle.smap_anywhere.specs.Replaced.{is_place, is_replaced, parts_text}
 use Rattle.smap_io.specs.Sequences.{without_sequences}
-use Rattle.smap_store.specs.UrlTable.{UrlTableSeen, locations_of, map_under}
+use Rattle.smap_store.specs.NamedOf.{counts_named, rewritten_named}
+use Rattle.smap_store.specs.UrlTable.{UrlTableSeen, locations_of, map_under, named_by_url}
 use Rattle.smap_trace.specs.Hiding.{only_ignored}
-use Rattle.smap_trace.specs.MapsOf.{counts_by, rewritten_by}
 use Rattle.smap_trace.specs.Rewritten.{Counts}
 use Rattle.smap_c.specs.Codes.{code_number}
 use Rattle.smap_c.specs.declared.trace.RewriteOptions.{RewriteOptions}
@@ -62,10 +62,11 @@ has_map_of_all table = is_some (value_under [] table.patterns)
 abbrev pub text_read : RewriteOptions → (text : List ℕ) → List ℕ
 text_read options text = if options.strip_ansi then without_sequences text else text
 
--- what becomes of what is read: by its places anywhere, or by its frames, whose URLs may be cut or not
+-- what becomes of what is read: by its places anywhere, or by its frames, whose URLs may be cut or not, with the names of functions
 abbrev pub text_of : RewriteOptions → UrlTableSeen → (read : List ℕ) → List ℕ
 text_of options table read =
-    if options.anywhere then placed_by table read else rewritten_by (map_under options.cut table) (only_ignored options.hide_ignored) read
+    if options.anywhere then placed_by table read
+    else rewritten_named (named_by_url options.cut table) (only_ignored options.hide_ignored) read
 
 abbrev pub text_with : RewriteOptions → UrlTableSeen → (text : List ℕ) → List ℕ
 text_with options table text = text_of options table (text_read options text)
@@ -73,7 +74,8 @@ text_with options table text = text_of options table (text_read options text)
 -- and what is counted
 abbrev pub counts_of : RewriteOptions → UrlTableSeen → (read : List ℕ) → Counts
 counts_of options table read =
-    if options.anywhere then place_counts_by table read else counts_by (map_under options.cut table) (only_ignored options.hide_ignored) read
+    if options.anywhere then place_counts_by table read
+    else counts_named (named_by_url options.cut table) (only_ignored options.hide_ignored) read
 
 abbrev pub counts_with : RewriteOptions → UrlTableSeen → (text : List ℕ) → Counts
 counts_with options table text = counts_of options table (text_read options text)

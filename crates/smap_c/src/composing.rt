@@ -7,7 +7,7 @@ ghost use Rattle.smap_c.specs.Inners.{is_free, map_at, no_maps, stated_maps, who
 ghost use Rattle.smap_c.specs.Steps.{text_in};
 ghost use Rattle.smap_c.specs.Written.{compose_number};
 
-use crate::handles::{BytesHandle, InnersHandle, MapHandle};
+use crate::handles::{BytesHandle, Holder, InnersHandle, MapHandle};
 use crate::inners::Inners;
 use crate::status::{DONE, NO_MEMORY, REFUSED};
 use crate::written::{hand_out, not_composed};

@@ -2,7 +2,7 @@
 ghost use Rattle.std.specs.Prelude.{◌≡◌, IfSome, IsSome};
 ghost use Rattle.smap_c.specs.Counts.{counts_of};
 
-use crate::handles::MapHandle;
+use crate::handles::{Holder, MapHandle};
 use crate::status::DONE;
 
 /// How much a map holds. Each section's lines are counted by themselves.

@@ -5,7 +5,7 @@ ghost use Rattle.smap_c.specs.DebugId.{IsIdHandedOut};
 ghost use Rattle.smap_c.specs.Read.{IsReadWithin, IsRefusedWithin};
 
 use crate::bytes::Bytes;
-use crate::handles::{BytesHandle, MapHandle};
+use crate::handles::{BytesHandle, Holder, MapHandle};
 use crate::read::{ReadFault, read_map};
 use crate::refusal::Refusal;
 use crate::status::{DONE, NO_MEMORY, REFUSED};
@@ -66,7 +66,7 @@ fn hand_out_both(
     ensures status { (result ≡ 0) ⊎ (result ≡ 3) }
 {
     let Some(found) = found else {
-        let Ok(handle) = MapHandle::new(alloc, read) else {
+        let Ok(handle) = MapHandle::of_map(alloc, read) else {
             return NO_MEMORY;
         };
         *map = handle;
@@ -77,7 +77,7 @@ fn hand_out_both(
     let Ok(mut text) = BytesHandle::new(alloc, Bytes { bytes }) else {
         return NO_MEMORY;
     };
-    let Ok(handle) = MapHandle::new(alloc, read) else {
+    let Ok(handle) = MapHandle::of_map(alloc, read) else {
         text.empty(alloc);
         return NO_MEMORY;
     };
@@ -96,7 +96,8 @@ pub extern "C" fn smap_bytes_put_debug_id(alloc: Global, bytes: &mut BytesHandle
     ensures refused { result ≡ 1 → IfSome bytes.old.held (λ text.
         (length text ≡ 0) ⊎ (IsUtf8 id.now → ⊥)) }
     ensures sound { IsUtf8 id.now → IfSome bytes.old.held (λ text. 0 < length text → result ≢ 1) }
-    ensures taken { result ≡ 0 → IsUtf8 id.now × IsSomeAnd bytes.old.held (λ text. 0 < length text) }
+    ensures taken { result ≡ 0 → IsUtf8 id.now ×
+        IsSomeAnd bytes.old.held (λ text. 0 < length text) }
     ensures stays { result ≢ 0 → bytes.new.held ≡ bytes.old.held }
     ensures status { (result ≡ 0) ⊎ (result ≡ 1) ⊎ (result ≡ 3) }
 {

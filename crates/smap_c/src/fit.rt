@@ -6,7 +6,7 @@ ghost use Rattle.smap_c.specs.Fit.{counts_of_fit};
 ghost use Rattle.smap_c.specs.Shares.{IsTextRefused};
 
 use crate::codes::code_number;
-use crate::handles::MapHandle;
+use crate::handles::{Holder, MapHandle};
 use crate::status::{DONE, NO_MEMORY, REFUSED};
 use smap_codes::Code;
 use smap_fit::{Fit, fit_of};

@@ -1,6 +1,6 @@
 //! What C holds: handles, each a pointer that owns a map, a table, a store, a rewriting, inner maps, originals, names of
 //! functions, a finder of URLs or bytes.
-ghost use Rattle.std.specs.Prelude.{◌≡◌, List, ℕ, Option, Some, IfErr, IfOk};
+ghost use Rattle.std.specs.Prelude.{◌≡◌, List, ℕ, Option, Some, IfOk};
 ghost use Rattle.std.specs.Coded.{coded_option};
 ghost use Rattle.smap_record.specs.MapFile.{Map};
 ghost use Rattle.smap_anywhere.specs.FoundUrls.{FinderSeen};
@@ -21,19 +21,12 @@ ghost use Rattle.smap_c.specs.contracts.names.NamedFunctions as named_functions;
 ghost use Rattle.smap_c.specs.declared.names.NamedFunctions.{NamedFunctions};
 ghost use Rattle.smap_c.specs.Owned.{owns_held};
 
+mod holder;
 mod lending;
-mod making;
 
-use crate::bytes::Bytes;
-use crate::inners::Inners;
-use crate::loose::Loose;
-use crate::names::NamedFunctions;
-use smap_anywhere::UrlFinder;
-use smap_originals::Originals;
-use smap_piecewise::{KeptMaps, Rewriting};
-use smap_record::SharedMap;
-use smap_store::UrlTable;
-use std::alloc::Global;
+pub(crate) use holder::Holder;
+use smap_record::{MapFile, SharedMap};
+use std::alloc::{AllocError, Global};
 use std::marker::{Model, Send};
 
 /// A handle of a map, or an empty one.
@@ -51,12 +44,11 @@ impl Model for MapHandle {
 unsafe impl Send for MapHandle {}
 
 impl MapHandle {
-    // The handle of this map.
-    fn of(loose: Loose<SharedMap, Global>) -> MapHandle
-        ensures { result.held ≡ Some loose.value }
+    /// The handle of a map that nothing else holds.
+    pub(crate) fn of_map(alloc: Global, map: MapFile) -> Result<MapHandle, AllocError>
+        ensures { IfOk result (λ handle. handle.held ≡ Some map) }
     {
-        let Loose { at, alloc: _ } = loose;
-        MapHandle { at: at as *mut u8 }
+        Ok(MapHandle::new(alloc, SharedMap::new(alloc, map)?)?)
     }
 }
 
@@ -74,16 +66,6 @@ impl Model for TableHandle {
 
 unsafe impl Send for TableHandle {}
 
-impl TableHandle {
-    // The handle of this table.
-    fn of(loose: Loose<UrlTable, Global>) -> TableHandle
-        ensures { result.held ≡ Some loose.value }
-    {
-        let Loose { at, alloc: _ } = loose;
-        TableHandle { at: at as *mut u8 }
-    }
-}
-
 /// A handle of inner maps, or an empty one.
 #[repr(C)]
 #[derive(Drop)]
@@ -96,16 +78,6 @@ impl Model for InnersHandle {
     ghost also_owns = { λ handle. owns_held inner_maps.the_row handle.at handle.held };
 }
 
-impl InnersHandle {
-    // The handle of these maps.
-    fn of(loose: Loose<Inners, Global>) -> InnersHandle
-        ensures { result.held ≡ Some loose.value }
-    {
-        let Loose { at, alloc: _ } = loose;
-        InnersHandle { at: at as *mut u8 }
-    }
-}
-
 /// A handle of bytes that were handed out, or an empty one.
 #[repr(C)]
 #[derive(Drop)]
@@ -116,16 +88,6 @@ pub struct BytesHandle {
 
 impl Model for BytesHandle {
     ghost also_owns = { λ handle. owns_held handed.the_row handle.at handle.held };
-}
-
-impl BytesHandle {
-    // The handle of these bytes.
-    fn of(loose: Loose<Bytes, Global>) -> BytesHandle
-        ensures { result.held ≡ Some loose.value }
-    {
-        let Loose { at, alloc: _ } = loose;
-        BytesHandle { at: at as *mut u8 }
-    }
 }
 
 /// A handle of an index from original to generated, or an empty one.
@@ -142,16 +104,6 @@ impl Model for OriginalsHandle {
 
 unsafe impl Send for OriginalsHandle {}
 
-impl OriginalsHandle {
-    // The handle of these originals.
-    fn of(loose: Loose<Originals, Global>) -> OriginalsHandle
-        ensures { result.held ≡ Some loose.value }
-    {
-        let Loose { at, alloc: _ } = loose;
-        OriginalsHandle { at: at as *mut u8 }
-    }
-}
-
 /// A handle of names of functions, or an empty one.
 #[repr(C)]
 #[derive(Drop)]
@@ -165,16 +117,6 @@ impl Model for NamesHandle {
 }
 
 unsafe impl Send for NamesHandle {}
-
-impl NamesHandle {
-    // The handle of these names.
-    fn of(loose: Loose<NamedFunctions, Global>) -> NamesHandle
-        ensures { result.held ≡ Some loose.value }
-    {
-        let Loose { at, alloc: _ } = loose;
-        NamesHandle { at: at as *mut u8 }
-    }
-}
 
 /// A handle of a finder of URLs, or an empty one.
 #[repr(C)]
@@ -190,16 +132,6 @@ impl Model for UrlFinderHandle {
 
 unsafe impl Send for UrlFinderHandle {}
 
-impl UrlFinderHandle {
-    // The handle of this finder.
-    fn of(loose: Loose<UrlFinder, Global>) -> UrlFinderHandle
-        ensures { result.held ≡ Some loose.value }
-    {
-        let Loose { at, alloc: _ } = loose;
-        UrlFinderHandle { at: at as *mut u8 }
-    }
-}
-
 /// A handle of a store of maps, or an empty one.
 #[repr(C)]
 #[derive(Drop)]
@@ -214,16 +146,6 @@ impl Model for StoreHandle {
 
 unsafe impl Send for StoreHandle {}
 
-impl StoreHandle {
-    // The handle of this store.
-    fn of(loose: Loose<KeptMaps, Global>) -> StoreHandle
-        ensures { result.held ≡ Some loose.value }
-    {
-        let Loose { at, alloc: _ } = loose;
-        StoreHandle { at: at as *mut u8 }
-    }
-}
-
 /// A handle of a rewriting, or an empty one.
 #[repr(C)]
 #[derive(Drop)]
@@ -237,13 +159,3 @@ impl Model for RewritingHandle {
 }
 
 unsafe impl Send for RewritingHandle {}
-
-impl RewritingHandle {
-    // The handle of this rewriting.
-    fn of(loose: Loose<Rewriting, Global>) -> RewritingHandle
-        ensures { result.held ≡ Some loose.value }
-    {
-        let Loose { at, alloc: _ } = loose;
-        RewritingHandle { at: at as *mut u8 }
-    }
-}

@@ -7,7 +7,7 @@ ghost use Rattle.smap_text.specs.ShownLine.{IsFrontOf};
 ghost use Rattle.smap_c.specs.Lines.{AreLines, IsLineAt, around, content_of};
 ghost use Rattle.smap_c.specs.Texts.{flag};
 
-use crate::handles::MapHandle;
+use crate::handles::{Holder, MapHandle};
 use crate::status::{DONE, REFUSED};
 use smap_record::MapFile;
 use smap_text::{rest_from, shown_bytes, split_line};

@@ -3,7 +3,7 @@ ghost use Rattle.std.specs.Prelude.{◌≡◌, IfSome, IsSome};
 ghost use Rattle.smap_record.specs.Record.{answer_of_map, answer_of_map_from};
 ghost use Rattle.smap_c.specs.Look.{answer_numbers};
 
-use crate::handles::MapHandle;
+use crate::handles::{Holder, MapHandle};
 use crate::status::DONE;
 use smap_record::{Answer, Meter};
 use std::alloc::Global;

@@ -2,7 +2,7 @@
 ghost use Rattle.std.specs.Prelude.{◌≡◌, IfSome, IsSome, length};
 ghost use Rattle.smap_c.specs.Many.{all_found};
 
-use crate::handles::MapHandle;
+use crate::handles::{Holder, MapHandle};
 use crate::look_up::{FoundNumbers, answer_numbers};
 use crate::status::DONE;
 use smap_record::{Meter, ReadyMap};

@@ -3,7 +3,7 @@ ghost use Rattle.std.specs.Prelude.{◌≡◌, ◌≢◌, ◌++◌, ◌⊎◌, S
 ghost use Rattle.smap_index.specs.Parts.{joined};
 ghost use Rattle.smap_c.specs.Mappings.{mapping_bytes, mapping_words, word_bytes};
 
-use crate::handles::{BytesHandle, MapHandle};
+use crate::handles::{BytesHandle, Holder, MapHandle};
 use crate::status::NO_MEMORY;
 use crate::written::hand_out;
 use smap_mappings::Mapping;

@@ -1,25 +1,30 @@
 //! The names of functions, by a map and its generated file.
-ghost use Rattle.std.specs.Prelude.{◌≡◌, ◌≢◌, ◌⊎◌, ℕ, List, None, false, Some, IfOk, IfSome, IsSome, IsSomeAnd, MatchOption, is_some, option_map};
+ghost use Rattle.std.specs.Prelude.{◌≡◌, ◌≢◌, ◌⊎◌, ◌*◌, ℕ, List, None, false, Some, IfOk, IfSome, IsSome, IsSomeAnd, MatchOption, is_some, length, option_map};
 ghost use Rattle.std.specs.List.Sorted.{IsPermutation};
 ghost use Rattle.smap_declarations.specs.Declarations.{Named};
 ghost use Rattle.smap_c.specs.Names.{IsNameAt, IsNamedBy, IsUnnamed, is_fitting, name_at};
 ghost use Rattle.smap_c.specs.Shares.{IsTextRefused};
+ghost use Rattle.smap_c.specs.Size.{counted};
 
 use crate::codes::code_number;
-use crate::handles::{MapHandle, NamesHandle};
+use crate::handles::{Holder, MapHandle, NamesHandle};
 use crate::status::{DONE, NO_MEMORY, REFUSED};
 use crate::texts::Text;
 use smap_codes::Code;
 use smap_declarations::{DeclarationPlace, Declarations, function_name};
 use smap_fit::fit_of;
 use smap_record::{MOST_FILE_BYTES, Meter, SharedMap};
+use smap_store::SharedDeclarations;
 use std::alloc::{AllocError, Global};
+
+// For how many bytes a declaration counts: 32 of its own, and about as many as its name has.
+const DECLARATION_BYTES: u64 = 48;
 
 /// A map, and what its generated file declares.
 #[derive(Drop)]
 pub struct NamedFunctions {
     pub(crate) map: SharedMap,
-    pub(crate) declarations: Declarations,
+    pub(crate) declarations: SharedDeclarations,
 }
 
 /// Reads from a map and its generated file which names the file declares, for the names of functions in frames. The map may
@@ -64,7 +69,7 @@ pub extern "C" fn smap_names_new(
     }
 }
 
-fn hand_out_names(alloc: Global, named: NamedFunctions, names: &mut NamesHandle) -> u32
+pub(crate) fn hand_out_names(alloc: Global, named: NamedFunctions, names: &mut NamesHandle) -> u32
     ensures made { result ≡ 0 → names.new.held ≡ Some named }
     ensures stays { result ≢ 0 → names.new.held ≡ names.old.held }
     ensures status { (result ≡ 0) ⊎ (result ≡ 3) }
@@ -88,7 +93,10 @@ impl NamedFunctions {
             return Ok(None);
         }
         let map = map.share()?;
-        match Declarations::of_text(alloc, text, map.map()) {
+        let Ok(declarations) = Declarations::of_text(alloc, text, map.map()) else {
+            return Err(AllocError);
+        };
+        match SharedDeclarations::new(alloc, declarations) {
             Ok(declarations) => Ok(Some(NamedFunctions { map, declarations })),
             Err(_no_memory) => Err(AllocError),
         }
@@ -112,8 +120,22 @@ impl NamedFunctions {
         let place = DeclarationPlace { line, column };
         let mut meter = Meter::new(alloc);
         self.declarations
+            .get()
             .name_of(self.map.map(), name, place, &mut meter)
     }
+}
+
+// Another hold on a map, and on declarations.
+pub(crate) fn named_by(
+    map: &SharedMap,
+    declared: &SharedDeclarations,
+) -> Result<NamedFunctions, AllocError>
+    ensures { IfOk result (λ named. named ≡ record { map = map.now; declarations = declared.now }) }
+{
+    Ok(NamedFunctions {
+        map: map.share()?,
+        declarations: declared.share()?,
+    })
 }
 
 /// Lends the name that a frame's function has in its source, by what stands in the frame: the function as it is printed, and
@@ -145,6 +167,41 @@ pub extern "C" fn smap_name_of<'a>(
         }
         None => REFUSED,
     }
+}
+
+/// Makes another handle of the same names of functions: nothing is copied, and they are freed with the last that holds them.
+#[unsafe(no_mangle)]
+pub extern "C" fn smap_names_share(
+    alloc: Global,
+    names: &mut NamesHandle,
+    other: &mut NamesHandle,
+) -> u32
+    requires { IsSome names.old.held }
+    ensures shared { result ≡ 0 → other.new.held ≡ names.old.held }
+    ensures stays { (names.new.held ≡ names.old.held)
+        × (result ≢ 0 → other.new.held ≡ other.old.held) }
+    ensures status { (result ≡ 0) ⊎ (result ≡ 3) }
+{
+    let named = names.lend();
+    match named_by(&named.map, &named.declarations) {
+        Ok(share) => hand_out_names(alloc, share, other),
+        Err(_no_memory) => NO_MEMORY,
+    }
+}
+
+/// Says for how many bytes of memory names of functions count, up to 18,446,744,073,709,551,615: 48 for each declaration, which
+/// is about what it takes. Their map counts for itself.
+#[unsafe(no_mangle)]
+pub extern "C" fn smap_names_size(names: &mut NamesHandle, size: &mut u64) -> u32
+    requires { IsSome names.old.held }
+    ensures size { IfSome names.old.held (λ held.
+        size.new ≡ counted (length held.declarations * 48)) }
+    ensures stays { names.new.held ≡ names.old.held }
+    ensures status { result ≡ 0 }
+{
+    let count = names.lend().declarations.get().count() as u64;
+    *size = count.saturating_mul(DECLARATION_BYTES);
+    DONE
 }
 
 /// Frees names of functions, and leaves their handle empty.

@@ -6,7 +6,7 @@ ghost use Rattle.smap_originals.specs.Generated.{generated_next};
 ghost use Rattle.smap_originals.specs.Originals.{AreOriginalsOf, of_source, on_line, place_of};
 ghost use Rattle.smap_c.specs.Originals.{direction_of};
 
-use crate::handles::{MapHandle, OriginalsHandle};
+use crate::handles::{Holder, MapHandle, OriginalsHandle};
 use crate::status::{DONE, NO_MEMORY, REFUSED};
 use smap_originals::{Asked, GeneratedPlace, OriginalDirection, Originals};
 use smap_record::Meter;

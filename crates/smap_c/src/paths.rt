@@ -3,7 +3,7 @@ ghost use Rattle.std.specs.Prelude.{◌≡◌, ◌≢◌, ◌⊎◌, IsSome, opt
 ghost use Rattle.smap_record.specs.NamedSources.{map_by_path};
 ghost use Rattle.smap_c.specs.Asking.{path_status};
 
-use crate::handles::MapHandle;
+use crate::handles::{Holder, MapHandle};
 use crate::status::{DONE, NO_MEMORY, REFUSED};
 use smap_resolve::is_path;
 use std::alloc::Global;

@@ -7,7 +7,7 @@ ghost use Rattle.smap_piecewise.specs.declared.stop.Stop.TheVariants.{Done, Want
 ghost use Rattle.smap_c.specs.Piecewise.{HasRunOver, IsRefused, IsRunRefused, StopsOver, at_time, is_over_all, new_rewriting};
 ghost use Rattle.smap_c.specs.Trace.{counts_seen};
 
-use crate::handles::{RewritingHandle, StoreHandle, TableHandle};
+use crate::handles::{Holder, RewritingHandle, StoreHandle, TableHandle};
 use crate::status::{DONE, NO_MEMORY, REFUSED, WANTED};
 use crate::texts::Text;
 use crate::trace::{RewriteRefusal, TraceCounts, counted, refused};

@@ -3,7 +3,7 @@ ghost use Rattle.std.specs.Prelude.{◌≡◌, ◌≢◌, ◌⊎◌, ◌∷◌, 
 ghost use Rattle.smap_anywhere.specs.FoundUrls.{nothing_read, urls_left};
 ghost use Rattle.smap_c.specs.PlaceUrls.{IsPlaceWithin, place_there};
 
-use crate::handles::UrlFinderHandle;
+use crate::handles::{Holder, UrlFinderHandle};
 use crate::status::{DONE, NO_MEMORY, REFUSED};
 use smap_anywhere::UrlFinder;
 use std::alloc::Global;

@@ -5,7 +5,7 @@ ghost use Rattle.smap_c.specs.Read.{IsReadAs, IsReadWithin, IsRefusedAs, IsRefus
 ghost use Rattle.smap_c.specs.Private.Base.{IsFaultOf};
 ghost use Rattle.smap_c.specs.Private.Unread.{IsWhyUnread};
 
-use crate::handles::MapHandle;
+use crate::handles::{Holder, MapHandle};
 use crate::refusal::{Refusal, coded, numbers_of};
 use crate::status::{DONE, NO_MEMORY, REFUSED};
 use smap_codes::Code;
@@ -77,7 +77,7 @@ fn read_within(
     ensures status { (result ≡ 0) ⊎ (result ≡ 1) ⊎ (result ≡ 3) }
 {
     match read_map(alloc, bytes, base, interval, most_names) {
-        Ok((read, _id)) => match MapHandle::new(alloc, read) {
+        Ok((read, _id)) => match MapHandle::of_map(alloc, read) {
             Ok(handle) => {
                 *map = handle;
                 DONE

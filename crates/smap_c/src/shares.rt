@@ -5,7 +5,7 @@ ghost use Rattle.smap_fit.specs.Shares.{IsBytesBySource};
 ghost use Rattle.smap_c.specs.Shares.{IsTextRefused};
 
 use crate::codes::code_number;
-use crate::handles::MapHandle;
+use crate::handles::{Holder, MapHandle};
 use crate::status::{DONE, NO_MEMORY, REFUSED};
 use smap_codes::Code;
 use smap_fit::bytes_by_source;

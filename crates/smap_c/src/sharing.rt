@@ -1,7 +1,7 @@
 //! Maps that several handles hold.
 ghost use Rattle.std.specs.Prelude.{◌≡◌, ◌≢◌, ◌⊎◌, IsSome};
 
-use crate::handles::MapHandle;
+use crate::handles::{Holder, MapHandle};
 use crate::status::{DONE, NO_MEMORY};
 use std::alloc::Global;
 
@@ -18,7 +18,7 @@ pub extern "C" fn smap_map_share(alloc: Global, map: &mut MapHandle, other: &mut
     let Ok(share) = map.lend().share() else {
         return NO_MEMORY;
     };
-    match MapHandle::of_share(alloc, share) {
+    match MapHandle::new(alloc, share) {
         Ok(handle) => {
             *other = handle;
             DONE

@@ -4,7 +4,7 @@ ghost use Rattle.smap_record.specs.Sources.{source_of};
 ghost use Rattle.smap_c.specs.Size.{counted, map_size, name_bytes, source_bytes, sources_bytes};
 ghost use Rattle.smap_c.specs.Texts.{name_or_none, text_or_none};
 
-use crate::handles::MapHandle;
+use crate::handles::{Holder, MapHandle};
 use crate::status::DONE;
 use smap_record::{MOST_LISTED, MapFile, SourceEntry};
 

@@ -2,7 +2,7 @@
 ghost use Rattle.std.specs.Prelude.{◌≡◌, IfSome, IsSome, MatchOption};
 ghost use Rattle.smap_c.specs.Look.{column_of_answer, next_column};
 
-use crate::handles::MapHandle;
+use crate::handles::{Holder, MapHandle};
 use crate::status::{DONE, REFUSED};
 use smap_record::{Answer, Meter, ReadyMap};
 use std::alloc::Global;

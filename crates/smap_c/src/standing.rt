@@ -4,7 +4,7 @@ ghost use Rattle.smap_codes.specs.declared.code.Code.TheVariants as codes;
 ghost use Rattle.smap_record.specs.NamedSources.{bytes_beside, map_beside};
 ghost use Rattle.smap_c.specs.Refusal.{coded};
 
-use crate::handles::MapHandle;
+use crate::handles::{Holder, MapHandle};
 use crate::refusal::{Refusal, coded};
 use crate::status::{DONE, NO_MEMORY, REFUSED};
 use smap_codes::Code;

@@ -8,7 +8,7 @@ ghost use Rattle.smap_c.specs.Steps.{IsFollowed, IsNext, IsNotFollowed, IsStepRe
 ghost use Rattle.smap_c.specs.Steps.{is_called, is_led_by, is_wanted, leads_within, name_of_source, next_wanted};
 
 use crate::composing::{ComposeOptions, all_composed};
-use crate::handles::{InnersHandle, MapHandle};
+use crate::handles::{Holder, InnersHandle, MapHandle};
 use crate::inners::Inners;
 use crate::status::{DONE, REFUSED};
 use crate::texts::Text;

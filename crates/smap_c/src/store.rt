@@ -1,13 +1,14 @@
 //! A store of maps: what is known of URLs, within a bound.
-ghost use Rattle.std.specs.Prelude.{◌≡◌, ◌≢◌, ◌⊎◌, None, Some, true, IfSome, IsSome, IsSomeAnd};
+ghost use Rattle.std.specs.Prelude.{◌≡◌, ◌≢◌, ◌⊎◌, None, Some, true, IfOk, IfSome, IsSome, IsSomeAnd};
 ghost use Rattle.smap_kept.specs.Bounded.{is_within};
-ghost use Rattle.smap_c.specs.Store.{counts_of, empty_store, map_put, none_put, nones_forgotten, reason_of, until_of, url_forgotten};
+ghost use Rattle.smap_c.specs.Store.{counts_of, empty_store, kept_put, map_put, named_put, none_put, nones_forgotten, reason_of, until_of, url_forgotten};
 
-use crate::handles::{MapHandle, StoreHandle};
+use crate::handles::{Holder, MapHandle, NamesHandle, StoreHandle};
+use crate::names::NamedFunctions;
 use crate::status::{DONE, NO_MEMORY, REFUSED};
 use smap_kept::{Kept, NoValue};
-use smap_piecewise::KeptMaps;
-use std::alloc::Global;
+use smap_piecewise::{KeptMap, KeptMaps};
+use std::alloc::{AllocError, Global};
 
 /// How much a store holds, and what was asked of it.
 #[repr(C)]
@@ -68,10 +69,62 @@ pub extern "C" fn smap_store_put(
     let Ok(share) = map.lend().share() else {
         return NO_MEMORY;
     };
-    match store.lend().kept.put(alloc, url, share, bytes) {
+    let kept = KeptMap {
+        map: share,
+        declared: None,
+    };
+    put_kept(alloc, store, url, kept, bytes)
+}
+
+// Puts what is kept of a URL, which counts for so many bytes.
+fn put_kept(alloc: Global, store: &mut StoreHandle, url: &[u8], kept: KeptMap, bytes: u64) -> u32
+    requires { IsSome store.old.held }
+    ensures put { IfSome store.old.held (λ maps. result ≡ 0 →
+        store.new.held ≡ Some (kept_put url.now kept bytes maps)) }
+    ensures stays { result ≢ 0 → store.new.held ≡ store.old.held }
+    ensures status { (result ≡ 0) ⊎ (result ≡ 3) }
+{
+    match store.lend().kept.put(alloc, url, kept, bytes) {
         Ok(()) => DONE,
         Err(_failed) => NO_MEMORY,
     }
+}
+
+/// The same with the map of names of functions, and with them: frames of the URL then get the written names. The store holds
+/// both with the handle, which stays as it is.
+#[unsafe(no_mangle)]
+pub extern "C" fn smap_store_put_named(
+    alloc: Global,
+    store: &mut StoreHandle,
+    url: &[u8],
+    names: &mut NamesHandle,
+    bytes: u64,
+) -> u32
+    requires store { IsSome store.old.held }
+    requires names { IsSome names.old.held }
+    ensures put { IfSome store.old.held (λ maps. IfSome names.old.held (λ held. result ≡ 0 →
+        store.new.held ≡ Some (named_put url.now held bytes maps))) }
+    ensures stays { (names.new.held ≡ names.old.held)
+        × (result ≢ 0 → store.new.held ≡ store.old.held) }
+    ensures status { (result ≡ 0) ⊎ (result ≡ 3) }
+{
+    let Ok(kept) = kept_with(names.lend()) else {
+        return NO_MEMORY;
+    };
+    put_kept(alloc, store, url, kept, bytes)
+}
+
+// Another hold on the map of names, and on its declarations.
+fn kept_with(names: &NamedFunctions) -> Result<KeptMap, AllocError>
+    ensures { IfOk result (λ kept. kept ≡ record {
+      map = names.now.map;
+      declared = Some names.now.declarations;
+    }) }
+{
+    Ok(KeptMap {
+        map: names.map.share()?,
+        declared: Some(names.declarations.share()?),
+    })
 }
 
 /// Puts why a URL has no map, in the place of what was known under this very URL: 0, there is none, or 1, what should give

@@ -1,12 +1,13 @@
 //! Look-ups over the maps of a store, by URL.
-ghost use Rattle.std.specs.Prelude.{◌≡◌, ◌⊎◌, Some, IfOk, IfSome, IsNone, IsSome, IsSomeAnd, MatchOption};
+ghost use Rattle.std.specs.Prelude.{◌≡◌, ◌≢◌, ◌⊎◌, Some, IfOk, IfSome, IsNone, IsSome, IsSomeAnd, MatchOption};
 ghost use Rattle.smap_kept.specs.Kept.{answer};
 ghost use Rattle.smap_kept.specs.OwnUrls.{key_of};
-ghost use Rattle.smap_c.specs.Store.{reason_number, status_of, url_asked, value_of, why_after};
+ghost use Rattle.smap_c.specs.Store.{named_in, reason_number, status_of, url_asked, value_of, why_after};
 ghost use Rattle.smap_c.specs.TableLook.{IsLookedUp, answer_in};
 
-use crate::handles::{MapHandle, StoreHandle};
+use crate::handles::{Holder, MapHandle, NamesHandle, StoreHandle};
 use crate::look_up::{FoundNumbers, answer_numbers};
+use crate::names::{NamedFunctions, hand_out_names, named_by};
 use crate::status::{DONE, NO_MEMORY, REFUSED, WANTED};
 use crate::table_look_up::{answer_in, name_of, source_of};
 use crate::texts::{Source, Text};
@@ -92,15 +93,15 @@ pub extern "C" fn smap_store_look_up<'a>(
     ensures found { IfSome store.old.held (λ maps.
         MatchOption (value_of (answer now maps.kept url.now))
         ((found.new ≡ found.old) × (source.new ≡ source.old) × (name.new ≡ name.old))
-        (λ map. IsLookedUp map.stated (answer_in after map.stated line column)
+        (λ one. IsLookedUp one.map.stated (answer_in after one.map.stated line column)
         found.new source.new name.new)) }
     ensures why { IfSome store.old.held (λ maps.
         why.new ≡ why_after why.old (answer now maps.kept url.now)) }
 {
     let kept = &store.lend().kept;
     match kept.peek(url, now) {
-        KeptAnswer::Known(share) => {
-            let map = share.ready();
+        KeptAnswer::Known(kept) => {
+            let map = kept.map.ready();
             let answer = answer_in(alloc, map, line, column, after);
             *found = answer_numbers(answer);
             *source = source_of(map.map(), answer);
@@ -130,7 +131,7 @@ pub extern "C" fn smap_store_map(
     ensures made { IfSome store.old.held (λ maps.
         MatchOption (value_of (answer now maps.kept url.now))
         ((result ≡ status_of (answer now maps.kept url.now)) × (map.new.held ≡ map.old.held))
-        (λ held. ((result ≡ 0) × (map.new.held ≡ Some held))
+        (λ one. ((result ≡ 0) × (map.new.held ≡ Some one.map))
         ⊎ ((result ≡ 3) × (map.new.held ≡ map.old.held)))) }
     ensures why { IfSome store.old.held (λ maps.
         why.new ≡ why_after why.old (answer now maps.kept url.now)) }
@@ -145,7 +146,7 @@ pub extern "C" fn smap_store_map(
     let Ok(share) = share else {
         return NO_MEMORY;
     };
-    match MapHandle::of_share(alloc, share) {
+    match MapHandle::new(alloc, share) {
         Ok(handle) => {
             *map = handle;
             DONE
@@ -159,11 +160,58 @@ fn shared(store: &mut StoreHandle, url: &[u8], now: u64) -> Option<Result<Shared
     requires { IsSome store.old.held }
     ensures share { IfSome store.old.held (λ maps.
         MatchOption (value_of (answer now maps.kept url.now)) (IsNone result)
-        (λ map. IsSomeAnd result (λ share. IfOk share (λ held. held ≡ map)))) }
+        (λ one. IsSomeAnd result (λ share. IfOk share (λ held. held ≡ one.map)))) }
     ensures stays { store.new.held ≡ store.old.held }
 {
     match store.lend().kept.peek(url, now) {
-        KeptAnswer::Known(map) => Some(map.share()),
+        KeptAnswer::Known(kept) => Some(kept.map.share()),
+        KeptAnswer::NoneKnown(_) | KeptAnswer::Wanted => None,
+    }
+}
+
+/// Makes a handle of the names of functions that a store has with the map of a URL at a time, and of that map: nothing is copied, and
+/// the store may drop them before it is freed. Refused where it has none with it. Nothing is counted.
+#[unsafe(no_mangle)]
+pub extern "C" fn smap_store_names(
+    alloc: Global,
+    store: &mut StoreHandle,
+    url: &[u8],
+    now: u64,
+    names: &mut NamesHandle,
+) -> u32
+    requires { IsSome store.old.held }
+    ensures made { IfSome store.old.held (λ maps.
+        MatchOption (named_in (answer now maps.kept url.now)) (result ≡ 1)
+        (λ named. ((result ≡ 0) × (names.new.held ≡ Some named)) ⊎ (result ≡ 3))) }
+    ensures stays { (store.new.held ≡ store.old.held)
+        × (result ≢ 0 → names.new.held ≡ names.old.held) }
+{
+    let Some(named) = shared_names(store, url, now) else {
+        return REFUSED;
+    };
+    match named {
+        Ok(named) => hand_out_names(alloc, named, names),
+        Err(_no_memory) => NO_MEMORY,
+    }
+}
+
+// Another hold on the map of a URL and on its declarations, where it has both.
+fn shared_names(
+    store: &mut StoreHandle,
+    url: &[u8],
+    now: u64,
+) -> Option<Result<NamedFunctions, AllocError>>
+    requires { IsSome store.old.held }
+    ensures share { IfSome store.old.held (λ maps.
+        MatchOption (named_in (answer now maps.kept url.now)) (IsNone result)
+        (λ named. IsSomeAnd result (λ share. IfOk share (λ held. held ≡ named)))) }
+    ensures stays { store.new.held ≡ store.old.held }
+{
+    match store.lend().kept.peek(url, now) {
+        KeptAnswer::Known(kept) => match &kept.declared {
+            Some(declared) => Some(named_by(&kept.map, declared)),
+            None => None,
+        },
         KeptAnswer::NoneKnown(_) | KeptAnswer::Wanted => None,
     }
 }

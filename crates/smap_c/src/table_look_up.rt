@@ -4,7 +4,7 @@ ghost use Rattle.smap_c.specs.TableLook.{IsLookedUp, IsSourceOf, answer_in, name
 ghost use Rattle.smap_c.specs.Texts.{text_or_none};
 ghost use Rattle.smap_store.specs.UrlTable.{map_under};
 
-use crate::handles::TableHandle;
+use crate::handles::{Holder, TableHandle};
 use crate::look_up::{FoundNumbers, answer_numbers};
 use crate::status::{DONE, REFUSED};
 use crate::texts::{Source, Text, no_source, reported};

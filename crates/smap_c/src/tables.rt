@@ -1,9 +1,10 @@
 //! Tables of maps.
-ghost use Rattle.std.specs.Prelude.{◌≡◌, ◌≢◌, ◌⊎◌, [], None, Some, IsSome, IfSome, IfOk, IfErr, IsUtf8, string_bytes};
+ghost use Rattle.std.specs.Prelude.{◌≡◌, ◌≢◌, ◌⊎◌, false, true, None, Some, IsSome, IsSomeAnd, IfSome, IfOk, IfErr, IsUtf8, string_bytes};
+ghost use Rattle.smap_store.specs.UrlTable.{IsNamed, empty_table, takes_names};
 ghost use Rattle.smap_c.specs.Tables.{IsAdded, IsFree, IsNotAdded};
 
 use crate::codes::code_number;
-use crate::handles::{MapHandle, TableHandle};
+use crate::handles::{Holder, MapHandle, NamesHandle, TableHandle};
 use crate::status::{DONE, NO_MEMORY, REFUSED};
 use smap_codes::Code;
 use smap_store::UrlTable;
@@ -12,7 +13,7 @@ use std::alloc::Global;
 /// Makes a table without maps.
 #[unsafe(no_mangle)]
 pub extern "C" fn smap_table_new(alloc: Global, table: &mut TableHandle) -> u32
-    ensures made { result ≡ 0 → table.new.held ≡ Some (record { exact = []; patterns = [] }) }
+    ensures made { result ≡ 0 → table.new.held ≡ Some empty_table }
     ensures stays { result ≢ 0 → table.new.held ≡ table.old.held }
     ensures status { (result ≡ 0) ⊎ (result ≡ 3) }
 {
@@ -91,7 +92,42 @@ pub extern "C" fn smap_table_add_shared(
     }
 }
 
-/// Frees a table with its maps, and leaves its handle empty.
+/// Puts names of functions beside the map that a table has under this very URL or pattern: frames whose URLs have that map then
+/// get the written names. They are to be those of this map. The table holds them with their handle, which stays as it is.
+/// Refused where the table has no map there, or names beside it.
+#[unsafe(no_mangle)]
+pub extern "C" fn smap_table_add_names(
+    alloc: Global,
+    table: &mut TableHandle,
+    url: &[u8],
+    names: &mut NamesHandle,
+) -> u32
+    requires table { IsSome table.old.held }
+    requires names { IsSome names.old.held }
+    ensures added { IfSome table.old.held (λ maps. IfSome names.old.held (λ held. result ≡ 0 →
+        IsSomeAnd table.new.held (IsNamed maps url.now held.declarations))) }
+    ensures refused { IfSome table.old.held (λ maps.
+        result ≡ 1 → takes_names maps url.now ≡ false) }
+    ensures sound { IfSome table.old.held (λ maps.
+        takes_names maps url.now ≡ false → result ≡ 1) }
+    ensures stays { (names.new.held ≡ names.old.held)
+        × (result ≢ 0 → table.new.held ≡ table.old.held) }
+    ensures status { (result ≡ 0) ⊎ (result ≡ 1) ⊎ (result ≡ 3) }
+{
+    let maps = table.lend();
+    if !maps.takes_names(url) {
+        return REFUSED;
+    }
+    let Ok(share) = names.lend().declarations.share() else {
+        return NO_MEMORY;
+    };
+    if maps.add_names(alloc, url, share).is_err() {
+        return NO_MEMORY;
+    }
+    DONE
+}
+
+/// Frees a table with what it holds, and leaves its handle empty.
 #[unsafe(no_mangle)]
 pub extern "C" fn smap_table_free(alloc: Global, table: &mut TableHandle)
     requires { IsSome table.old.held }

@@ -4,7 +4,7 @@ ghost use Rattle.smap_record.specs.Sources.{source_of};
 ghost use Rattle.smap_c.specs.TableLook.{IsNoSource};
 ghost use Rattle.smap_c.specs.Texts.{IsReported};
 
-use crate::handles::MapHandle;
+use crate::handles::{Holder, MapHandle};
 use crate::status::{DONE, REFUSED};
 use smap_record::SourceEntry;
 

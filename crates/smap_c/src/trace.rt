@@ -3,16 +3,16 @@ ghost use Rattle.std.specs.Prelude.{◌≡◌, ◌≢◌, ◌<◌, ◌≤◌, �
 ghost use Rattle.smap_codes.specs.declared.code.Code.TheVariants.{X3};
 ghost use Rattle.smap_lines.specs.Limits.{most_text_bytes};
 ghost use Rattle.smap_lines.specs.declared.fault.LineFault.TheVariants.{TooMuch};
-ghost use Rattle.smap_store.specs.UrlTable.{map_under};
+ghost use Rattle.smap_store.specs.NamedOf.{counts_named, rewritten_named};
+ghost use Rattle.smap_store.specs.UrlTable.{named_by_url};
 ghost use Rattle.smap_trace.specs.Hiding.{only_ignored};
-ghost use Rattle.smap_trace.specs.MapsOf.{counts_by, rewritten_by};
 ghost use Rattle.smap_trace.specs.Rewriting.{counts_seen as summary_seen};
 ghost use Rattle.smap_c.specs.Trace.{IsRefusedFor, counts_seen, counts_with, frames_alone, has_map_of_all, is_for_all, line_ends};
 ghost use Rattle.smap_c.specs.Trace.{most_output_bytes, place_counts_by, placed_by, places_alone, rewrite_refused, text_read, text_with};
 
 use crate::codes::code_number;
 use crate::devices::Output;
-use crate::handles::{BytesHandle, TableHandle};
+use crate::handles::{BytesHandle, Holder, TableHandle};
 use crate::rewriting::rewrite_text;
 use crate::status::{DONE, NO_MEMORY, REFUSED};
 use crate::written::hand_out;
@@ -64,7 +64,8 @@ pub struct RewriteOptions {
 }
 
 /// Rewrites a trace: a frame whose URL has a map in the table and whose place has an original gets it in its place, and
-/// every other byte stays. With `hide_ignored` the lines of frames whose original is in an ignored source are dropped. A
+/// every other byte stays, save the name of its function, where the names of the map's program give the one that was written. With
+/// `hide_ignored` the lines of frames whose original is in an ignored source are dropped. A
 /// trace of more than 1,073,741,824 bytes is refused, and one of which more would come out. `bytes` and `counts` are
 /// written where the trace was rewritten.
 #[unsafe(no_mangle)]
@@ -79,14 +80,14 @@ pub extern "C" fn smap_rewrite(
     requires { IsSome table.old.held }
     ensures text { IfSome table.old.held (λ maps.
         result ≡ 0 → bytes.new.held
-        ≡ Some (rewritten_by (map_under false maps) (only_ignored hide_ignored) trace.now)) }
+        ≡ Some (rewritten_named (named_by_url false maps) (only_ignored hide_ignored) trace.now)) }
     ensures counts { IfSome table.old.held (λ maps.
         result ≡ 0 → counts_seen counts.new
-        ≡ counts_by (map_under false maps) (only_ignored hide_ignored) trace.now) }
+        ≡ counts_named (named_by_url false maps) (only_ignored hide_ignored) trace.now) }
     ensures refused { IfSome table.old.held (λ maps. result ≡ 1 → (refusal : RewriteRefusal)
         × IsRefusedFor (frames_alone hide_ignored) maps trace.now most_output_bytes refusal) }
     ensures fits { IfSome table.old.held (λ maps. result ≡ 0 → (length trace.now ≤ most_text_bytes)
-        × (length (rewritten_by (map_under false maps) (only_ignored hide_ignored) trace.now)
+        × (length (rewritten_named (named_by_url false maps) (only_ignored hide_ignored) trace.now)
         ≤ most_output_bytes)) }
     ensures stays { (table.new.held ≡ table.old.held)
         × (result ≢ 0 → (bytes.new.held ≡ bytes.old.held) × (counts.new ≡ counts.old)) }

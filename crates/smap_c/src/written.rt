@@ -9,7 +9,7 @@ ghost use Rattle.smap_compose.specs.declared.refusal.ComposeRefusal.TheVariants.
 
 use crate::bytes::Bytes;
 use crate::codes::code_number;
-use crate::handles::{BytesHandle, MapHandle};
+use crate::handles::{BytesHandle, Holder, MapHandle};
 use crate::status::{DONE, NO_MEMORY, REFUSED};
 use crate::texts::Text;
 use smap_compose::{ComposeRefusal, compose};

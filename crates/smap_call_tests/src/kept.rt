@@ -39,54 +39,91 @@ fn state(alloc: Global, kept: &Kept<u64>) -> Result<String, Fail> {
     )?)
 }
 
+// Keeps a value of so many bytes.
+fn put(
+    alloc: Global,
+    kept: &mut Kept<u64>,
+    url: &[u8],
+    value: &str,
+    bytes: &str,
+) -> Result<(), Fail> {
+    let (value, bytes) = (number(value)?, number(bytes)?);
+    match kept.put(alloc, url, value, bytes) {
+        Ok(_) => Ok(()),
+        Err(_) => Err(Fail::new("memory")),
+    }
+}
+
+// Keeps that there is no value, and why, until a time.
+fn put_none(
+    alloc: Global,
+    kept: &mut Kept<u64>,
+    url: &[u8],
+    why: &str,
+    until: &str,
+) -> Result<(), Fail> {
+    let until = match until {
+        "-" => None,
+        time => Some(number(time)?),
+    };
+    let why = match why {
+        "m" => NoValue::Missing,
+        _ => NoValue::Failed,
+    };
+    Ok(kept.put_none(alloc, url, why, until)?)
+}
+
+// The first letter that a row has for an answer.
+fn letter(answer: KeptAnswer<()>) -> &'static str {
+    match answer {
+        KeptAnswer::Known(()) => "v",
+        KeptAnswer::NoneKnown(_) => "n",
+        KeptAnswer::Wanted => "w",
+    }
+}
+
+// What is answered after a URL was asked for, where the same was answered before and by the asking.
+fn ask(
+    alloc: Global,
+    kept: &mut Kept<u64>,
+    url: &[u8],
+    now: u64,
+    wanted: &str,
+) -> Result<String, Fail> {
+    let before = told(alloc, kept.peek(url, now))?;
+    let asked = letter(kept.ask(url, now));
+    if before.as_str() != wanted {
+        return Ok(before);
+    }
+    if !wanted.starts_with(asked) {
+        return Ok(String::from_str(alloc, asked)?);
+    }
+    told(alloc, kept.peek(url, now))
+}
+
+// The key of a URL, if it is the wanted one.
+fn key(alloc: Global, kept: &Kept<u64>, url: &[u8], wanted: &str) -> Result<String, Fail> {
+    let key = if kept.key_for(url) == wanted.as_bytes() {
+        wanted
+    } else {
+        "another"
+    };
+    Ok(String::from_str(alloc, key)?)
+}
+
 // What a step changes, and what it answers, where that is compared.
 fn step(alloc: Global, kept: &mut Kept<u64>, row: &str) -> Result<Option<String>, Fail> {
     let (name, url, rest) = parts(row);
     let url = url.as_bytes();
     let (first, second) = rest.split_once(' ').unwrap_or((rest, ""));
     match name {
-        "put" => {
-            kept.put(alloc, url, number(first)?, number(second)?)
-                .map_err(|_| "memory")?;
-        }
-        "none" => {
-            let why = if first == "m" {
-                NoValue::Missing
-            } else {
-                NoValue::Failed
-            };
-            let until = if second == "-" {
-                None
-            } else {
-                Some(number(second)?)
-            };
-            kept.put_none(alloc, url, why, until)?;
-        }
+        "put" => put(alloc, kept, url, first, second)?,
+        "none" => put_none(alloc, kept, url, first, second)?,
         "forget" => kept.forget(url),
         "forget_none" => kept.forget_none(),
-        "ask" => {
-            let now = number(first)?;
-            let before = told(alloc, kept.peek(url, now))?;
-            let asked = match kept.ask(url, now) {
-                KeptAnswer::Known(()) => "v",
-                KeptAnswer::NoneKnown(_) => "n",
-                KeptAnswer::Wanted => "w",
-            };
-            let after = told(alloc, kept.peek(url, now))?;
-            if before.as_str() != second || !second.starts_with(asked) {
-                return Ok(Some(before));
-            }
-            return Ok(Some(after));
-        }
+        "ask" => return Ok(Some(ask(alloc, kept, url, number(first)?, second)?)),
         "peek" => return Ok(Some(told(alloc, kept.peek(url, number(first)?))?)),
-        "key" => {
-            let key = if kept.key_for(url) == rest.as_bytes() {
-                rest
-            } else {
-                "another"
-            };
-            return Ok(Some(String::from_str(alloc, key)?));
-        }
+        "key" => return Ok(Some(key(alloc, kept, url, rest)?)),
         _ => return Ok(Some(state(alloc, kept)?)),
     }
     Ok(None)

@@ -27,4 +27,6 @@ mod shared;
 #[cfg(test)]
 mod stored;
 #[cfg(test)]
+mod stored_names;
+#[cfg(test)]
 mod transfer;

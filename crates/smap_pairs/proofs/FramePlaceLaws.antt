@@ -5,7 +5,7 @@ use Rattle.std.specs.List.{slice_range}
 use Rattle.std.proofs.lemmas.Bool.{eqb-true}
 use Rattle.std.proofs.lemmas.Option.{IfSome_then}
 use Rattle.smap_pairs.specs.Known.{IsFrameUrlWithin, UrlsKnown}
-use Rattle.smap_pairs.specs.LinePlaces.{frame_at, frame_in, frame_with, of_pair, or_else, span_of}
+use Rattle.smap_pairs.specs.LinePlaces.{frame_at, frame_in, frame_with, in_frame, of_pair, or_else, span_of}
 use Rattle.smap_pairs.specs.declared.line_places.Span.{Span}
 use Rattle.smap_pairs.specs.declared.pairs.Pair.{Pair}
 use Rattle.smap_pairs.specs.declared.seen.SeenByte.{SeenByte}
@@ -48,8 +48,8 @@ module _ (known : UrlsKnown) (text : List ℕ) (seen : List SeenByte) (pairs : L
       with_pair start end order (Some pair) is =
           let same : pair.start ≡ virtual.start + end = found_at (virtual.start + end) pairs pair is in
           let here : at pair.start pairs ≡ Some pair = ap (λ n. at n pairs) same ∙ is in
-          some_of_two (IsFrameFrom pairs virtual.start) _ _ (span_of pair (virtual.start + start) pair.start true)
-          (span_of pair (virtual.start + start) pair.start false)
+          some_of_two (IsFrameFrom pairs virtual.start) _ _ (in_frame virtual.start (span_of pair (virtual.start + start) pair.start true))
+          (in_frame virtual.start (span_of pair (virtual.start + start) pair.start false))
           (record { start = omega arith; url = omega (arith, same, order); pair = pair; found = here; end = refl })
           (record { start = omega arith; url = omega (arith, same, order); pair = pair; found = here; end = refl })
 

@@ -11,7 +11,7 @@ use Rattle.smap_pairs.specs.FrameUrl.{is_for_folder, is_for_pattern}
 use Rattle.smap_pairs.specs.Greatest.{greatest}
 use Rattle.smap_pairs.specs.Halved.{halved}
 use Rattle.smap_pairs.specs.Known.{AllBegin, IsNowhereIn, UrlsKnown}
-use Rattle.smap_pairs.specs.LinePlaces.{cut_before, frame_at, frame_in, frame_span, frame_with, has_frame_url, may_be_halved, own_before, own_place, pair_place, pattern_place, place_of, places_in, query_before, span_of, with_query}
+use Rattle.smap_pairs.specs.LinePlaces.{cut_before, frame_at, frame_in, frame_span, frame_with, has_frame_url, in_frame, may_be_halved, own_before, own_place, pair_place, pattern_place, place_of, places_in, query_before, span_of, with_query}
 use Rattle.smap_pairs.specs.Named.{cut_bytes, is_in_folder as is_in_folder_before, is_named_before, longest_cut, may_begin_name, named_bytes, own_bytes, prefix_bytes, with_rest}
 use Rattle.smap_pairs.specs.Pairs.{pairs_of}
 use Rattle.smap_pairs.specs.Seen.{seen_of}
@@ -136,7 +136,8 @@ module _ (known : UrlsKnown) (front line : List ℕ) (begin : AllBegin known fro
       go (may_be_halved known line seen virtual pair start) _ _ halves whole
     where
       go : (may halves whole : Bool) → halves ≡ false → whole ≡ false
-          → cond (may && halves) (Some (span_of pair start pair.start true)) (cond whole (Some (span_of pair start pair.start false)) None) ≡ None
+          → cond (may && halves) (Some (in_frame virtual.start (span_of pair start pair.start true)))
+          (cond whole (Some (in_frame virtual.start (span_of pair start pair.start false))) None) ≡ None
       go true true whole first second = cc
       go true false true first second = cc
       go true false false first second = refl

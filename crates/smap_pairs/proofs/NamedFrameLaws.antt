@@ -6,7 +6,7 @@ use Rattle.std.proofs.lemmas.Bool.{eq-eqb, eqb-true, ne_eqb}
 use Rattle.std.proofs.lemmas.List.{nil_from_length, take_all}
 use Rattle.smap_pairs.specs.FrameUrl.{is_for_pattern}
 use Rattle.smap_pairs.specs.Known.{UrlsKnown}
-use Rattle.smap_pairs.specs.LinePlaces.{frame_at, frame_in, frame_span, frame_with, has_frame_url, line_with, of_pair, or_else, pair_place, place_of, places_in, span_of, start_of, whole_line}
+use Rattle.smap_pairs.specs.LinePlaces.{frame_at, frame_in, frame_span, frame_with, has_frame_url, in_frame, line_with, of_pair, or_else, pair_place, place_of, places_in, span_of, start_of, whole_line}
 use Rattle.smap_pairs.specs.Pairs.{AreInOrder, pairs_of}
 use Rattle.smap_pairs.specs.Seen.{seen_of}
 use Rattle.smap_pairs.specs.VirtualLines.{lines_of_strings, virtual_lines}
@@ -57,7 +57,7 @@ module _ (known : UrlsKnown) (text : List ℕ) (start end : ℕ) (pair : Pair) (
   seen = seen_of text
 
   abbrev span : Span
-  span = span_of pair start end false
+  span = in_frame 0 (span_of pair start end false)
 
   abbrev whole : VirtualLine
   whole = whole_line (length text)
@@ -67,7 +67,7 @@ module _ (known : UrlsKnown) (text : List ℕ) (start end : ℕ) (pair : Pair) (
 
   spanned : frame_span known text seen whole pair start ≡ Some span
   spanned =
-      ap (λ b. cond b (Some (span_of pair start pair.start false)) None) has ∙ ap (λ n. Some (span_of pair start n false)) same_end
+      ap (λ b. cond b (Some (in_frame 0 (span_of pair start pair.start false))) None) has ∙ ap (λ n. Some (in_frame 0 (span_of pair start n false))) same_end
 
   framed : frame_in known text seen (pairs_of text) (Some whole) ≡ Some span
   framed =

@@ -12,7 +12,7 @@ use Rattle.smap_pairs.specs.Apart.{HasNoMark, HasNoQuotationMark}
 use Rattle.smap_pairs.specs.Json.{InString, all_may_stand, past, past_all}
 use Rattle.smap_pairs.specs.Json.InString.{before_digits, behind_backslash, between}
 use Rattle.smap_pairs.specs.Known.{UrlsKnown}
-use Rattle.smap_pairs.specs.LinePlaces.{cut_before, frame_at, frame_in, frame_with, line_with, or_else, own_before, pair_place, pattern_place, place_of, places_in, query_before, span_of, start_of, whole_line, with_query}
+use Rattle.smap_pairs.specs.LinePlaces.{cut_before, frame_at, frame_in, frame_with, in_frame, line_with, or_else, own_before, pair_place, pattern_place, place_of, places_in, query_before, span_of, start_of, whole_line, with_query}
 use Rattle.smap_pairs.specs.Marks.{ends_mark, is_quotation_mark}
 use Rattle.smap_pairs.specs.Named.{may_begin_name}
 use Rattle.smap_pairs.specs.Pairs.{AreInOrder, IsPairOf, pairs_of}
@@ -246,7 +246,7 @@ module _ (known : UrlsKnown) (strings : AreForStrings known) (line : List ℕ) w
           let most : close ≤ virtual.end - virtual.start =
           omega (arith, behind.1, length-take (virtual.end - virtual.start) (drop virtual.start line)) in
           let least : 0 < close = omega (arith, behind.0, behind.2) in
-          let place : (halved : Bool) → IsFramePlace known line virtual (span_of pair (virtual.start + begin) pair.start halved) = λ halved. record {
+          let place : (halved : Bool) → IsFramePlace known line virtual (in_frame virtual.start (span_of pair (virtual.start + begin) pair.start halved)) = λ halved. record {
             passes = passes;
             start = omega arith;
             end = omega (arith, same, most, least);
@@ -255,8 +255,8 @@ module _ (known : UrlsKnown) (strings : AreForStrings known) (line : List ℕ) w
             found = here;
             pair_end = refl;
           } in
-          some_of_two (IsFramePlace known line virtual) _ _ (span_of pair (virtual.start + begin) pair.start true)
-          (span_of pair (virtual.start + begin) pair.start false) (place true) (place false)
+          some_of_two (IsFramePlace known line virtual) _ _ (in_frame virtual.start (span_of pair (virtual.start + begin) pair.start true))
+          (in_frame virtual.start (span_of pair (virtual.start + begin) pair.start false)) (place true) (place false)
 
       go : (url : Option (ℕ × ℕ)) → known.frame_url part ≡ url → IfSome url (IsBehindSign part)
           → IfSome (frame_at known line (seen_of line) (pairs_of line) virtual url) (IsFramePlace known line virtual)

@@ -20,10 +20,11 @@ use Rattle.smap_pairs.specs.declared.pairs.Pair.{Pair}
 use Rattle.smap_pairs.specs.declared.seen.SeenByte.{SeenByte}
 use Rattle.smap_pairs.specs.declared.virtual_lines.VirtualLine.{VirtualLine}
 
--- what stands from a byte up to a pair is the URL of its place, up to its query where that is not its map's; each two backslashes of
--- it are one where it is halved
+-- what stands from a byte up to a pair is the URL of its place, which is in no frame, up to its query where that is not its map's; each
+-- two backslashes of it are one where it is halved
 abbrev pub span_of : Pair → (start url_end : ℕ) → (is_halved : Bool) → Span
 span_of pair start url_end is_halved = record {
+  frame_start = start;
   start = start;
   url_end = url_end;
   end = pair.end;
@@ -31,6 +32,10 @@ span_of pair start url_end is_halved = record {
   column = pair.column;
   is_halved = is_halved;
 }
+
+-- it is that of the frame which begins at a byte
+abbrev pub in_frame : (begin : ℕ) → Span → Span
+in_frame begin span = record span { frame_start = begin }
 
 -- the URL of a place in its line
 abbrev pub span_url : (text : List ℕ) → Span → List ℕ
@@ -54,8 +59,9 @@ module _ (known : UrlsKnown) (text : List ℕ) (seen : List SeenByte) where
   abbrev pub frame_span : (virtual : VirtualLine) → Pair → (start : ℕ) → Option Span
   frame_span virtual pair start =
       if may_be_halved virtual pair start && has_frame_url virtual pair start (halved (slice_range text start pair.start))
-      then Some (span_of pair start pair.start true)
-      else (if has_frame_url virtual pair start (slice_range text start pair.start) then Some (span_of pair start pair.start false) else None)
+      then Some (in_frame virtual.start (span_of pair start pair.start true))
+      else (if has_frame_url virtual pair start (slice_range text start pair.start) then Some (in_frame virtual.start (span_of pair start pair.start false))
+      else None)
 
   abbrev pub frame_with : (virtual : VirtualLine) → (start : ℕ) → Option Pair → Option Span
   frame_with virtual start None = None

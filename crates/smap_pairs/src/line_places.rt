@@ -1,6 +1,6 @@
 //! The places of a line.
 ghost use Rattle.std.specs.Prelude.{◌≡◌, ◌≤◌, ◌<◌, IfOk, IsOk, length, vec_capacity};
-ghost use Rattle.smap_pairs.specs.LinePlaces.{places_in, span_of};
+ghost use Rattle.smap_pairs.specs.LinePlaces.{in_frame, places_in, span_of};
 ghost use Rattle.smap_pairs.specs.Seen.{seen_of};
 ghost use Rattle.smap_pairs.specs.Spans.{AreSpansInOrder, none_found};
 
@@ -16,9 +16,11 @@ use std::alloc::{AllocError, Global};
 use std::marker::Model;
 
 /// A place in a line: from which byte to which it stands, where its URL ends, its line and its column, which count from 1,
-/// and whether each two backslashes of its URL are one.
+/// and whether each two backslashes of its URL are one; and where the frame begins that it is the place of, or where it does
+/// itself.
 #[derive(Clone, Copy)]
 pub struct Span {
+    pub frame_start: usize,
     pub start: usize,
     pub url_end: usize,
     pub end: usize,
@@ -133,16 +135,27 @@ impl LinePlaces {
     }
 }
 
-/// The place of a pair whose URL stands from a byte to another.
+/// The place of a pair whose URL stands from a byte to another, in no frame.
 pub fn span_of(pair: &Pair, start: usize, url_end: usize, is_halved: bool) -> Span
     ensures { result ≡ span_of pair.now start url_end is_halved }
 {
     Span {
+        frame_start: start,
         start,
         url_end,
         end: pair.end,
         line: pair.line,
         column: pair.column,
         is_halved,
+    }
+}
+
+/// A place as that of the frame which begins at a byte.
+pub fn in_frame(begin: usize, span: Span) -> Span
+    ensures { result ≡ in_frame begin span }
+{
+    Span {
+        frame_start: begin,
+        ..span
     }
 }

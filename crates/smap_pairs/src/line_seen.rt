@@ -9,7 +9,7 @@ use crate::behind::Behind;
 use crate::frame_url::{is_for_folder, is_for_pattern};
 use crate::halved::{halve_into, has_doubled};
 use crate::known::{KnownUrls, NamedBy};
-use crate::line_places::{Span, span_of};
+use crate::line_places::{Span, in_frame, span_of};
 use crate::named::Sought;
 use crate::pair_at::pair_at;
 use crate::pairs::Pair;
@@ -228,11 +228,13 @@ impl LineSeen<'_> {
         if 0 < line.unit && has_doubled(url) {
             halve_into(url, halves)?;
             if self.has_frame_url(known, line, pair, start, halves) {
-                return Ok(Some(span_of(pair, start, pair.start, true)));
+                let place = span_of(pair, start, pair.start, true);
+                return Ok(Some(in_frame(line.start, place)));
             }
         }
         if self.has_frame_url(known, line, pair, start, url) {
-            return Ok(Some(span_of(pair, start, pair.start, false)));
+            let place = span_of(pair, start, pair.start, false);
+            return Ok(Some(in_frame(line.start, place)));
         }
         Ok(None)
     }

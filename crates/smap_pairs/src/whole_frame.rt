@@ -7,7 +7,7 @@ ghost use Rattle.smap_pairs.specs.Seen.{seen_of};
 
 use crate::bare::is_bare_before;
 use crate::known::KnownUrls;
-use crate::line_places::{Span, span_of};
+use crate::line_places::{Span, in_frame, span_of};
 use crate::pair_at::pair_at;
 use crate::pairs::Pair;
 
@@ -33,7 +33,7 @@ pub fn whole_frame<K: KnownUrls>(
         return None;
     };
     if has_map(known, text, start, &pair) {
-        Some(span_of(&pair, start, end, false))
+        Some(in_frame(0, span_of(&pair, start, end, false)))
     } else {
         None
     }

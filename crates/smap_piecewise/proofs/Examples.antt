@@ -6,13 +6,17 @@ use Rattle.smap_pairs.specs.Chunks.{cuts_from}
 use Rattle.smap_pairs.specs.Known.{UrlsKnown}
 use Rattle.smap_trace.specs.FrameOf.{frame_of}
 use Rattle.smap_trace.specs.Hiding.{HidingSeen}
-use Rattle.smap_trace.specs.MapsOf.{MapsByUrl, counts_by}
+use Rattle.smap_store.specs.NamedOf.{NamedByUrl, counts_named}
+use Rattle.smap_trace.specs.MapsOf.{MapsByUrl}
 use Rattle.smap_piecewise.specs.FirstLine.{behind_line, line_at, through_line}
 use Rattle.smap_piecewise.specs.Frames.{FramesNow, IsAllDone, IsBeforeUnknown, next_url, outcome_of, rest_of}
 use Rattle.smap_piecewise.specs.Places.{AnywhereNow, ArePlacesDone, IsBeforePlace, lines_left, nothing_given, places_outcome}
 
 abbrev no_maps : MapsByUrl
 no_maps url = None
+
+abbrev no_names : NamedByUrl
+no_names = record { maps = no_maps; names = λ url. None }
 
 abbrev hide_none : HidingSeen
 hide_none = record { ignored = false; texts = [] }
@@ -46,7 +50,7 @@ midway left = record {
 }
 
 -- what map its URL has is wanted, since nothing is known
-is_wanted : IsBeforeUnknown (λ url. None) (midway (codes "at /b.js:1:6\nat"))
+is_wanted : IsBeforeUnknown (record { maps = λ url. None; declared = λ url. None }) (midway (codes "at /b.js:1:6\nat"))
 unfolding frame_of
 is_wanted = record { url = codes "/b.js"; next = refl; unknown = refl; anew = refl; decided = refl }
 
@@ -55,15 +59,15 @@ is_open : IsAllDone (midway (codes "at /b.js:1:6"))
 is_open = record { no_end = refl; short = omega arith; none_passing = λ e. absurd (cc); none_ended = λ e. absurd (cc) }
 
 -- what it comes to over no maps, if a line comes
-comes_to : outcome_of no_maps (midway (codes "at /b.js:1:6")) (codes "\nx")
+comes_to : outcome_of no_names (midway (codes "at /b.js:1:6")) (codes "\nx")
     ≡ record { text = codes "Error\nat /b.js:1:6\nx"; lines = 3; frames = 1; mapped = 0; hidden = 0 }
-unfolding frame_of edited counts_by
+unfolding frame_of edited counts_named
 comes_to = refl
 
 -- the end of a line that is too long, and the lines behind it
-passing : rest_of no_maps hide_none true (codes "end\nat /b.js:1:6")
+passing : rest_of no_names hide_none true (codes "end\nat /b.js:1:6")
     ≡ record { text = codes "end\nat /b.js:1:6"; lines = 1; frames = 1; mapped = 0; hidden = 0 }
-unfolding frame_of edited counts_by
+unfolding frame_of edited counts_named
 passing = refl
 
 -- ---- places
@@ -74,7 +78,7 @@ before_place = record {
   left = codes "at /u:1:2 x";
   chunk = 11;
   from = 3;
-  waiting = record { start = 3; url_end = 5; end = 9; line = 1; column = 2; is_halved = false } ∷ [];
+  waiting = record { frame_start = 3; start = 3; url_end = 5; end = 9; line = 1; column = 2; is_halved = false } ∷ [];
   wanted = Some (codes "/u");
   is_broken = false;
   is_open = false;

@@ -11,11 +11,11 @@ use Rattle.smap_lines.proofs.LineLaws.{first_line, only_line}
 use Rattle.smap_trace.specs.Frame.{has_cr_within, is_line}
 use Rattle.smap_trace.specs.FrameOf.{frame_of}
 use Rattle.smap_trace.specs.Hiding.{HidingSeen}
-use Rattle.smap_trace.specs.MapsOf.{MapsByUrl, counts_by, fate_by, is_hidden_by, is_mapped_by, line_by}
+use Rattle.smap_store.specs.NamedOf.{NamedByUrl, counts_named, fate_named, is_hidden_named, is_mapped_named, line_named}
 use Rattle.smap_trace.specs.Rewritten.{Fate, is_frame_line, is_hidden, is_mapped, line_after}
 use Rattle.smap_piecewise.specs.FirstLine.{behind_line, line_at, through_line}
 use Rattle.smap_piecewise.specs.Frames.{FramesNow, GoesOn, IsAllDone, done_of, frames_start, of_text, outcome_of, rest_of}
-use Rattle.smap_piecewise.specs.Known.{Agrees, KnownByUrl}
+use Rattle.smap_piecewise.specs.Known.{AgreesNamed, NamedKnown}
 use Rattle.smap_piecewise.specs.Outcome.{Outcome, both, text_alone}
 use Rattle.smap_piecewise.specs.Private.Frames.{IsWithin, counts_with}
 use Rattle.smap_piecewise.specs.Private.Given.{IsFirstLine, end_size, line_size}
@@ -46,19 +46,19 @@ lines_by false line rest later text is none some ends =
 
 -- ---- what becomes of them
 
-module _ (maps : MapsByUrl) (hide : HidingSeen) where
+module _ (maps : NamedByUrl) (hide : HidingSeen) where
   of_text_is : (text : List ℕ) → of_text maps hide text
-      ≡ of_lines (line_by maps hide) is_frame_line (is_mapped_by maps hide) (is_hidden_by maps hide) (lines_with_ends text)
-  unfolding edited counts_by
+      ≡ of_lines (line_named maps hide) is_frame_line (is_mapped_named maps hide) (is_hidden_named maps hide) (lines_with_ends text)
+  unfolding edited counts_named
   of_text_is text = refl
 
   -- the first line, and the others
   by_line : (text rest : List ℕ) (line : Line) → lines_with_ends text ≡ line ∷ lines_with_ends rest
-      → of_text maps hide text ≡ both (of_one (line_by maps hide) is_frame_line (is_mapped_by maps hide) (is_hidden_by maps hide) line) (of_text maps hide rest)
+      → of_text maps hide text ≡ both (of_one (line_named maps hide) is_frame_line (is_mapped_named maps hide) (is_hidden_named maps hide) line) (of_text maps hide rest)
   by_line text rest line is =
-      of_text_is text ∙ ap (of_lines (line_by maps hide) is_frame_line (is_mapped_by maps hide) (is_hidden_by maps hide)) is
-      ∙ of_next (line_by maps hide) is_frame_line (is_mapped_by maps hide) (is_hidden_by maps hide) line (lines_with_ends rest)
-      ∙ ap (both (of_one (line_by maps hide) is_frame_line (is_mapped_by maps hide) (is_hidden_by maps hide) line)) (sym (of_text_is rest))
+      of_text_is text ∙ ap (of_lines (line_named maps hide) is_frame_line (is_mapped_named maps hide) (is_hidden_named maps hide)) is
+      ∙ of_next (line_named maps hide) is_frame_line (is_mapped_named maps hide) (is_hidden_named maps hide) line (lines_with_ends rest)
+      ∙ ap (both (of_one (line_named maps hide) is_frame_line (is_mapped_named maps hide) (is_hidden_named maps hide) line)) (sym (of_text_is rest))
 
   -- a line that is not too long, and comes to this
   abbrev pub of_short : Line → Fate → Outcome
@@ -70,10 +70,10 @@ module _ (maps : MapsByUrl) (hide : HidingSeen) where
     hidden = cond (is_hidden met) 1 0;
   }
 
-  short_is : (line : Line) (met : Fate) → is_short line ≡ true → fate_by maps hide (frame_of line.bytes) ≡ met
-      → of_one (line_by maps hide) is_frame_line (is_mapped_by maps hide) (is_hidden_by maps hide) line ≡ of_short line met
+  short_is : (line : Line) (met : Fate) → is_short line ≡ true → fate_named maps hide (frame_of line.bytes) ≡ met
+      → of_one (line_named maps hide) is_frame_line (is_mapped_named maps hide) (is_hidden_named maps hide) line ≡ of_short line met
   short_is line met short is = λ i. record {
-    text = (ap (λ b. cond b (line_by maps hide line) (line_text line)) short ∙ ap (line_after line) is) i;
+    text = (ap (λ b. cond b (line_named maps hide line) (line_text line)) short ∙ ap (line_after line) is) i;
     lines = 1;
     frames = cond (is_some (frame_of line.bytes)) 1 0;
     mapped = cond (is_mapped (is i)) 1 0;
@@ -81,7 +81,7 @@ module _ (maps : MapsByUrl) (hide : HidingSeen) where
   }
 
   pub by_short : (text rest : List ℕ) (line : Line) (met : Fate) → lines_with_ends text ≡ line ∷ lines_with_ends rest → is_short line ≡ true
-      → fate_by maps hide (frame_of line.bytes) ≡ met → of_text maps hide text ≡ both (of_short line met) (of_text maps hide rest)
+      → fate_named maps hide (frame_of line.bytes) ≡ met → of_text maps hide text ≡ both (of_short line met) (of_text maps hide rest)
   by_short text rest line met is short fate =
       by_line text rest line is ∙ ap (λ first. both first (of_text maps hide rest)) (short_is line met short fate)
 
@@ -96,14 +96,14 @@ module _ (maps : MapsByUrl) (hide : HidingSeen) where
   of_long text = record { text = text; lines = 1; frames = 0; mapped = 0; hidden = 0 }
 
   long_is : (line : Line) → is_short line ≡ false
-      → of_one (line_by maps hide) is_frame_line (is_mapped_by maps hide) (is_hidden_by maps hide) line ≡ of_long (line_text line)
+      → of_one (line_named maps hide) is_frame_line (is_mapped_named maps hide) (is_hidden_named maps hide) line ≡ of_long (line_text line)
   long_is line long =
       let none = long_is_none line long in λ i. record {
-        text = ap (λ b. cond b (line_by maps hide line) (line_text line)) long i;
+        text = ap (λ b. cond b (line_named maps hide line) (line_text line)) long i;
         lines = 1;
         frames = cond (is_some (none i)) 1 0;
-        mapped = cond (is_mapped (fate_by maps hide (none i))) 1 0;
-        hidden = cond (is_hidden (fate_by maps hide (none i))) 1 0;
+        mapped = cond (is_mapped (fate_named maps hide (none i))) 1 0;
+        hidden = cond (is_hidden (fate_named maps hide (none i))) 1 0;
       }
 
   -- what begins in it is counted with it
@@ -162,7 +162,7 @@ cond_few false = omega arith
 cut_is : (n : ℕ) (text rest : List ℕ) → n ≤ length text → rest ≡ drop n text → length rest + n ≡ length text
 cut_is n text rest within is = omega (arith, within, ap length is, length-drop n text)
 
-module _ (known : KnownByUrl) (old new : FramesNow) (line : FirstLine) (first : IsFirstLine old.left line) (hide : new.hide ≡ old.hide)
+module _ (known : NamedKnown) (old new : FramesNow) (line : FirstLine) (first : IsFirstLine old.left line) (hide : new.hide ≡ old.hide)
     (ended : new.is_ended ≡ old.is_ended) (left : new.left ≡ drop (line_size line) old.left) where
   joined : old.left ≡ take line.bytes old.left ++ (end_in line.is_ended ++ new.left)
   joined = first.joined ∙ ap (λ r. take line.bytes old.left ++ (end_in line.is_ended ++ r)) (sym left)
@@ -181,7 +181,7 @@ module _ (known : KnownByUrl) (old new : FramesNow) (line : FirstLine) (first : 
     is_this_short : is_short (record { bytes = take line.bytes old.left; is_ended = line.is_ended }) ≡ true
     is_this_short = let few : length (take line.bytes old.left) ≤ most_line_bytes = omega (arith, size, short) in search (arith, few)
 
-    line_same : (maps : MapsByUrl) (later : List ℕ) → Agrees known maps → (old.is_ended ≡ true → later ≡ []) → outcome_of maps new later ≡ outcome_of maps old later
+    line_same : (maps : NamedByUrl) (later : List ℕ) → AgreesNamed known maps → (old.is_ended ≡ true → later ≡ []) → outcome_of maps new later ≡ outcome_of maps old later
     line_same maps later agrees ends =
         let lines = lines_by line.is_ended (take line.bytes old.left) new.left later old.left joined first.one (omega (arith, size, some))
         (λ is. (alone is, ends (ap (λ b. b || old.is_ended) (sym is) ∙ decided))) in
@@ -231,7 +231,7 @@ module _ (known : KnownByUrl) (old new : FramesNow) (line : FirstLine) (first : 
         (ap (λ r. take (line_size line) old.left ++ r) left ∙ take-append-drop (line_size line) old.left ∙ joined
         ∙ sym (append_assoc (take line.bytes old.left) (end_in line.is_ended) new.left))
 
-    passed_same : (maps : MapsByUrl) (later : List ℕ) → Agrees known maps → (old.is_ended ≡ true → later ≡ []) → outcome_of maps new later ≡ outcome_of maps old later
+    passed_same : (maps : NamedByUrl) (later : List ℕ) → AgreesNamed known maps → (old.is_ended ≡ true → later ≡ []) → outcome_of maps new later ≡ outcome_of maps old later
     passed_same maps later agrees ends =
         moved (done_of old) (done_of new) (of_passed maps old.hide old.is_passing (take line.bytes old.left ++ end_in line.is_ended))
         (rest_of maps old.hide old.is_passing (old.left ++ later)) (rest_of maps new.hide new.is_passing (new.left ++ later))
@@ -271,7 +271,7 @@ module _ (known : KnownByUrl) (old new : FramesNow) (line : FirstLine) (first : 
 
 -- ---- it stays, or goes on twice
 
-pub goes_nowhere : (known : KnownByUrl) (now : FramesNow) → GoesOn known now now
+pub goes_nowhere : (known : NamedKnown) (now : FramesNow) → GoesOn known now now
 goes_nowhere known now = record {
   same = λ maps later agrees ends. refl;
   hide = refl;
@@ -282,7 +282,7 @@ goes_nowhere known now = record {
   written = sym (append-nil now.output);
 }
 
-pub goes_twice : (known : KnownByUrl) (old mid new : FramesNow) → GoesOn known old mid → GoesOn known mid new → GoesOn known old new
+pub goes_twice : (known : NamedKnown) (old mid new : FramesNow) → GoesOn known old mid → GoesOn known mid new → GoesOn known old new
 goes_twice known old mid new first second = record {
   same = λ maps later agrees ends. second.same maps later agrees (λ is. ends (sym first.is_ended ∙ is)) ∙ first.same maps later agrees ends;
   hide = second.hide ∙ first.hide;
@@ -295,20 +295,20 @@ goes_twice known old mid new first second = record {
 
 -- ---- the beginning and the end
 
-pub begins_whole : (maps : MapsByUrl) (hide : HidingSeen) (text : List ℕ) → outcome_of maps (frames_start hide) text ≡ of_text maps hide text
+pub begins_whole : (maps : NamedByUrl) (hide : HidingSeen) (text : List ℕ) → outcome_of maps (frames_start hide) text ≡ of_text maps hide text
 begins_whole maps hide text = zero_both (of_text maps hide text)
 
-none_of_none : (maps : MapsByUrl) (hide : HidingSeen) (p : Bool) → rest_of maps hide p [] ≡ text_alone []
-unfolding edited counts_by
+none_of_none : (maps : NamedByUrl) (hide : HidingSeen) (p : Bool) → rest_of maps hide p [] ≡ text_alone []
+unfolding edited counts_named
 none_of_none maps hide true = refl
 none_of_none maps hide false = refl
 
-pub all_written : (maps : MapsByUrl) (now : FramesNow) → IsAllDone now → now.is_ended ≡ true → outcome_of maps now [] ≡ done_of now
+pub all_written : (maps : NamedByUrl) (now : FramesNow) → IsAllDone now → now.is_ended ≡ true → outcome_of maps now [] ≡ done_of now
 all_written maps now is ended =
     ap (λ left. both (done_of now) (rest_of maps now.hide now.is_passing (left ++ []))) (is.none_ended ended)
     ∙ ap (both (done_of now)) (none_of_none maps now.hide now.is_passing) ∙ both_zero (done_of now)
 
 -- bytes more
-pub given_more : (maps : MapsByUrl) (old : FramesNow) (bytes later : List ℕ)
+pub given_more : (maps : NamedByUrl) (old : FramesNow) (bytes later : List ℕ)
     → outcome_of maps (record old { left = old.left ++ bytes }) later ≡ outcome_of maps old (bytes ++ later)
 given_more maps old bytes later = ap (λ l. both (done_of old) (rest_of maps old.hide old.is_passing l)) (append_assoc old.left bytes later)

@@ -5,7 +5,7 @@ use Rattle.smap_piecewise.specs.Private.Frames.{frames_seen}
 use Rattle.smap_piecewise.specs.Private.Places.{IsInChunk, places_seen}
 use Rattle.smap_piecewise.specs.Private.Rewriting.{IsInOrder, rewriting_seen}
 use Rattle.smap_piecewise.specs.Private.Work.{IsWorkSound, IsWorkWithin, TakesFrom, WorkSteps, work_seen}
-use Rattle.smap_piecewise.specs.Known.{KnownByUrl}
+use Rattle.smap_piecewise.specs.Known.{NamedKnown}
 use Rattle.smap_piecewise.specs.Rewriting.{HasRun, IsHandedOn, RewritingNow, stripping_at_first}
 use Rattle.smap_piecewise.specs.Stripping.{held_of, text_behind}
 use Rattle.smap_piecewise.specs.Work.{OfFrames, OfPlaces, WorkGoesOn, WorkNow, is_over, output_of, with_end, with_left, without_output, work_outcome}
@@ -190,7 +190,7 @@ module _ (inside : Inside) (order : IsInOrder inside) (old new : Stripping) (is 
         (before.0, none_of new.held (omega (arith, takes.few, held, ap length before.1)));
   }
 
-  pub told_runs : (urls : UrlsKnown) (known : KnownByUrl) → HasRun urls known (rewriting_seen inside) (rewriting_seen (record inside { work = work; stripping = Some new }))
+  pub told_runs : (urls : UrlsKnown) (known : NamedKnown) → HasRun urls known (rewriting_seen inside) (rewriting_seen (record inside { work = work; stripping = Some new }))
   told_runs urls known = record {
     same = λ maps later agrees ends.
         ap (λ (w : WorkNow). work_outcome urls maps w (kept (new.held ++ later) 0 new.most)) takes.work
@@ -208,7 +208,7 @@ module _ (inside : Inside) (order : IsInOrder inside) (old new : Stripping) (is 
 
 -- ---- it runs
 
-pub runs_nowhere : (urls : UrlsKnown) (known : KnownByUrl) (now : RewritingNow) → HasRun urls known now now
+pub runs_nowhere : (urls : UrlsKnown) (known : NamedKnown) (now : RewritingNow) → HasRun urls known now now
 runs_nowhere urls known now = record {
   same = λ maps later agrees ends. refl;
   more = [];
@@ -220,7 +220,7 @@ runs_nowhere urls known now = record {
   taken = refl;
 }
 
-pub runs_twice : (urls : UrlsKnown) (known : KnownByUrl) (old mid new : RewritingNow) → HasRun urls known old mid → HasRun urls known mid new → HasRun urls known old new
+pub runs_twice : (urls : UrlsKnown) (known : NamedKnown) (old mid new : RewritingNow) → HasRun urls known old mid → HasRun urls known mid new → HasRun urls known old new
 runs_twice urls known old mid new first second = record {
   same = λ maps later agrees ends. second.same maps later agrees (λ is. ends (sym first.is_ended ∙ is)) ∙ first.same maps later agrees ends;
   more = first.more ++ second.more;
@@ -265,7 +265,7 @@ module _ (inside : Inside) (order : IsInOrder inside) (work : Work) (seen : work
     over = λ ended. (sym closed_over ∙ ended, told (sym closed_over ∙ ended));
   }
 
-  pub closed_runs : (urls : UrlsKnown) (known : KnownByUrl) → HasRun urls known (rewriting_seen inside) (rewriting_seen (record inside { work = work }))
+  pub closed_runs : (urls : UrlsKnown) (known : NamedKnown) → HasRun urls known (rewriting_seen inside) (rewriting_seen (record inside { work = work }))
   closed_runs urls known = record {
     same = λ maps later agrees ends.
         ap (λ (w : WorkNow). work_outcome urls maps w (text_behind inside.stripping later)) seen
@@ -284,20 +284,20 @@ module _ (inside : Inside) (order : IsInOrder inside) (work : Work) (seen : work
 
 -- ---- it goes on
 
-steps_sound : (urls : UrlsKnown) (known : KnownByUrl) (old new : Work) → WorkSteps urls known old new → IsWorkSound new
+steps_sound : (urls : UrlsKnown) (known : NamedKnown) (old new : Work) → WorkSteps urls known old new → IsWorkSound new
 steps_sound urls known (work_of.Frames old) (work_of.Frames new) steps = tt
 steps_sound urls known (work_of.Places old) (work_of.Places new) steps = steps.sound
 steps_sound urls known (work_of.Frames old) (work_of.Places new) steps = absurd steps
 steps_sound urls known (work_of.Places old) (work_of.Frames new) steps = absurd steps
 
-steps_within : (urls : UrlsKnown) (known : KnownByUrl) (old new : Work) → WorkSteps urls known old new → (size : ℕ) → IsWorkWithin size (work_seen old)
+steps_within : (urls : UrlsKnown) (known : NamedKnown) (old new : Work) → WorkSteps urls known old new → (size : ℕ) → IsWorkWithin size (work_seen old)
     → IsWorkWithin size (work_seen new)
 steps_within urls known (work_of.Frames old) (work_of.Frames new) steps size within = steps.within size within
 steps_within urls known (work_of.Places old) (work_of.Places new) steps size within = steps.within size within
 steps_within urls known (work_of.Frames old) (work_of.Places new) steps size within = absurd steps
 steps_within urls known (work_of.Places old) (work_of.Frames new) steps size within = absurd steps
 
-steps_go : (urls : UrlsKnown) (known : KnownByUrl) (old new : Work) → WorkSteps urls known old new → WorkGoesOn urls known (work_seen old) (work_seen new)
+steps_go : (urls : UrlsKnown) (known : NamedKnown) (old new : Work) → WorkSteps urls known old new → WorkGoesOn urls known (work_seen old) (work_seen new)
 steps_go urls known (work_of.Frames old) (work_of.Frames new) steps = steps.goes
 steps_go urls known (work_of.Places old) (work_of.Places new) steps = steps.goes
 steps_go urls known (work_of.Frames old) (work_of.Places new) steps = absurd steps
@@ -309,7 +309,7 @@ record IsOnward (old new : WorkNow) : Type 0 where
   written : output_of new ≡ output_of old ++ more
   over : is_over new ≡ is_over old
 
-onward : (urls : UrlsKnown) (known : KnownByUrl) (old new : WorkNow) → WorkGoesOn urls known old new → IsOnward old new
+onward : (urls : UrlsKnown) (known : NamedKnown) (old new : WorkNow) → WorkGoesOn urls known old new → IsOnward old new
 onward urls known (OfFrames old) (OfFrames new) goes = record { more = goes.more; written = goes.written; over = goes.is_ended }
 onward urls known (OfPlaces old) (OfPlaces new) goes = record { more = goes.more; written = goes.written; over = goes.is_ended }
 onward urls known (OfFrames old) (OfPlaces new) goes = absurd goes
@@ -323,7 +323,7 @@ module _ (inside : Inside) (order : IsInOrder inside) where
   pub room_for_all : IsWorkWithin (2 ^ 64 - 1) (work_seen inside.work)
   room_for_all = work_within_more order.size (2 ^ 64 - 1) (work_seen inside.work) order.within (omega (arith, order.few, order.taken, order.countable))
 
-  module _ (urls : UrlsKnown) (known : KnownByUrl) (work : Work) (steps : WorkSteps urls known inside.work work) where
+  module _ (urls : UrlsKnown) (known : NamedKnown) (work : Work) (steps : WorkSteps urls known inside.work work) where
     went : IsOnward (work_seen inside.work) (work_seen work)
     went = onward urls known (work_seen inside.work) (work_seen work) (steps_go urls known inside.work work steps)
 

@@ -5,18 +5,24 @@ use Rattle.smap_locations.specs.Paths.{without_query}
 use Rattle.smap_kept.specs.declared.answer.KeptAnswer.{KeptAnswer}
 use Rattle.smap_kept.specs.declared.answer.KeptAnswer.TheVariants.{Known, NoneKnown, Wanted}
 use Rattle.smap_kept.specs.declared.answer.NoValue.{NoValue}
-use Rattle.smap_piecewise.specs.KeptMaps.{known_in, stated_by}
-use Rattle.smap_piecewise.specs.Known.{KnownByUrl}
+use Rattle.smap_declarations.specs.Declarations.{Named}
+use Rattle.smap_piecewise.specs.KeptMaps.{declared_by, declared_in, known_in, stated_by}
+use Rattle.smap_piecewise.specs.Known.{DeclaredByUrl, KnownByUrl}
 use Rattle.smap_piecewise.specs.Location.{is_location}
-use Rattle.smap_piecewise.specs.StoreMaps.{known_by, known_over}
+use Rattle.smap_piecewise.specs.StoreMaps.{declared_over, declared_where, known_by, maps_over}
+use Rattle.smap_piecewise.specs.declared.kept_maps.KeptMap.{KeptMap}
 use Rattle.smap_piecewise.specs.declared.kept_maps.KeptMaps.{KeptMaps}
-use Rattle.smap_record.specs.MapFile.{Map}
 use Rattle.smap_record.specs.Record.{MapRecord}
-use Rattle.smap_store.specs.UrlTable.{UrlTableSeen, map_under}
+use Rattle.smap_store.specs.UrlTable.{UrlTableSeen, declared_under, map_under}
 
 pub known_same : (asks : Bool) (table : UrlTableSeen) (old new : KeptMaps) → ◌≡◌ {A = KnownByUrl} (known_in new.now new.kept) (known_in old.now old.kept)
-    → ◌≡◌ {A = KnownByUrl} (known_over asks table new) (known_over asks table old)
+    → ◌≡◌ {A = KnownByUrl} (maps_over asks table new) (maps_over asks table old)
 known_same asks table old new same = ap (λ (known : KnownByUrl). λ url. known_by asks url (map_under true table url) (known url)) same
+
+pub declared_same : (table : UrlTableSeen) (old new : KeptMaps) → ◌≡◌ {A = DeclaredByUrl} (declared_in new.now new.kept) (declared_in old.now old.kept)
+    → ◌≡◌ {A = DeclaredByUrl} (declared_over table new) (declared_over table old)
+declared_same table old new same =
+    ap (λ (declared : DeclaredByUrl). λ url. declared_where (map_under true table url) (declared_under true table url) (declared url)) same
 
 pub some_mapped : {A B : Type 0} (f : A → B) (o : Option A) → is_some (option_map f o) ≡ is_some o
 some_mapped f None = refl
@@ -36,12 +42,12 @@ unknown_is asks url None None none unknown = unkept_is (asks && is_location (wit
 unknown_is asks url None (Some known) none unknown = absurd (cc)
 unknown_is asks url (Some map) kept none unknown = absurd (cc)
 
-pub none_kept : (asks : Bool) (url : List ℕ) (of_table : Option MapRecord) (answer : KeptAnswer Map) (why : NoValue) → ◌≡◌ {A = Option MapRecord} None of_table
-    → ◌≡◌ {A = KeptAnswer Map} (NoneKnown why) answer → ◌≡◌ {A = Option (Option MapRecord)} (Some None) (known_by asks url of_table (stated_by answer))
+pub none_kept : (asks : Bool) (url : List ℕ) (of_table : Option MapRecord) (answer : KeptAnswer KeptMap) (why : NoValue) → ◌≡◌ {A = Option MapRecord} None of_table
+    → ◌≡◌ {A = KeptAnswer KeptMap} (NoneKnown why) answer → ◌≡◌ {A = Option (Option MapRecord)} (Some None) (known_by asks url of_table (stated_by answer))
 none_kept asks url of_table answer why none is = λ i. known_by asks url (none i) (stated_by (is i))
 
 -- what was not found says either
-pub none_kept_by : (asks : Bool) (url : List ℕ) (of_table : Option MapRecord) (answer : KeptAnswer Map) → ◌≡◌ {A = Option MapRecord} None of_table
+pub none_kept_by : (asks : Bool) (url : List ℕ) (of_table : Option MapRecord) (answer : KeptAnswer KeptMap) → ◌≡◌ {A = Option MapRecord} None of_table
     → ((why : NoValue) × (answer ≡ NoneKnown why)) ⊎ (answer ≡ Wanted) → is_some (known_by asks url of_table (stated_by answer)) ≡ true
     → ◌≡◌ {A = Option (Option MapRecord)} (Some None) (known_by asks url of_table (stated_by answer))
 none_kept_by asks url of_table answer none (inl found) known = none_kept asks url of_table answer found.0 none (sym found.1)

@@ -4,9 +4,9 @@ use Rattle.std.proofs.Common.{drop, length-drop, length-take-le}
 use Rattle.std.specs.List.{slice_range}
 use Rattle.smap_pairs.specs.Known.{UrlsKnown}
 use Rattle.smap_io.specs.Sequences.{kept}
-use Rattle.smap_trace.specs.MapsOf.{MapsByUrl}
+use Rattle.smap_store.specs.NamedOf.{NamedByUrl}
 use Rattle.smap_piecewise.specs.Frames.{FramesNow, GoesOn, IsTooLong, outcome_of as frames_outcome, rest_of}
-use Rattle.smap_piecewise.specs.Known.{Agrees, KnownByUrl}
+use Rattle.smap_piecewise.specs.Known.{AgreesNamed, KnownByUrl, NamedKnown}
 use Rattle.smap_piecewise.specs.Outcome.{Outcome}
 use Rattle.smap_piecewise.specs.Places.{AnywhereNow, ArePlacesTooLong, PlacesGoOn, lines_left, of_parts, parts_left, places_outcome}
 use Rattle.smap_piecewise.specs.Stripping.{held_of, text_behind}
@@ -18,7 +18,7 @@ use Rattle.smap_piecewise.proofs.PlacesLaws.{places_given}
 
 -- ---- more bytes than may be written
 
-pub too_long : (known : KnownByUrl) (old new : FramesNow) (limit : ℕ) → GoesOn known old new → limit < length new.output → IsTooLong limit known old
+pub too_long : (known : NamedKnown) (old new : FramesNow) (limit : ℕ) → GoesOn known old new → limit < length new.output → IsTooLong limit known old
 too_long known old new limit goes long = λ maps later agrees ends.
     let rest : List ℕ = (rest_of maps new.hide new.is_passing (new.left ++ later)).text in
     let same : length (new.output ++ rest) ≡ length (frames_outcome maps old later).text =
@@ -43,13 +43,13 @@ abbrev pub HasChunk : WorkNow → Type 0
 HasChunk (OfFrames now) = Unit {0}
 HasChunk (OfPlaces now) = now.chunk ≤ length now.left
 
-pub work_given : (urls : UrlsKnown) (maps : MapsByUrl) (work : WorkNow) (bytes later : List ℕ) → HasChunk work
+pub work_given : (urls : UrlsKnown) (maps : NamedByUrl) (work : WorkNow) (bytes later : List ℕ) → HasChunk work
     → work_outcome urls maps (with_left bytes work) later ≡ work_outcome urls maps work (bytes ++ later)
 work_given urls maps (OfFrames now) bytes later has = given_more maps now bytes later
-work_given urls maps (OfPlaces now) bytes later has = places_given urls maps now bytes later has
+work_given urls maps (OfPlaces now) bytes later has = places_given urls maps.maps now bytes later has
 
 -- those that are handed on
-pub passed_on : (urls : UrlsKnown) (maps : MapsByUrl) (work : WorkNow) (is_ended : Bool) (old new : Stripping) (left given : List ℕ) (later : List ℕ) → HasChunk work
+pub passed_on : (urls : UrlsKnown) (maps : NamedByUrl) (work : WorkNow) (is_ended : Bool) (old new : Stripping) (left given : List ℕ) (later : List ℕ) → HasChunk work
     → (is_ended ≡ true → later ≡ []) → (passes : PassesOn is_ended old new left given)
     → work_outcome urls maps (with_left passes.more work) (text_behind (Some new) later) ≡ work_outcome urls maps work (text_behind (Some old) later)
 passed_on urls maps work is_ended old new left given later has ends passes =
@@ -57,17 +57,18 @@ passed_on urls maps work is_ended old new left given later has ends passes =
     ∙ ap (work_outcome urls maps work) (sym (passes.same later ends))
 
 -- its end changes nothing of what it comes to
-pub work_ended : (urls : UrlsKnown) (maps : MapsByUrl) (work : WorkNow) (is_ended : Bool) (later : List ℕ)
+pub work_ended : (urls : UrlsKnown) (maps : NamedByUrl) (work : WorkNow) (is_ended : Bool) (later : List ℕ)
     → work_outcome urls maps (with_end is_ended work) later ≡ work_outcome urls maps work later
 work_ended urls maps (OfFrames now) is_ended later = refl
 work_ended urls maps (OfPlaces now) is_ended later = refl
 
 -- ---- it goes on
 
-pub work_same : (urls : UrlsKnown) (known : KnownByUrl) (maps : MapsByUrl) (old new : WorkNow) (later : List ℕ) → WorkGoesOn urls known old new → Agrees known maps
+pub work_same : (urls : UrlsKnown) (known : NamedKnown) (maps : NamedByUrl) (old new : WorkNow) (later : List ℕ) → WorkGoesOn urls known old new → AgreesNamed known maps
     → (is_over old ≡ true → later ≡ []) → work_outcome urls maps new later ≡ work_outcome urls maps old later
 work_same urls known maps (OfFrames old) (OfFrames new) later goes agrees ends = goes.same maps later agrees ends
-work_same urls known maps (OfPlaces old) (OfPlaces new) later goes agrees ends = goes.same maps later agrees ends
+work_same urls known maps (OfPlaces old) (OfPlaces new) later goes agrees ends =
+    goes.same maps.maps later (λ url stated is. (agrees url stated is).0) ends
 work_same urls known maps (OfFrames old) (OfPlaces new) later goes agrees ends = absurd goes
 work_same urls known maps (OfPlaces old) (OfFrames new) later goes agrees ends = absurd goes
 

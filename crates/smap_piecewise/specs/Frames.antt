@@ -1,14 +1,15 @@
--- A text whose frames are rewritten while it comes (this project's own): what it comes to, over maps of which not all are known.
+-- A text whose frames are rewritten while it comes (this project's own): what it comes to, over maps and names of
+-- functions of which not all are known.
 use Rattle.std.specs.Prelude.{◌≡◌, ◌<◌, ◌≤◌, ℕ, ◌-◌, cond, ◌||◌, Bool, true, false, List, [], ◌++◌, Option, Some, None, length, option_map}
 use Rattle.smap_lines.specs.Limits.{most_line_bytes}
 use Rattle.smap_lines.specs.Lines.{has_line_end}
 use Rattle.smap_trace.specs.FrameOf.{frame_of}
 use Rattle.smap_trace.specs.Hiding.{HidingSeen}
-use Rattle.smap_trace.specs.MapsOf.{MapsByUrl, counts_by, rewritten_by}
+use Rattle.smap_store.specs.NamedOf.{NamedByUrl, counts_named, rewritten_named}
 use Rattle.smap_trace.specs.Rewritten.{Counts}
 use Rattle.smap_piecewise.specs.FirstLine.{behind_line, line_at, through_line}
 use Rattle.smap_piecewise.specs.Outcome.{Outcome, both, text_alone}
-use Rattle.smap_piecewise.specs.Known.{Agrees, KnownByUrl}
+use Rattle.smap_piecewise.specs.Known.{AgreesNamed, NamedKnown}
 use Rattle.smap_piecewise.specs.declared.stop.Stop.{Stop}
 use Rattle.smap_piecewise.specs.declared.stop.Stop.TheVariants.{Done, Full, Wanted}
 
@@ -38,17 +39,17 @@ frames_start hide = record {
 -- ---- what it comes to
 
 -- what becomes of a text, and what is counted of it
-abbrev pub of_text : MapsByUrl → (hide : HidingSeen) → (text : List ℕ) → Outcome
+abbrev pub of_text : NamedByUrl → (hide : HidingSeen) → (text : List ℕ) → Outcome
 of_text maps hide text = record {
-  text = rewritten_by maps hide text;
-  lines = (counts_by maps hide text).lines;
-  frames = (counts_by maps hide text).frames;
-  mapped = (counts_by maps hide text).mapped;
-  hidden = (counts_by maps hide text).hidden;
+  text = rewritten_named maps hide text;
+  lines = (counts_named maps hide text).lines;
+  frames = (counts_named maps hide text).frames;
+  mapped = (counts_named maps hide text).mapped;
+  hidden = (counts_named maps hide text).hidden;
 }
 
 -- the same where it begins in a line that is too long and was counted
-abbrev pub rest_of : MapsByUrl → (hide : HidingSeen) → (is_passing : Bool) → (text : List ℕ) → Outcome
+abbrev pub rest_of : NamedByUrl → (hide : HidingSeen) → (is_passing : Bool) → (text : List ℕ) → Outcome
 rest_of maps hide false text = of_text maps hide text
 rest_of maps hide true text = both (text_alone (through_line text)) (of_text maps hide (behind_line text))
 
@@ -63,15 +64,15 @@ done_of now = record {
 }
 
 -- what it comes to over these maps, if these bytes come behind those that were given
-abbrev pub outcome_of : MapsByUrl → FramesNow → (later : List ℕ) → Outcome
+abbrev pub outcome_of : NamedByUrl → FramesNow → (later : List ℕ) → Outcome
 outcome_of maps now later = both (done_of now) (rest_of maps now.hide now.is_passing (now.left ++ later))
 
 -- ---- what going on does
 
 -- over all maps that agree with what is known, and whatever bytes come, it comes to what it did; some of the bytes are done, and
 -- the output is longer
-pub record GoesOn (known : KnownByUrl) (old new : FramesNow) : Type 0 where
-  pub same : (maps : MapsByUrl) (later : List ℕ) → Agrees known maps → (old.is_ended ≡ true → later ≡ []) → outcome_of maps new later ≡ outcome_of maps old later
+pub record GoesOn (known : NamedKnown) (old new : FramesNow) : Type 0 where
+  pub same : (maps : NamedByUrl) (later : List ℕ) → AgreesNamed known maps → (old.is_ended ≡ true → later ≡ []) → outcome_of maps new later ≡ outcome_of maps old later
   pub hide : new.hide ≡ old.hide
   pub is_ended : new.is_ended ≡ old.is_ended
   pub done : List ℕ
@@ -92,19 +93,19 @@ pub record IsAllDone (now : FramesNow) : Type 0 where
   pub none_ended : now.is_ended ≡ true → now.left ≡ []
 
 -- the next line is decided and a frame, and of its URL it is not known what map it has
-pub record IsBeforeUnknown (known : KnownByUrl) (now : FramesNow) : Type 0 where
+pub record IsBeforeUnknown (known : NamedKnown) (now : FramesNow) : Type 0 where
   pub url : List ℕ
   pub next : next_url now.left ≡ Some url
-  pub unknown : known url ≡ None
+  pub unknown : known.maps url ≡ None
   pub anew : now.is_passing ≡ false
   pub decided : (has_line_end now.left || now.is_ended) ≡ true
 
 -- over all maps that agree with what is known, and whatever bytes come, it comes to more bytes than may be written
-abbrev pub IsTooLong : (limit : ℕ) → KnownByUrl → FramesNow → Type 0
-IsTooLong limit known now = (maps : MapsByUrl) (later : List ℕ) → Agrees known maps → (now.is_ended ≡ true → later ≡ [])
+abbrev pub IsTooLong : (limit : ℕ) → NamedKnown → FramesNow → Type 0
+IsTooLong limit known now = (maps : NamedByUrl) (later : List ℕ) → AgreesNamed known maps → (now.is_ended ≡ true → later ≡ [])
     → limit < length (outcome_of maps now later).text
 
-abbrev pub StopsAt : (limit : ℕ) → KnownByUrl → FramesNow → Stop → Type 0
+abbrev pub StopsAt : (limit : ℕ) → NamedKnown → FramesNow → Stop → Type 0
 StopsAt limit known now Done = IsAllDone now
 StopsAt limit known now Wanted = IsBeforeUnknown known now
 StopsAt limit known now Full = IsTooLong limit known now

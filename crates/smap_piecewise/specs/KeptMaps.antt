@@ -6,19 +6,29 @@ use Rattle.smap_kept.specs.declared.answer.KeptAnswer.{KeptAnswer}
 use Rattle.smap_kept.specs.declared.answer.KeptAnswer.TheVariants.{Known, NoneKnown, Wanted}
 use Rattle.smap_kept.specs.declared.bounded.Counted.{Counted}
 use Rattle.smap_kept.specs.declared.kept.Absence.{Absence}
-use Rattle.smap_record.specs.MapFile.{Map}
+use Rattle.smap_declarations.specs.Declarations.{Named}
+use Rattle.smap_piecewise.specs.declared.kept_maps.KeptMap.{KeptMap}
 use Rattle.smap_record.specs.Record.{MapRecord}
 
 -- ---- what is known
 
-abbrev pub stated_by : KeptAnswer Map → Option (Option MapRecord)
-stated_by (Known map) = Some (Some map.stated)
+abbrev pub stated_by : KeptAnswer KeptMap → Option (Option MapRecord)
+stated_by (Known kept) = Some (Some kept.map.stated)
 stated_by (NoneKnown why) = Some None
 stated_by Wanted = None
 
 -- of each URL what its map states, or that it has none, as it is kept at a time
-abbrev pub known_in : (now : ℕ) → KeptSeen Map → (url : List ℕ) → Option (Option MapRecord)
+abbrev pub known_in : (now : ℕ) → KeptSeen KeptMap → (url : List ℕ) → Option (Option MapRecord)
 known_in now kept url = stated_by (answer now kept url)
+
+abbrev pub declared_by : KeptAnswer KeptMap → Option (List Named)
+declared_by (Known kept) = kept.declared
+declared_by (NoneKnown why) = None
+declared_by Wanted = None
+
+-- and the declarations of its program, where they are kept with its map
+abbrev pub declared_in : (now : ℕ) → KeptSeen KeptMap → (url : List ℕ) → Option (List Named)
+declared_in now kept url = declared_by (answer now kept url)
 
 -- ---- what asking leaves as it is
 

@@ -1,4 +1,5 @@
 pub mod Known
+pub mod NamedMapSeen
 pub mod KeptMaps
 pub mod FirstLine
 pub mod Outcome

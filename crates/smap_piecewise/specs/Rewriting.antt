@@ -3,9 +3,9 @@ use Rattle.std.specs.Prelude.{◌≡◌, ◌<◌, ◌≤◌, ℕ, ◌+◌, ◌-�
 use Rattle.smap_pairs.specs.Known.{UrlsKnown}
 use Rattle.smap_io.specs.Sequences.{most_sequences, without_sequences}
 use Rattle.smap_trace.specs.Hiding.{HidingSeen}
-use Rattle.smap_trace.specs.MapsOf.{MapsByUrl}
+use Rattle.smap_store.specs.NamedOf.{NamedByUrl}
 use Rattle.smap_piecewise.specs.Frames.{frames_start}
-use Rattle.smap_piecewise.specs.Known.{Agrees, KnownByUrl}
+use Rattle.smap_piecewise.specs.Known.{AgreesNamed, NamedKnown}
 use Rattle.smap_piecewise.specs.Outcome.{Outcome}
 use Rattle.smap_piecewise.specs.Places.{nothing_given}
 use Rattle.smap_piecewise.specs.Stripping.{held_of, text_behind}
@@ -76,12 +76,12 @@ abbrev pub text_read : (is_stripped : Bool) → (text : List ℕ) → List ℕ
 text_read is_stripped text = if is_stripped then without_sequences text else text
 
 -- what it comes to over these maps, if these bytes come behind those that were given
-abbrev pub outcome_of : UrlsKnown → MapsByUrl → RewritingNow → (later : List ℕ) → Outcome
+abbrev pub outcome_of : UrlsKnown → NamedByUrl → RewritingNow → (later : List ℕ) → Outcome
 outcome_of urls maps now later = work_outcome urls maps now.work (text_behind now.stripping later)
 
 -- over all maps that agree with what is known, and whatever bytes come, it comes to what it did, and the output is longer
-pub record HasRun (urls : UrlsKnown) (known : KnownByUrl) (old new : RewritingNow) : Type 0 where
-  pub same : (maps : MapsByUrl) (later : List ℕ) → Agrees known maps → (old.is_ended ≡ true → later ≡ [])
+pub record HasRun (urls : UrlsKnown) (known : NamedKnown) (old new : RewritingNow) : Type 0 where
+  pub same : (maps : NamedByUrl) (later : List ℕ) → AgreesNamed known maps → (old.is_ended ≡ true → later ≡ [])
       → outcome_of urls maps new later ≡ outcome_of urls maps old later
   pub more : List ℕ
   pub written : output_of new.work ≡ output_of old.work ++ more
@@ -100,6 +100,6 @@ abbrev pub IsHandedOn : RewritingNow → Type 0
 IsHandedOn now = now.is_ended ≡ true → (is_over now.work ≡ true) × (held_of now.stripping ≡ [])
 
 -- and where it stops
-pub record HasStopped (known : KnownByUrl) (now : RewritingNow) (stop : Stop) : Type 0 where
+pub record HasStopped (known : NamedKnown) (now : RewritingNow) (stop : Stop) : Type 0 where
   pub work : WorkStopsAt now.limit known now.work stop
   pub over : IsHandedOn now

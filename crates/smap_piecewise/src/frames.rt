@@ -3,7 +3,7 @@ ghost use Rattle.std.specs.Prelude.{◌≡◌, ◌<◌, ◌≤◌, ◌+◌, ◌-
 ghost use Rattle.smap_lines.specs.Limits.{most_line_bytes};
 ghost use Rattle.smap_trace.specs.Rewriting.{counts_seen};
 ghost use Rattle.smap_piecewise.specs.Frames.{StopsAt, next_url, whole_lines_of};
-ghost use Rattle.smap_piecewise.specs.Known.{KnownByUrl};
+ghost use Rattle.smap_piecewise.specs.Known.{NamedKnown, with_declared};
 ghost use Rattle.smap_piecewise.specs.Private.Frames.{IsWithin, Steps, counts_with, frames_seen};
 ghost use Rattle.smap_piecewise.specs.Private.Given.{IsFirstLine, line_size};
 
@@ -40,10 +40,13 @@ impl Frames {
         requires room { IsWithin (2 ^ 64 - 1) (frames_seen self.old) }
         requires few { length self.old.output.items ≤ limit }
         ensures same { K.known maps.new ≡ K.known maps.old }
+        ensures same_declared { K.declared maps.new ≡ K.declared maps.old }
         ensures still { K.still maps.new ≡ K.still maps.old }
-        ensures goes { Steps (K.known maps.old) self.old self.new }
+        ensures goes { Steps (with_declared (K.known maps.old) (K.declared maps.old))
+            self.old self.new }
         ensures few { length self.new.output.items ≤ limit }
-        ensures stops { IfOk result (StopsAt limit (K.known maps.old) (frames_seen self.new)) }
+        ensures stops { IfOk result (StopsAt limit
+            (with_declared (K.known maps.old) (K.declared maps.old)) (frames_seen self.new)) }
     {
         loop {
             if let Some(stop) = self.step(alloc, maps, limit)? {
@@ -78,12 +81,15 @@ impl Frames {
         requires room { IsWithin (2 ^ 64 - 1) (frames_seen self.old) }
         requires few { length self.old.output.items ≤ limit }
         ensures same { K.known maps.new ≡ K.known maps.old }
+        ensures same_declared { K.declared maps.new ≡ K.declared maps.old }
         ensures still { K.still maps.new ≡ K.still maps.old }
-        ensures goes { Steps (K.known maps.old) self.old self.new }
+        ensures goes { Steps (with_declared (K.known maps.old) (K.declared maps.old))
+            self.old self.new }
         ensures few { length self.new.output.items ≤ limit }
         ensures stops { IfOk result (λ stop. MatchOption stop
             (length self.new.given < length self.old.given)
-            (StopsAt limit (K.known maps.old) (frames_seen self.new))) }
+            (StopsAt limit (with_declared (K.known maps.old) (K.declared maps.old))
+            (frames_seen self.new))) }
     {
         let line = self.given.first_line();
         if self.is_passing || line.bytes > MOST_LINE_BYTES {
@@ -101,11 +107,11 @@ impl Frames {
         requires long { self.old.is_passing ≡ false → most_line_bytes < line.bytes }
         requires room { IsWithin (2 ^ 64 - 1) (frames_seen self.old) }
         requires few { length self.old.output.items ≤ limit }
-        ensures goes { (known : KnownByUrl) → Steps known self.old self.new }
+        ensures goes { (known : NamedKnown) → Steps known self.old self.new }
         ensures few { length self.new.output.items ≤ limit }
         ensures stops { IfOk result (λ stop. MatchOption stop
             (length self.new.given < length self.old.given)
-            (λ stop. (known : KnownByUrl) → StopsAt limit known (frames_seen self.new) stop)) }
+            (λ stop. (known : NamedKnown) → StopsAt limit known (frames_seen self.new) stop)) }
     {
         let size = line.size();
         if size == 0 {
@@ -137,12 +143,15 @@ impl Frames {
         requires room { IsWithin (2 ^ 64 - 1) (frames_seen self.old) }
         requires few { length self.old.output.items ≤ limit }
         ensures same { K.known maps.new ≡ K.known maps.old }
+        ensures same_declared { K.declared maps.new ≡ K.declared maps.old }
         ensures still { K.still maps.new ≡ K.still maps.old }
-        ensures goes { Steps (K.known maps.old) self.old self.new }
+        ensures goes { Steps (with_declared (K.known maps.old) (K.declared maps.old))
+            self.old self.new }
         ensures few { length self.new.output.items ≤ limit }
         ensures stops { IfOk result (λ stop. MatchOption stop
             (length self.new.given < length self.old.given)
-            (StopsAt limit (K.known maps.old) (frames_seen self.new))) }
+            (StopsAt limit (with_declared (K.known maps.old) (K.declared maps.old))
+            (frames_seen self.new))) }
     {
         let hiding = Hiding {
             ignored: self.ignored,

@@ -33,8 +33,8 @@ mod stripping;
 mod table_urls;
 mod work;
 
-pub use kept_maps::KeptMaps;
-pub use known::KnownMaps;
+pub use kept_maps::{KeptMap, KeptMaps};
+pub use known::{KnownMaps, NamedMap};
 pub use location::is_location;
 pub use rewriting::{HiddenFrames, Rewriting, TextOptions};
 pub use stop::{GiveFault, Stop};

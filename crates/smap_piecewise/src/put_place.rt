@@ -5,7 +5,7 @@ ghost use Rattle.smap_anywhere.specs.Replaced.{text_in};
 ghost use Rattle.smap_piecewise.specs.Private.PutPlace.{IsPlacePut, IsPlaceUnknown};
 
 use crate::appended::append_all;
-use crate::known::KnownMaps;
+use crate::known::{KnownMaps, map_for};
 use smap_anywhere::{find_replacement, url_of};
 use smap_pairs::Span;
 use smap_record::ReadyMap;
@@ -42,7 +42,7 @@ pub fn put_place<K: KnownMaps>(
         wanted.extend_from_slice(url)?;
         return Ok(None);
     }
-    let is_mapped = put_over(alloc, maps.map_for(url), text, span, output)?;
+    let is_mapped = put_over(alloc, map_for(maps, url), text, span, output)?;
     Ok(Some(is_mapped))
 }
 

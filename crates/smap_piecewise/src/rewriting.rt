@@ -1,10 +1,10 @@
 //! Rewriting a text piece by piece.
 ghost use Rattle.std.specs.Prelude.{◌≡◌, ◌<◌, ◌≤◌, ◌+◌, ◌^◌, ◌++◌, ◌↔◌, IfErr, IfOk, List, OnErr, OnOk, false, length, map, option_map, string_bytes, ℕ};
 ghost use Rattle.smap_pairs.specs.Known.{UrlsKnown};
-ghost use Rattle.smap_trace.specs.MapsOf.{MapsByUrl};
+ghost use Rattle.smap_store.specs.NamedOf.{NamedByUrl};
 ghost use Rattle.smap_trace.specs.Rewriting.{counts_seen};
 ghost use Rattle.smap_piecewise.specs.Frames.{frames_start};
-ghost use Rattle.smap_piecewise.specs.Known.{KnownByUrl};
+ghost use Rattle.smap_piecewise.specs.Known.{NamedKnown, with_declared};
 ghost use Rattle.smap_piecewise.specs.Places.{nothing_given};
 ghost use Rattle.smap_piecewise.specs.Rewriting.{HasRun, HasStopped, IsHandedOn, IsTold, begun_with, outcome_of, output_cleared, stripping_at_first, text_ended, with_allowance, with_bytes};
 ghost use Rattle.smap_piecewise.specs.KeptMaps.{holding_of};
@@ -139,7 +139,7 @@ impl Rewriting {
     pub fn give(&mut self, bytes: &[u8]) -> Result<(), GiveFault>
         requires { self.old.is_ended ≡ false }
         ensures given { OnOk result (self.new ≡ with_bytes bytes.now self.old) }
-        ensures comes { OnOk result ((urls : UrlsKnown) (maps : MapsByUrl) (later : List ℕ) →
+        ensures comes { OnOk result ((urls : UrlsKnown) (maps : NamedByUrl) (later : List ℕ) →
             outcome_of urls maps self.new later
             ≡ outcome_of urls maps self.old (bytes.now ++ later)) }
         ensures few { OnOk result (self.old.taken + length bytes.now ≤ self.old.most_bytes) }
@@ -180,8 +180,10 @@ impl Rewriting {
         urls: &U,
         maps: &mut K,
     ) -> Result<Stop, AllocError>
-        ensures goes { HasRun (U.known urls.now) (K.known maps.old) self.old self.new }
-        ensures stops { IfOk result (HasStopped (K.known maps.old) self.new) }
+        ensures goes { HasRun (U.known urls.now)
+            (with_declared (K.known maps.old) (K.declared maps.old)) self.old self.new }
+        ensures stops { IfOk result (HasStopped
+            (with_declared (K.known maps.old) (K.declared maps.old)) self.new) }
         ensures few { length (output_of self.new.work) ≤ self.new.limit }
         ensures known { K.known maps.new ≡ K.known maps.old }
         ensures still { K.still maps.new ≡ K.still maps.old }
@@ -240,7 +242,7 @@ impl Rewriting {
 
     // Hands on what was given, as far as it can be told.
     fn pass_told(&mut self) -> Result<(), AllocError>
-        ensures goes { (urls : UrlsKnown) (known : KnownByUrl) →
+        ensures goes { (urls : UrlsKnown) (known : NamedKnown) →
             HasRun urls known self.old self.new }
         ensures few { length (output_of self.new.work) ≤ self.new.limit }
         ensures told { OnOk result (IsTold self.new) }
@@ -254,7 +256,7 @@ impl Rewriting {
     // Hands on that the text has ended.
     fn close(&mut self)
         requires { IsTold self.old }
-        ensures goes { (urls : UrlsKnown) (known : KnownByUrl) →
+        ensures goes { (urls : UrlsKnown) (known : NamedKnown) →
             HasRun urls known self.old self.new }
         ensures over { IsHandedOn self.new }
     {

@@ -1,10 +1,9 @@
 //! The maps of a table, and behind them those that are kept.
 use crate::kept_maps::KeptMaps;
-use crate::known::KnownMaps;
+use crate::known::{KnownMaps, NamedMap};
 use crate::location::is_location;
 use smap_kept::KeptAnswer;
 use smap_locations::without_query;
-use smap_record::ReadyMap;
 use smap_store::UrlTable;
 
 /// The maps of a table, which come first, and those that are kept of URLs. Where maps are asked for, it is not known what
@@ -17,9 +16,11 @@ pub struct StoreMaps<'t, 'k> {
 }
 
 impl KnownMaps for StoreMaps<'_, '_> {
-    ghost use Rattle.smap_piecewise.specs.StoreMaps.{StoreStill, known_over, still_of};
+    ghost use Rattle.smap_piecewise.specs.StoreMaps.{StoreStill, declared_over, maps_over, still_of};
 
-    ghost known = { λ maps. known_over maps.asks maps.table.now maps.kept.now };
+    ghost known = { λ maps. maps_over maps.asks maps.table.now maps.kept.now };
+
+    ghost declared = { λ maps. declared_over maps.table.now maps.kept.now };
 
     ghost Still = { StoreStill };
 
@@ -32,12 +33,15 @@ impl KnownMaps for StoreMaps<'_, '_> {
         self.kept.ask(url) || !(self.asks && is_location(without_query(url)))
     }
 
-    fn map_for(&self, url: &[u8]) -> Option<&ReadyMap> {
+    fn named_for(&self, url: &[u8]) -> Option<NamedMap<'_>> {
         if let Some(map) = self.table.map_under(url, true) {
-            return Some(map);
+            return Some(NamedMap {
+                map,
+                declared: self.table.names_under(url, true),
+            });
         }
         match self.kept.kept.peek(url, self.kept.now) {
-            KeptAnswer::Known(map) => Some(map.ready()),
+            KeptAnswer::Known(kept) => Some(kept.named()),
             KeptAnswer::NoneKnown(_) | KeptAnswer::Wanted => None,
         }
     }

@@ -1,6 +1,7 @@
 //! What is done with a text that is rewritten piece by piece.
 ghost use Rattle.std.specs.Prelude.{◌≡◌, ◌≤◌, ◌-◌, ◌^◌, [], IfOk, OnOk, length, option_map, true};
 ghost use Rattle.smap_trace.specs.Rewriting.{counts_seen};
+ghost use Rattle.smap_piecewise.specs.Known.{with_declared};
 ghost use Rattle.smap_piecewise.specs.Work.{WorkStopsAt, counts_of, is_of_places, output_of, wanted_url, whole_lines_of, with_end, without_output};
 ghost use Rattle.smap_piecewise.specs.Private.Work.{IsWorkSound, IsWorkWithin, TakesFrom, WorkSteps, work_seen};
 
@@ -67,9 +68,11 @@ impl Work {
         requires few { length (output_of (work_seen self.old)) ≤ limit }
         ensures same { K.known maps.new ≡ K.known maps.old }
         ensures still { K.still maps.new ≡ K.still maps.old }
-        ensures goes { WorkSteps (U.known urls.now) (K.known maps.old) self.old self.new }
+        ensures goes { WorkSteps (U.known urls.now)
+            (with_declared (K.known maps.old) (K.declared maps.old)) self.old self.new }
         ensures few { length (output_of (work_seen self.new)) ≤ limit }
-        ensures stops { IfOk result (WorkStopsAt limit (K.known maps.old) (work_seen self.new)) }
+        ensures stops { IfOk result (WorkStopsAt limit
+            (with_declared (K.known maps.old) (K.declared maps.old)) (work_seen self.new)) }
     {
         match self {
             Work::Frames(frames) => frames.run(alloc, maps, limit),

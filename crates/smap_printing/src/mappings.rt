@@ -25,8 +25,8 @@ use smap_lines::{Gathered, LineFault, LineOutput};
 use smap_record::{MapFile, Mapping};
 use std::alloc::Global;
 
-/// Prints the mappings of a map that the options ask for, a line each in their order, and behind them the debug id, where one
-/// is given, as a JSON object. The caller gives an output that has not failed.
+/// Prints the mappings of a map that the options ask for, a line each in their order, and behind them the debug id, where
+/// one is given, as a JSON object. The caller gives an output that has not failed.
 ///
 /// It walks through the map's mappings and holds none of them. A room of 65,536 bytes is made before the first write, lines
 /// are gathered in it and written when it is full, and at the end, and no line takes memory. The first failure ends it, and
@@ -85,8 +85,8 @@ fn write_mappings<W: ByteSink>(
     lent.write()
 }
 
-// Puts the lines, and that of a debug id, after the bytes that wait. They are joined in one short text, so that the output is
-// seldom asked for room.
+// Puts the lines, and that of a debug id, after the bytes that wait. They are joined in one short text, so that the output
+// is seldom asked for room.
 fn put_mappings<W: ByteSink>(
     alloc: Global,
     map: &MapFile,

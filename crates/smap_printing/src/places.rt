@@ -34,8 +34,8 @@ pub struct AskedPlace<'a> {
     pub position: PrintedPosition,
 }
 
-/// Puts the line for a place after the bytes that wait: what its map answers, or why none does; and with it the function that
-/// is asked for, where one is. The call takes no memory.
+/// Puts the line for a place after the bytes that wait: what its map answers, or why none does; and with it the function
+/// that is asked for, where one is. The call takes no memory.
 pub fn put_place_line<W: ByteSink>(
     alloc: Global,
     options: AnswerOptions,

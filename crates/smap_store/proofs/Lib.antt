@@ -1,3 +1,4 @@
 mod ListLaws
 mod PatternLaws
+mod NamesLaws
 mod Examples

@@ -2,3 +2,4 @@ pub mod Kept
 pub mod Stored
 pub mod Named
 pub mod UrlMaps
+pub mod NamedOf

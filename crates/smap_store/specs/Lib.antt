@@ -4,8 +4,11 @@ pub mod Fileless
 pub mod Stored
 pub mod StoredMaps
 pub mod MapList
+pub mod Program
 pub mod Names
 pub mod Named
 pub mod Laws
 pub mod UrlTable
+pub mod UrlMaps
+pub mod NamedOf
 pub mod PatternSeen

@@ -1,14 +1,13 @@
--- Maps of a store with the written names of functions (this project's own): the declarations of a program are asked for when its URL
--- is first named, and anew when its map is; and they name its functions by that map.
+-- Maps of a store with the written names of functions (this project's own): the declarations of a program are asked for when a URL of
+-- it is first named, and anew when its map is; and they name its functions by that map.
 use Rattle.std.specs.Prelude.{◌≡◌, ◌⊎◌, ◌&&◌, ◌||◌, ℕ, Bool, List, Option, Some, None, MatchBool, is_some}
 use Rattle.smap_declarations.specs.Declarations.{Named}
-use Rattle.smap_kept.specs.Bounded.{known_under}
-use Rattle.smap_locations.specs.ByText.{value_under}
 use Rattle.smap_locations.specs.Locations.{key_for}
 use Rattle.smap_record.specs.Record.{MapRecord}
 use Rattle.smap_store.specs.Cache.{kept_under}
 use Rattle.smap_store.specs.Fileless.{known_of}
-use Rattle.smap_store.specs.Names.{NamesCame, RemembersNames, kept_names, names_used}
+use Rattle.smap_store.specs.Names.{NamesCame, RemembersNames, has_names, kept_names, known_names, names_used}
+use Rattle.smap_store.specs.Program.{ProgramSeen, program_in}
 use Rattle.smap_store.specs.Stored.{StoredSeen, found_in}
 use Rattle.smap_store.specs.StoredMaps.{IsSameStore, stored_seen}
 use Rattle.smap_store.specs.declared.named_maps.NamedMaps.{NamedMaps}
@@ -30,13 +29,13 @@ pub record IsSameNamed {L N : Type 0} (old new : NamedMaps L N) : Type 0 where
   pub names : new.names.ghost_name ≡ old.names.ghost_name
   pub namer : new.namer.ghost_name ≡ old.namer.ghost_name
 
--- what lists declarations may give for a URL whose map states this
+-- what lists declarations may give for a program whose map states this
 abbrev pub NamesMay : (N : Type 0) → Type 1
-NamesMay N = N → (url : List ℕ) → MapRecord → Option (List Named) → Type 0
+NamesMay N = N → ProgramSeen → MapRecord → Option (List Named) → Type 0
 
 -- what it gave, and how it stands then
 abbrev pub NamesStep : (N : Type 0) → Type 1
-NamesStep N = N → (url : List ℕ) → MapRecord → NamesCame → N → Type 0
+NamesStep N = N → ProgramSeen → MapRecord → NamesCame → N → Type 0
 
 -- the map of a URL is at hand: nothing is read when it is looked for
 abbrev pub holds_map : {L : Type 0} → StoredSeen L → (url : List ℕ) → Bool
@@ -45,30 +44,35 @@ holds_map maps url = is_some (known_of maps.exact maps.locations url) || is_some
 module _ {L N : Type 0} where
   -- what names the functions of the program of a URL: its map, and its declarations
   abbrev pub names_in : NamedSeen L N → (url : List ℕ) → Option FunctionNames
-  names_in maps url = names_beside (found_in maps.stored url) (kept_names url maps.names)
+  names_in maps url = names_beside (found_in maps.stored url) (kept_names (program_in maps.stored url) maps.names)
 
 module _ {N : Type 0} where
-  -- the program of a URL is asked for that has this map, and what came is remembered; where it has none, nothing is changed
-  abbrev pub NamesOf : NamesStep N → Option MapRecord → (names : NamesCache) (namer : N) (url : List ℕ) (after : NamesCache) (namer_after : N) → Type 0
-  NamesOf Names None names namer url after namer_after = (after ≡ names) × (namer_after ≡ namer)
-  NamesOf Names (Some stated) names namer url after namer_after =
-      (came : NamesCame) × Names namer url stated came namer_after × RemembersNames names url came after
+  -- a program is asked for that has this map, and what came is remembered; where it has none, nothing is changed
+  abbrev pub NamesOf : NamesStep N → Option MapRecord → (names : NamesCache) (namer : N) → ProgramSeen → (after : NamesCache) (namer_after : N) → Type 0
+  NamesOf Names None names namer program after namer_after = (after ≡ names) × (namer_after ≡ namer)
+  NamesOf Names (Some stated) names namer program after namer_after =
+      (came : NamesCame) × Names namer program stated came namer_after × RemembersNames names program came after
 
-  -- declarations that the program of a URL may have from now on: none, those that are remembered, or what may come
-  abbrev pub MayKeep : NamesMay N → (names : NamesCache) (namer : N) (url : List ℕ) → Option (List Named) → Type 0
-  MayKeep MayName names namer url kept =
-      (kept ≡ None) ⊎ ((known_under url names.held.entries ≡ Some kept) ⊎ ((stated : MapRecord) × MayName namer url stated kept))
+  -- a program is used whose map was at hand, and of which something is remembered; and else it is asked for
+  abbrev pub UsesNames : NamesStep N → (is_kept : Bool) → Option MapRecord → (names : NamesCache) (namer : N) → ProgramSeen → (after : NamesCache) (namer_after : N)
+      → Type 0
+  UsesNames Names is_kept found names namer program after namer_after =
+      MatchBool is_kept ((after ≡ names_used program names) × (namer_after ≡ namer)) (NamesOf Names found (names_used program names) namer program after namer_after)
 
-  -- which map and which names a URL may have from now on
-  abbrev pub GivesNamed : (Gives : (url : List ℕ) → Option MapRecord → Type 0) → NamesMay N → (names : NamesCache) (namer : N) (url : List ℕ)
-      → Option MapRecord → Option FunctionNames → Type 0
-  GivesNamed Gives MayName names namer url stated written =
-      Gives url stated × ((kept : Option (List Named)) × MayKeep MayName names namer url kept × (written ≡ names_beside stated kept))
+  -- declarations that a program may have from now on: none, those that are remembered, or what may come
+  abbrev pub MayKeep : NamesMay N → (names : NamesCache) (namer : N) → ProgramSeen → Option (List Named) → Type 0
+  MayKeep MayName names namer program kept =
+      (kept ≡ None) ⊎ ((known_names program names ≡ Some kept) ⊎ ((stated : MapRecord) × MayName namer program stated kept))
+
+  -- which map and which names a URL of this program may have from now on
+  abbrev pub GivesNamed : (Gives : (url : List ℕ) → Option MapRecord → Type 0) → (program : (url : List ℕ) → ProgramSeen) → NamesMay N → (names : NamesCache)
+      (namer : N) (url : List ℕ) → Option MapRecord → Option FunctionNames → Type 0
+  GivesNamed Gives program MayName names namer url stated written =
+      Gives url stated × ((kept : Option (List Named)) × MayKeep MayName names namer (program url) kept × (written ≡ names_beside stated kept))
 
 -- how they stand after the map of a URL was looked for
 pub record FindsNamed {L N : Type 0} (Finds : StoredSeen L → (url : List ℕ) → StoredSeen L → Type 0) (Names : NamesStep N) (old : NamedSeen L N)
     (url : List ℕ) (new : NamedSeen L N) : Type 0 where
   pub stored : Finds old.stored url new.stored
-  pub names : MatchBool (holds_map old.stored url && is_some (value_under url old.names.held.entries))
-      ((new.names ≡ names_used url old.names) × (new.namer ≡ old.namer))
-      (NamesOf Names (found_in new.stored url) (names_used url old.names) old.namer url new.names new.namer)
+  pub names : UsesNames Names (holds_map old.stored url && has_names (program_in old.stored url) old.names) (found_in new.stored url) old.names old.namer
+      (program_in old.stored url) new.names new.namer

@@ -1,12 +1,17 @@
--- What is remembered of the declarations of generated programs (this project's own): those of each URL that was asked for, or that it
--- has none, while the bytes that these count for are within a bound, or where there is no other.
-use Rattle.std.specs.Prelude.{◌≡◌, ◌⊎◌, ℕ, List, [], ◌∷◌, Option, Some, None, option_map}
+-- What is remembered of the declarations of generated programs (this project's own): those of each that was asked for, or that it
+-- has none, while the bytes that these count for are within half of a bound, or where there is no other: so of the maps of a table,
+-- and so of those of files.
+use Rattle.std.specs.Prelude.{◌≡◌, ◌⊎◌, ◌/◌, ℕ, Bool, List, [], ◌∷◌, Option, Some, None, is_some, option_map}
 use Rattle.smap_declarations.specs.Declarations.{Named}
-use Rattle.smap_kept.specs.Bounded.{kept_within, known_under}
+use Rattle.smap_kept.specs.Bounded.{BoundedSeen, kept_within, known_under}
 use Rattle.smap_kept.specs.InOrder.{used, without}
+use Rattle.smap_locations.specs.ByText.{value_under}
 use Rattle.smap_store.specs.Cache.{one_more}
+use Rattle.smap_store.specs.Program.{ProgramSeen}
 use Rattle.smap_store.specs.declared.names_cache.NamesCache.{NamesCache}
 use Rattle.smap_store.specs.declared.names_loader.LoadedNames.{LoadedNames}
+use Rattle.smap_store.specs.declared.program.MapKind.{MapKind}
+use Rattle.smap_store.specs.declared.program.MapKind.TheVariants.{Table, File}
 
 -- ---- what came for a program
 
@@ -31,28 +36,56 @@ bytes_in (Some one) = one.1
 -- ---- what is remembered
 
 abbrev pub names_at_first : (most : ℕ) → NamesCache
-names_at_first most = record { held = record { entries = []; most = most }; shortages = 0 }
+names_at_first most = record {
+  of_table = record { entries = []; most = most / 2 };
+  of_files = record { entries = []; most = most / 2 };
+  shortages = 0;
+}
+
+-- what is remembered of the programs whose maps are there, each under its key
+abbrev pub NamesPart : Type 0
+NamesPart = BoundedSeen (Option (List Named))
+
+abbrev pub part_of : MapKind → NamesCache → NamesPart
+part_of Table names = names.of_table
+part_of File names = names.of_files
+
+-- with another in its stead
+abbrev pub with_part : MapKind → NamesPart → NamesCache → NamesCache
+with_part Table part names = record names { of_table = part }
+with_part File part names = record names { of_files = part }
+
+-- what is remembered of a program: its declarations, or that it has none
+abbrev pub known_names : ProgramSeen → NamesCache → Option (Option (List Named))
+known_names program names = known_under program.key (part_of program.kind names).entries
+
+abbrev pub has_names : ProgramSeen → NamesCache → Bool
+has_names program names = is_some (value_under program.key (part_of program.kind names).entries)
 
 abbrev pub kept_of : Option (Option (List Named)) → Option (List Named)
 kept_of None = None
 kept_of (Some kept) = kept
 
--- the declarations of the program of a URL
-abbrev pub kept_names : (url : List ℕ) → NamesCache → Option (List Named)
-kept_names url names = kept_of (known_under url names.held.entries)
+-- its declarations
+abbrev pub kept_names : ProgramSeen → NamesCache → Option (List Named)
+kept_names program names = kept_of (known_names program names)
 
--- what is remembered of a URL is used
-abbrev pub names_used : (url : List ℕ) → NamesCache → NamesCache
-names_used url names = record names { held = record names.held { entries = used url names.held.entries } }
+-- what is remembered of it is used
+abbrev pub part_used : (key : List ℕ) → NamesPart → NamesPart
+part_used key part = record part { entries = used key part.entries }
+
+abbrev pub names_used : ProgramSeen → NamesCache → NamesCache
+names_used program names = with_part program.kind (part_used program.key (part_of program.kind names)) names
 
 -- what came is put before all others, and those that there is no room for then are dropped
-abbrev pub with_names : (url : List ℕ) → NamesCame → NamesCache → NamesCache
-with_names url came names = record names {
-  held = record names.held {
-    entries = kept_within names.held.most ((url, record { value = declared_in came; bytes = bytes_in came }) ∷ without url names.held.entries);
-  };
+abbrev pub part_with : (key : List ℕ) → NamesCame → NamesPart → NamesPart
+part_with key came part = record part {
+  entries = kept_within part.most ((key, record { value = declared_in came; bytes = bytes_in came }) ∷ without key part.entries);
 }
 
+abbrev pub with_names : ProgramSeen → NamesCame → NamesCache → NamesCache
+with_names program came names = with_part program.kind (part_with program.key came (part_of program.kind names)) names
+
 -- what came is remembered, or there was not enough memory
-abbrev pub RemembersNames : (old : NamesCache) (url : List ℕ) → NamesCame → (new : NamesCache) → Type 0
-RemembersNames old url came new = (new ≡ with_names url came old) ⊎ (new ≡ record old { shortages = one_more old.shortages })
+abbrev pub RemembersNames : (old : NamesCache) → ProgramSeen → NamesCame → (new : NamesCache) → Type 0
+RemembersNames old program came new = (new ≡ with_names program came old) ⊎ (new ≡ record old { shortages = one_more old.shortages })

@@ -1,6 +1,6 @@
 //! The maps of a trace that are read when a frame first names their URLs: from the files and folders of
 //! [`Locations`](smap_locations::Locations), and kept in memory while their bytes are within a bound; and a table of maps
-//! that are given, each under a URL or under a pattern of URLs.
+//! that are given, each under a URL or under a pattern of URLs, with the declarations of its program or without.
 //!
 //! ```
 //! let mut locations = Locations::new(alloc);
@@ -20,6 +20,8 @@ mod named_maps;
 mod names_cache;
 mod names_loader;
 mod pattern_map;
+mod program;
+mod shared_declarations;
 mod stored;
 mod url_maps;
 mod url_table;
@@ -31,6 +33,8 @@ pub use loader::{LoadedMap, MapLoader, NoMap};
 pub use named_maps::NamedMaps;
 pub use names_cache::NamesCache;
 pub use names_loader::{LoadedNames, NamesLoader};
+pub use program::{MapKind, Program};
+pub use shared_declarations::SharedDeclarations;
 pub use stored::StoredMaps;
 pub use url_maps::UrlMaps;
 pub use url_table::UrlTable;

@@ -1,19 +1,21 @@
 //! Maps that are read when they are named, with the written names of functions.
 ghost use Rattle.std.specs.Prelude.{◌≡◌};
 ghost use Rattle.smap_store.specs.Named.{IsSameNamed, NamesOf, named_seen};
+ghost use Rattle.smap_store.specs.Program.{program_seen};
 ghost use Rattle.smap_store.specs.Stored.{found_in};
 ghost use Rattle.smap_store.specs.StoredMaps.{stored_seen};
 
 use crate::loader::MapLoader;
 use crate::names_cache::NamesCache;
 use crate::names_loader::NamesLoader;
+use crate::program::Program;
 use crate::stored::StoredMaps;
 use smap_record::ReadyMap;
 use smap_trace::{Maps, name_declared_beside};
 use std::alloc::Global;
 
-/// The maps of a store, and beside them the declarations of their programs, which are listed when a URL is first named, and
-/// anew when its map is read anew.
+/// The maps of a store, and beside them the declarations of their programs, which are listed when a URL of one is first
+/// named, and anew when its map is read anew.
 #[derive(Drop)]
 pub struct NamedMaps<'s, 'c, 'n, L: MapLoader, N: NamesLoader> {
     pub maps: StoredMaps<'s, 'c, L>,
@@ -23,9 +25,10 @@ pub struct NamedMaps<'s, 'c, 'n, L: MapLoader, N: NamesLoader> {
 
 impl<L: MapLoader, N: NamesLoader> NamedMaps<'_, '_, '_, L, N> {
     // Asks for the declarations of the program of a URL whose map was looked for, where it has one, and remembers what came.
-    fn ask_names(&mut self, url: &[u8])
+    fn ask_names(&mut self, url: &[u8], program: Program<'_>)
         ensures asked { NamesOf N.Names (found_in (stored_seen self.old.maps) url.now)
-            self.old.names.now self.old.namer.now url.now self.new.names.now self.new.namer.now }
+            self.old.names.now self.old.namer.now (program_seen program.entry) self.new.names.now
+            self.new.namer.now }
         ensures maps { self.new.maps ≡ self.old.maps }
         ensures same { IsSameNamed self.old self.new }
     {
@@ -33,14 +36,15 @@ impl<L: MapLoader, N: NamesLoader> NamedMaps<'_, '_, '_, L, N> {
         let Some(map) = self.maps.map_for(url) else {
             return;
         };
-        let came = self.namer.load_names(alloc, url, map);
-        self.names.remember(alloc, url, came);
+        let came = self.namer.load_names(alloc, program, map);
+        self.names.remember(alloc, program, came);
     }
 }
 
 impl<L: MapLoader, N: NamesLoader> Maps for NamedMaps<'_, '_, '_, L, N> {
     ghost use Rattle.std.specs.Prelude.{true};
     ghost use Rattle.smap_store.specs.Named.{FindsNamed, GivesNamed, IsSameNamed, named_seen, names_in};
+    ghost use Rattle.smap_store.specs.Program.{program_in};
     ghost use Rattle.smap_store.specs.Stored.{FindsIn, GivesIn, found_in};
     ghost use Rattle.smap_store.specs.StoredMaps.{stored_seen};
     ghost use Rattle.smap_store.specs.Laws.Named.{given_named, same_named, some_named};
@@ -58,14 +62,16 @@ impl<L: MapLoader, N: NamesLoader> Maps for NamedMaps<'_, '_, '_, L, N> {
 
     ghost names_any = { true };
 
-    ghost GivesNames = { λ maps. GivesNamed (GivesIn L.MayLoad (stored_seen maps.maps)) N.MayName maps.names.now maps.namer.now };
+    ghost GivesNames = { λ maps. GivesNamed (GivesIn L.MayLoad (stored_seen maps.maps))
+        (program_in (stored_seen maps.maps)) N.MayName maps.names.now maps.namer.now };
 
     fn find(&mut self, url: &[u8]) -> bool {
+        let program = self.maps.program_of(url);
         let was_held = self.maps.holds(url);
         let may_differ = self.maps.find(url);
-        let was_kept = self.names.touch(url);
+        let was_kept = self.names.touch(program);
         if !(was_held && was_kept) {
-            self.ask_names(url);
+            self.ask_names(url, program);
         }
         may_differ
     }
@@ -87,7 +93,8 @@ impl<L: MapLoader, N: NamesLoader> Maps for NamedMaps<'_, '_, '_, L, N> {
         column: u32,
     ) -> Option<&'a [u8]> {
         let map = self.maps.map_for(url);
-        let declared = self.names.get(url);
+        let program = self.maps.program_of(url);
+        let declared = self.names.get(program);
         name_declared_beside(alloc, map, declared, function, line, column)
     }
 
@@ -108,7 +115,7 @@ impl<L: MapLoader, N: NamesLoader> Maps for NamedMaps<'_, '_, '_, L, N> {
         (named_seen after) url finds.0 };
 
     ghost same_names = { λ maps after url other stated written finds.
-        same_named L.MayLoad L.Loads L.given L.same N.MayName N.Names N.given_names N.same_names
+        same_named L.MayLoad L.Loads L.given N.MayName N.Names N.given_names L.same N.same_names
         (named_seen maps) (named_seen after) url other stated written finds.0 };
 
     ghost unnamed = { λ maps url. is_named (names_in (named_seen maps) url) };

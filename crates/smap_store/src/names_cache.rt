@@ -1,19 +1,22 @@
 //! What is kept of the declarations of generated programs.
-ghost use Rattle.std.specs.Prelude.{◌≡◌, is_some, option_map, IfOk};
-ghost use Rattle.smap_locations.specs.ByText.{value_under};
-ghost use Rattle.smap_store.specs.Names.{RemembersNames, bytes_in, declared_in, kept_names, names_at_first, names_came, names_used};
+ghost use Rattle.std.specs.Prelude.{◌≡◌, option_map, IfOk};
+ghost use Rattle.smap_store.specs.Names.{RemembersNames, bytes_in, declared_in, has_names, kept_names, names_at_first, names_came, names_used};
+ghost use Rattle.smap_store.specs.Program.{program_seen};
 
 use crate::names_loader::LoadedNames;
+use crate::program::{MapKind, Program};
 use smap_declarations::Declarations;
 use smap_kept::Bounded;
 use std::alloc::{AllocError, Global};
 
-/// The declarations that are remembered of generated programs, each under the URL that a text named, or that it has none.
-/// They count for the bytes of their generated file and of their URL, and 128 more; their sum is within a bound, or one
-/// stands alone. Where there is no room for one more, what was longest not asked for is dropped.
+/// The declarations that are remembered of generated programs, or that one has none, each beside its map: those of the maps
+/// of a table under their URLs, and those of the maps of files under the texts under which these are kept. They count for the
+/// bytes of their generated file and of that text, and 128 more; each sum is within half of a bound, or one stands alone.
+/// Where there is no room for one more, what was longest not asked for is dropped.
 #[derive(Drop)]
 pub struct NamesCache {
-    pub held: Bounded<Option<Declarations>>,
+    pub of_table: Bounded<Option<Declarations>>,
+    pub of_files: Bounded<Option<Declarations>>,
     /// How often there was not enough memory to remember what came, up to 18,446,744,073,709,551,615.
     pub shortages: u64,
 }
@@ -23,35 +26,57 @@ impl NamesCache {
     pub fn new(alloc: Global, most: u64) -> Result<NamesCache, AllocError>
         ensures { IfOk result (λ names. names ≡ names_at_first most) }
     {
-        let held = Bounded::new(alloc, most)?;
-        Ok(NamesCache { held, shortages: 0 })
+        let of_table = Bounded::new(alloc, most / 2)?;
+        let of_files = Bounded::new(alloc, most / 2)?;
+        Ok(NamesCache {
+            of_table,
+            of_files,
+            shortages: 0,
+        })
     }
 
-    // The declarations that are remembered of the program of a URL. The call takes no memory.
-    pub(crate) fn get(&self, url: &[u8]) -> Option<&Declarations>
-        ensures { option_map (λ declared. declared.now) result ≡ kept_names url.now self.now }
+    // The declarations that are remembered of a program. The call takes no memory.
+    pub(crate) fn get(&self, program: Program<'_>) -> Option<&Declarations>
+        ensures { option_map (λ declared. declared.now) result
+            ≡ kept_names (program_seen program.entry) self.now }
     {
-        match self.held.get(url) {
+        let kept = match program.kind {
+            MapKind::Table => self.of_table.get(program.key),
+            MapKind::File => self.of_files.get(program.key),
+        };
+        match kept {
             Some(kept) => kept.as_ref(),
             None => None,
         }
     }
 
-    // Uses what is remembered of a URL, and says whether something is.
-    pub(crate) fn touch(&mut self, url: &[u8]) -> bool
-        ensures found { result ≡ is_some (value_under url.now self.old.held.entries) }
-        ensures used { self.new ≡ names_used url.now self.old }
+    // Uses what is remembered of a program, and says whether something is.
+    pub(crate) fn touch(&mut self, program: Program<'_>) -> bool
+        ensures found { result ≡ has_names (program_seen program.entry) self.old }
+        ensures used { self.new ≡ names_used (program_seen program.entry) self.old }
     {
-        self.held.touch(url)
+        match program.kind {
+            MapKind::Table => self.of_table.touch(program.key),
+            MapKind::File => self.of_files.touch(program.key),
+        }
     }
 
-    // Remembers what came for a URL, or counts that there was not enough memory for it.
-    pub(crate) fn remember(&mut self, alloc: Global, url: &[u8], came: Option<LoadedNames>)
-        ensures { RemembersNames self.old url.now (names_came came) self.new }
+    // Remembers what came for a program, or counts that there was not enough memory for it.
+    pub(crate) fn remember(
+        &mut self,
+        alloc: Global,
+        program: Program<'_>,
+        came: Option<LoadedNames>,
+    )
+        ensures { RemembersNames self.old (program_seen program.entry) (names_came came) self.new }
     {
         let bytes = bytes_in(&came);
         let declared = declared_in(came);
-        if self.held.put(alloc, url, declared, bytes).is_err() {
+        let put = match program.kind {
+            MapKind::Table => self.of_table.put(alloc, program.key, declared, bytes),
+            MapKind::File => self.of_files.put(alloc, program.key, declared, bytes),
+        };
+        if put.is_err() {
             self.shortages = self.shortages.saturating_add(1);
         }
     }

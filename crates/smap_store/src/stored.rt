@@ -4,12 +4,14 @@ ghost use Rattle.std.specs.Result.{result_map_both};
 ghost use Rattle.smap_store.specs.Fileless.{known_of};
 ghost use Rattle.smap_store.specs.Loaded.{came_seen};
 ghost use Rattle.smap_store.specs.Named.{holds_map};
+ghost use Rattle.smap_store.specs.Program.{program_in, program_seen};
 ghost use Rattle.smap_store.specs.Stored.{Asks, Comes, outcome_at};
 ghost use Rattle.smap_store.specs.StoredMaps.{IsSameStore, stored_seen};
 
 use crate::cache::MapCache;
 use crate::fileless::asks_no_file;
 use crate::loader::{LoadedMap, MapLoader, NoMap};
+use crate::program::{MapKind, Program};
 use smap_locations::Locations;
 use smap_record::ReadyMap;
 use smap_trace::{Maps, Table};
@@ -47,6 +49,22 @@ impl<L: MapLoader> StoredMaps<'_, '_, L> {
         ensures { result ≡ holds_map (stored_seen self.now) url.now }
     {
         self.known(url).is_some() || self.cache.recall(self.locations.key_for(url)).is_some()
+    }
+
+    // The program of a URL.
+    pub(crate) fn program_of<'u>(&self, url: &'u [u8]) -> Program<'u>
+        ensures { program_seen result ≡ program_in (stored_seen self.now) url.now }
+    {
+        match self.exact.map_for(url) {
+            Some(_) => Program {
+                kind: MapKind::Table,
+                key: url,
+            },
+            None => Program {
+                kind: MapKind::File,
+                key: self.locations.key_for(url),
+            },
+        }
     }
 
     /// The map of the URL that was looked for last, or why it has none. The call takes no memory.

@@ -1,10 +1,10 @@
-//! The maps of a table, for a text that names URLs.
+//! The maps of a table, and the names of functions, for a text that names URLs.
 use crate::url_table::UrlTable;
 use smap_record::ReadyMap;
-use smap_trace::Maps;
+use smap_trace::{Maps, name_declared_beside};
 use std::alloc::Global;
 
-/// The maps of a table. With `cut` a URL under which it has none has the one under it without its query and its fragment,
+/// The maps of a table, and what its declarations name. With `cut` a URL under which it has none has the one under it without its query and its fragment,
 /// before those of patterns.
 #[derive(Clone, Copy)]
 pub struct UrlMaps<'t> {
@@ -13,9 +13,11 @@ pub struct UrlMaps<'t> {
 }
 
 impl Maps for UrlMaps<'_> {
-    ghost use Rattle.std.specs.Prelude.{◌≡◌, None, false, refl};
-    ghost use Rattle.smap_store.specs.UrlTable.{map_under};
-    ghost use Rattle.smap_store.specs.Laws.UrlMaps.{table_given, table_same};
+    ghost use Rattle.std.specs.Prelude.{◌≡◌, refl, true};
+    ghost use Rattle.smap_store.specs.UrlMaps.{GivesOfUrls};
+    ghost use Rattle.smap_store.specs.UrlTable.{map_under, names_under};
+    ghost use Rattle.smap_store.specs.Laws.UrlMaps.{table_given, table_given_names, table_same, table_same_names};
+    ghost use Rattle.smap_trace.specs.Laws.Maps.{is_named};
 
     ghost Gives = { λ maps url stated. stated ≡ map_under maps.cut maps.table.now url };
 
@@ -23,11 +25,11 @@ impl Maps for UrlMaps<'_> {
 
     ghost found = { λ maps url. map_under maps.cut maps.table.now url };
 
-    ghost names = { λ maps url. None };
+    ghost names = { λ maps url. names_under maps.cut maps.table.now url };
 
-    ghost names_any = { false };
+    ghost names_any = { true };
 
-    ghost GivesNames = { λ maps url stated written. Unit {0} };
+    ghost GivesNames = { GivesOfUrls };
 
     fn find(&mut self, _url: &[u8]) -> bool {
         false
@@ -38,18 +40,20 @@ impl Maps for UrlMaps<'_> {
     }
 
     fn knows_names(&self) -> bool {
-        false
+        true
     }
 
     fn written_name<'a>(
         &'a self,
-        _alloc: Global,
-        _url: &[u8],
-        _function: &'a [u8],
-        _line: u32,
-        _column: u32,
+        alloc: Global,
+        url: &[u8],
+        function: &'a [u8],
+        line: u32,
+        column: u32,
     ) -> Option<&'a [u8]> {
-        None
+        let map = self.map_for(url);
+        let declared = self.table.names_under(url, self.cut);
+        name_declared_beside(alloc, map, declared, function, line, column)
     }
 
     ghost some = { λ maps url. (map_under maps.cut maps.table.now url, refl) };
@@ -58,11 +62,12 @@ impl Maps for UrlMaps<'_> {
 
     ghost same = { table_same };
 
-    ghost some_names = { λ maps url. (None, None, tt) };
+    ghost some_names = { λ maps url.
+        (map_under maps.cut maps.table.now url, names_under maps.cut maps.table.now url, (refl, refl)) };
 
-    ghost given_names = { λ maps after url finds. tt };
+    ghost given_names = { table_given_names };
 
-    ghost same_names = { λ maps after url other stated written finds gives. tt };
+    ghost same_names = { table_same_names };
 
-    ghost unnamed = { λ maps url none. refl };
+    ghost unnamed = { λ maps url. is_named (names_under maps.cut maps.table.now url) };
 }

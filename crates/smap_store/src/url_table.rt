@@ -1,18 +1,23 @@
-//! Maps under URLs, and under patterns of URLs.
-ghost use Rattle.std.specs.Prelude.{◌≡◌, [], None, is_some, option_map, OnErr, OnOk};
+//! Maps under URLs, and under patterns of URLs, with the declarations of their programs.
+ghost use Rattle.std.specs.Prelude.{◌≡◌, [], None, is_some, option_map, true, OnErr, OnOk};
 ghost use Rattle.smap_locations.specs.ByText.{value_under};
+ghost use Rattle.smap_locations.specs.ListLine.{pattern_text};
 ghost use Rattle.smap_trace.specs.Table.{url_refusal as word_refusal};
-ghost use Rattle.smap_store.specs.UrlTable.{IsAdded, IsWithPattern, IsWithWord, entry_map, locations_of, map_by_pattern, map_under, url_refusal};
+ghost use Rattle.smap_store.specs.UrlTable.{IsAdded, IsNamed, IsWithNames, IsWithPattern, IsWithPatternNames, IsWithWord};
+ghost use Rattle.smap_store.specs.UrlTable.{deciding_text, declared_by_pattern, declared_under, empty_table, entry_map, locations_of, map_by_pattern, map_under, names_of_entry, takes_names, url_refusal};
 
 use crate::fileless::asks_no_file;
 use crate::pattern_map::PatternMap;
-use smap_locations::{Locations, pattern_text, without_query};
+use crate::shared_declarations::SharedDeclarations;
+use smap_declarations::Declarations;
+use smap_locations::{ByText, Locations, pattern_text, without_query};
 use smap_record::{ReadyMap, SharedMap};
 use smap_trace::{Table, TableRefusal, is_bad_url};
 use std::alloc::{AllocError, Global};
 use std::marker::Model;
 
-/// Maps, each under a URL, or under `*` and the text of a pattern, which is that of a file.
+/// Maps, each under a URL, or under `*` and the text of a pattern, which is that of a file; and beside each the declarations of
+/// its program, or none.
 #[derive(Drop)]
 pub struct UrlTable {
     exact: Table,
@@ -20,6 +25,9 @@ pub struct UrlTable {
     locations: Locations,
     // Their maps, in the same order.
     patterns: Vec<PatternMap>,
+    // The declarations beside the maps of URLs, and beside those of patterns.
+    names: ByText<SharedDeclarations>,
+    pattern_names: ByText<SharedDeclarations>,
 }
 
 impl Model for UrlTable {
@@ -32,6 +40,8 @@ impl Model for UrlTable {
     ghost view = { λ table. record {
       exact = table.exact;
       patterns = map pattern_seen table.patterns.items;
+      names = table.names;
+      pattern_names = table.pattern_names;
     } };
 
     ghost invariant = { λ table. table.locations ≡ locations_of (map pattern_seen table.patterns.items) };
@@ -40,12 +50,14 @@ impl Model for UrlTable {
 impl UrlTable {
     /// A table without maps. The call takes no memory.
     pub fn new(alloc: Global) -> UrlTable
-        ensures { result ≡ record { exact = []; patterns = [] } }
+        ensures { result ≡ empty_table }
     {
         UrlTable {
             exact: Table::new(alloc),
             locations: Locations::new(alloc),
             patterns: Vec::new(alloc),
+            names: ByText::new(alloc),
+            pattern_names: ByText::new(alloc),
         }
     }
 
@@ -148,11 +160,126 @@ impl UrlTable {
     fn map_by_pattern(&self, url: &[u8]) -> Option<&ReadyMap>
         ensures { option_map (λ map. map.now.stated) result ≡ map_by_pattern self.now url.now }
     {
+        let pattern = self.deciding_pattern(url)?;
+        Some(pattern.map.ready())
+    }
+
+    // The pattern that decides for a URL.
+    fn deciding_pattern(&self, url: &[u8]) -> Option<&PatternMap>
+        ensures map { option_map (λ pattern. pattern.now.map.stated) result
+            ≡ map_by_pattern self.now url.now }
+        ensures text { option_map (λ pattern. pattern.now.text.items) result
+            ≡ deciding_text self.now url.now }
+    {
         if asks_no_file(&self.locations, url) {
             return None;
         }
         let place = self.locations.pattern_place(url)?;
-        Some(self.patterns[place].map.ready())
+        Some(&self.patterns[place])
+    }
+
+    /// Whether declarations can be put beside the map under this very URL or pattern: it has one there, and none beside it.
+    pub fn takes_names(&self, url: &[u8]) -> bool
+        ensures { result ≡ takes_names self.now url.now }
+    {
+        self.has_entry(url) && !self.has_names(url)
+    }
+
+    // Whether declarations stand beside the map under this very URL or pattern.
+    fn has_names(&self, url: &[u8]) -> bool
+        ensures { result ≡ is_some (names_of_entry self.now (pattern_text url.now) url.now) }
+    {
+        match pattern_text(url) {
+            Some(text) => self.pattern_names.get(text).is_some(),
+            None => self.names.get(url).is_some(),
+        }
+    }
+
+    /// Puts declarations, which others may hold, too, beside the map under a URL or under `*` and the text of its pattern: those
+    /// of its program. Where memory runs out, nothing is changed.
+    pub fn add_names(
+        &mut self,
+        alloc: Global,
+        url: &[u8],
+        names: SharedDeclarations,
+    ) -> Result<(), AllocError>
+        requires { takes_names self.old url.now ≡ true }
+        ensures added { OnOk result (IsNamed self.old url.now names self.new) }
+        ensures kept { OnErr result (self.new ≡ self.old) }
+    {
+        match pattern_text(url) {
+            Some(text) => self.add_pattern_names(alloc, text, names),
+            None => self.add_word_names(alloc, url, names),
+        }
+    }
+
+    // Puts declarations beside the map under a URL. Where that can't be, nothing is changed.
+    fn add_word_names(
+        &mut self,
+        alloc: Global,
+        url: &[u8],
+        names: SharedDeclarations,
+    ) -> Result<(), AllocError>
+        requires { value_under url.now self.old.names ≡ None }
+        ensures added { OnOk result (IsWithNames self.old url.now names self.new) }
+        ensures kept { OnErr result (self.new ≡ self.old) }
+    {
+        let owned = Vec::from_slice(alloc, url)?;
+        match self.names.add(owned, names) {
+            Ok(()) => Ok(()),
+            Err(_) => Err(AllocError),
+        }
+    }
+
+    // Puts declarations beside the map of a pattern of this text. Where that can't be, nothing is changed.
+    fn add_pattern_names(
+        &mut self,
+        alloc: Global,
+        text: &[u8],
+        names: SharedDeclarations,
+    ) -> Result<(), AllocError>
+        requires { value_under text.now self.old.pattern_names ≡ None }
+        ensures added { OnOk result (IsWithPatternNames self.old text.now names self.new) }
+        ensures kept { OnErr result (self.new ≡ self.old) }
+    {
+        let owned = Vec::from_slice(alloc, text)?;
+        match self.pattern_names.add(owned, names) {
+            Ok(()) => Ok(()),
+            Err(_) => Err(AllocError),
+        }
+    }
+
+    /// The declarations beside the map of a URL, where there are some: beside the one that `map_under` gives. The call takes no
+    /// memory.
+    pub fn names_under(&self, url: &[u8], cut: bool) -> Option<&Declarations>
+        ensures { option_map (λ names. names.now) result ≡ declared_under cut self.now url.now }
+    {
+        if self.has_no_names() {
+            return None;
+        }
+        if self.exact.map_for(url).is_some() {
+            return names_in(&self.names, url);
+        }
+        let short = without_query(url);
+        if cut && self.exact.map_for(short).is_some() {
+            return names_in(&self.names, short);
+        }
+        self.names_by_pattern(url)
+    }
+
+    // Whether no declarations stand beside any map.
+    fn has_no_names(&self) -> bool
+        ensures { result ≡ true → (self.now.names ≡ []) × (self.now.pattern_names ≡ []) }
+    {
+        self.names.count() == 0 && self.pattern_names.count() == 0
+    }
+
+    // The declarations beside the map of the pattern that decides for a URL.
+    fn names_by_pattern(&self, url: &[u8]) -> Option<&Declarations>
+        ensures { option_map (λ names. names.now) result ≡ declared_by_pattern self.now url.now }
+    {
+        let pattern = self.deciding_pattern(url)?;
+        names_in(&self.pattern_names, &pattern.text)
     }
 
     /// The maps under URLs.
@@ -167,5 +294,15 @@ impl UrlTable {
         ensures { result.now ≡ locations_of self.now.patterns }
     {
         &self.locations
+    }
+}
+
+// The declarations under a text, where there are some.
+fn names_in<'n>(names: &'n ByText<SharedDeclarations>, text: &[u8]) -> Option<&'n Declarations>
+    ensures { option_map (λ names. names.now) result ≡ value_under text.now names.now }
+{
+    match names.get(text) {
+        Some(names) => Some(names.get()),
+        None => None,
     }
 }

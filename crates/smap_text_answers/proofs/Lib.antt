@@ -9,6 +9,7 @@ mod LentStoreLaws
 mod LocatingLaws
 mod NamedLaws
 mod NamedLocatingLaws
+mod NamedTextLaws
 mod NamerLaws
 mod NamingLaws
 mod NearestLaws

@@ -1,5 +1,5 @@
 -- Laws of rewriting over maps with names of which only some is seen: what is seen goes the same way.
-use Rattle.std.specs.Prelude.{◌≡◌, ◌&&◌, ◌+◌, ◌++◌, ℕ, Bool, true, false, List, [], ◌∷◌, MatchBool, Option, Some, None, is_some, refl}
+use Rattle.std.specs.Prelude.{◌≡◌, ◌&&◌, ◌+◌, ◌++◌, ℕ, Bool, true, false, List, [], ◌∷◌, Option, Some, None, is_some, refl}
 use Rattle.std.proofs.Common.{ap, inl, inr, subst, sym, ◌∙◌}
 use Rattle.smap_declarations.specs.Declarations.{Named}
 use Rattle.smap_lines.specs.Editing.{DevicesSeen}
@@ -8,10 +8,10 @@ use Rattle.smap_lines.specs.Laws.Step.{edits_front_wider, edits_seen}
 use Rattle.smap_lines.specs.Lines.{Line}
 use Rattle.smap_lines.specs.declared.fault.LineFault.{LineFault}
 use Rattle.smap_lines.specs.declared.fault.LineFault.TheVariants.{Memory}
-use Rattle.smap_locations.specs.ByText.{value_under}
 use Rattle.smap_record.specs.Record.{MapRecord}
-use Rattle.smap_store.specs.Named.{FindsNamed, GivesNamed, MayKeep, NamedSeen, NamesMay, NamesOf, NamesStep, holds_map}
-use Rattle.smap_store.specs.Names.{NamesCame, names_used}
+use Rattle.smap_store.specs.Named.{FindsNamed, GivesNamed, MayKeep, NamedSeen, NamesMay, NamesOf, NamesStep, UsesNames, holds_map}
+use Rattle.smap_store.specs.Names.{NamesCame, has_names, names_used}
+use Rattle.smap_store.specs.Program.{ProgramSeen, program_in}
 use Rattle.smap_store.specs.Stored.{StoredSeen, found_in}
 use Rattle.smap_store.specs.declared.names_cache.NamesCache.{NamesCache}
 use Rattle.smap_trace.specs.Frame.{FrameParts}
@@ -126,61 +126,62 @@ names_front_none Gives May hide most now = unread.front_of_none (BecomesNamed Gi
 module _ {L N M P : Type 0} (see : StoredSeen L → StoredSeen M) (watch : N → P)
     (same_found : (stored : StoredSeen L) (url : List ℕ) → found_in stored url ≡ found_in (see stored) url)
     (same_held : (stored : StoredSeen L) (url : List ℕ) → holds_map stored url ≡ holds_map (see stored) url)
+    (same_program : (stored : StoredSeen L) (url : List ℕ) → program_in stored url ≡ program_in (see stored) url)
     (Finds : StoredSeen L → (url : List ℕ) → StoredSeen L → Type 0) (Seen : StoredSeen M → (url : List ℕ) → StoredSeen M → Type 0)
     (Is : StoredSeen L → Type 0)
     (finds : (old new : StoredSeen L) (url : List ℕ) → Is old → Finds old url new → Seen (see old) url (see new) × Is new)
     (Names : NamesStep N) (Watched : NamesStep P) (IsNamer : N → Type 0)
-    (lists : (old new : N) (url : List ℕ) (stated : MapRecord) (came : NamesCame) → IsNamer old → Names old url stated came new
-    → Watched (watch old) url stated came (watch new) × IsNamer new) where
+    (lists : (old new : N) (program : ProgramSeen) (stated : MapRecord) (came : NamesCame) → IsNamer old → Names old program stated came new
+    → Watched (watch old) program stated came (watch new) × IsNamer new) where
   abbrev pub named_watched : NamedSeen L N → NamedSeen M P
   named_watched maps = record { stored = see maps.stored; names = maps.names; namer = watch maps.namer }
 
   abbrev pub Are : NamedSeen L N → Type 0
   Are maps = Is maps.stored × IsNamer maps.namer
 
-  of_same : (found : Option MapRecord) (names after : NamesCache) (namer namer_after : N) (url : List ℕ) → IsNamer namer
-      → NamesOf Names found names namer url after namer_after → NamesOf Watched found names (watch namer) url after (watch namer_after) × IsNamer namer_after
-  of_same None names after namer namer_after url is got = ((got.0, ap watch got.1), subst IsNamer (sym got.1) is)
-  of_same (Some stated) names after namer namer_after url is (came, gave, remembers) =
-      let one = lists namer namer_after url stated came is gave in
+  of_same : (found : Option MapRecord) (names after : NamesCache) (namer namer_after : N) (program : ProgramSeen) → IsNamer namer
+      → NamesOf Names found names namer program after namer_after
+      → NamesOf Watched found names (watch namer) program after (watch namer_after) × IsNamer namer_after
+  of_same None names after namer namer_after program is got = ((got.0, ap watch got.1), subst IsNamer (sym got.1) is)
+  of_same (Some stated) names after namer namer_after program is (came, gave, remembers) =
+      let one = lists namer namer_after program stated came is gave in
       ((came, one.0, remembers), one.1)
 
-  kept_same : (held : Bool) (found : Option MapRecord) (names after : NamesCache) (namer namer_after : N) (url : List ℕ) → IsNamer namer
-      → MatchBool held ((after ≡ names_used url names) × (namer_after ≡ namer)) (NamesOf Names found (names_used url names) namer url after namer_after)
-      → MatchBool held ((after ≡ names_used url names) × (watch namer_after ≡ watch namer))
-      (NamesOf Watched found (names_used url names) (watch namer) url after (watch namer_after))
-      × IsNamer namer_after
-  kept_same true found names after namer namer_after url is got = ((got.0, ap watch got.1), subst IsNamer (sym got.1) is)
-  kept_same false found names after namer namer_after url is got = of_same found (names_used url names) after namer namer_after url is got
+  uses_same : (held : Bool) (found : Option MapRecord) (names after : NamesCache) (namer namer_after : N) (program : ProgramSeen) → IsNamer namer
+      → UsesNames Names held found names namer program after namer_after
+      → UsesNames Watched held found names (watch namer) program after (watch namer_after) × IsNamer namer_after
+  uses_same true found names after namer namer_after program is got = ((got.0, ap watch got.1), subst IsNamer (sym got.1) is)
+  uses_same false found names after namer namer_after program is got =
+      of_same found (names_used program names) after namer namer_after program is got
 
   pub named_finds : (old new : NamedSeen L N) (url : List ℕ) → Are old → FindsNamed Finds Names old url new
       → FindsNamed Seen Watched (named_watched old) url (named_watched new) × Are new
   named_finds old new url are is =
+      let program = program_in old.stored url in
       let one = finds old.stored new.stored url are.0 is.stored in
-      let two = kept_same (holds_map old.stored url && is_some (value_under url old.names.held.entries)) (found_in new.stored url) old.names new.names
-      old.namer new.namer url are.1 is.names in (
+      let two = uses_same (holds_map old.stored url && has_names program old.names) (found_in new.stored url) old.names new.names old.namer new.namer
+      program are.1 is.names in (
         record {
           stored = one.0;
-          names = subst (λ (f : Option MapRecord). MatchBool (holds_map (see old.stored) url && is_some (value_under url old.names.held.entries))
-              ((new.names ≡ names_used url old.names) × (watch new.namer ≡ watch old.namer))
-              (NamesOf Watched f (names_used url old.names) (watch old.namer) url new.names (watch new.namer))) (same_found new.stored url)
-              (subst (λ b. MatchBool (b && is_some (value_under url old.names.held.entries))
-              ((new.names ≡ names_used url old.names) × (watch new.namer ≡ watch old.namer))
-              (NamesOf Watched (found_in new.stored url) (names_used url old.names) (watch old.namer) url new.names (watch new.namer)))
-              (same_held old.stored url) two.0);
+          names = subst (λ (f : Option MapRecord). UsesNames Watched (holds_map (see old.stored) url && has_names (program_in (see old.stored) url) old.names) f
+              old.names (watch old.namer) (program_in (see old.stored) url) new.names (watch new.namer)) (same_found new.stored url)
+              (subst (λ p. UsesNames Watched (holds_map (see old.stored) url && has_names p old.names) (found_in new.stored url) old.names (watch old.namer) p
+              new.names (watch new.namer)) (same_program old.stored url)
+              (subst (λ b. UsesNames Watched (b && has_names program old.names) (found_in new.stored url) old.names (watch old.namer) program new.names
+              (watch new.namer)) (same_held old.stored url) two.0));
         },
         (one.1, two.1),
       )
 
 -- which names may be known
 module _ {N P : Type 0} (Gives Given : (url : List ℕ) → Option MapRecord → Type 0) (given : (url : List ℕ) (found : Option MapRecord) → Gives url found → Given url found)
-    (May : NamesMay N) (More : NamesMay P) (names : NamesCache) (namer : N) (other : P)
-    (more : (url : List ℕ) (stated : MapRecord) (kept : Option (List Named)) → May namer url stated kept → More other url stated kept) where
-  keep_so : (url : List ℕ) (kept : Option (List Named)) → MayKeep May names namer url kept → MayKeep More names other url kept
-  keep_so url kept (inl none) = inl none
-  keep_so url kept (inr (inl has)) = inr (inl has)
-  keep_so url kept (inr (inr (stated, may))) = inr (inr (stated, more url stated kept may))
+    (program : (url : List ℕ) → ProgramSeen) (May : NamesMay N) (More : NamesMay P) (names : NamesCache) (namer : N) (other : P)
+    (more : (one : ProgramSeen) (stated : MapRecord) (kept : Option (List Named)) → May namer one stated kept → More other one stated kept) where
+  keep_so : (one : ProgramSeen) (kept : Option (List Named)) → MayKeep May names namer one kept → MayKeep More names other one kept
+  keep_so one kept (inl none) = inl none
+  keep_so one kept (inr (inl has)) = inr (inl has)
+  keep_so one kept (inr (inr (stated, may))) = inr (inr (stated, more one stated kept may))
 
-  pub gives_so : (url : List ℕ) (stated : Option MapRecord) (written : Option FunctionNames) → GivesNamed Gives May names namer url stated written
-      → GivesNamed Given More names other url stated written
-  gives_so url stated written (gives, (kept, keeps, is)) = (given url stated gives, (kept, keep_so url kept keeps, is))
+  pub gives_so : (url : List ℕ) (stated : Option MapRecord) (written : Option FunctionNames) → GivesNamed Gives program May names namer url stated written
+      → GivesNamed Given program More names other url stated written
+  gives_so url stated written (gives, (kept, keeps, is)) = (given url stated gives, (kept, keep_so (program url) kept keeps, is))

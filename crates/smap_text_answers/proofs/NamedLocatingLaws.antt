@@ -14,6 +14,7 @@ use Rattle.smap_replies.specs.Files.{MayRead}
 use Rattle.smap_store.specs.Named.{FindsNamed, GivesNamed, IsSameNamed, NamedSeen, NamesMay, NamesStep, holds_map, named_seen, names_in}
 use Rattle.smap_store.specs.Names.{NamesCame, kept_names, names_at_first}
 use Rattle.smap_store.specs.Loaded.{Outcome}
+use Rattle.smap_store.specs.Program.{ProgramSeen, program_in}
 use Rattle.smap_store.specs.Stored.{FindsIn, GivesIn, LoadsMay, LoadsStep, StoredSeen, found_in, outcome_at}
 use Rattle.smap_store.specs.declared.names_cache.NamesCache.{NamesCache}
 use Rattle.smap_text_answers.specs.NamedLocating.{AnswersNames, AnswersNamesFront, BecomesNamedAnswer, LocatesNamed, MayLocateNamed, NamedLocateStep, named_line}
@@ -54,13 +55,14 @@ module _ {L N : Type 0} (Loads : LoadsStep L) (Names : NamesStep N) (first : Nam
 module _ {L N M P : Type 0} (see : StoredSeen L → StoredSeen M) (watch : N → P)
     (same_found : (stored : StoredSeen L) (url : List ℕ) → found_in stored url ≡ found_in (see stored) url)
     (same_held : (stored : StoredSeen L) (url : List ℕ) → holds_map stored url ≡ holds_map (see stored) url)
+    (same_program : (stored : StoredSeen L) (url : List ℕ) → program_in stored url ≡ program_in (see stored) url)
     (same_outcome : (stored : StoredSeen L) (url : List ℕ) → outcome_at stored url ≡ outcome_at (see stored) url)
     (Finds : StoredSeen L → (url : List ℕ) → StoredSeen L → Type 0) (Seen : StoredSeen M → (url : List ℕ) → StoredSeen M → Type 0)
     (Is : StoredSeen L → Type 0)
     (finds : (old new : StoredSeen L) (url : List ℕ) → Is old → Finds old url new → Seen (see old) url (see new) × Is new)
     (Names : NamesStep N) (Watched : NamesStep P) (IsNamer : N → Type 0)
-    (lists : (old new : N) (url : List ℕ) (stated : MapRecord) (came : NamesCame) → IsNamer old → Names old url stated came new
-    → Watched (watch old) url stated came (watch new) × IsNamer new) (options : AnswerOptions) where
+    (lists : (old new : N) (program : ProgramSeen) (stated : MapRecord) (came : NamesCame) → IsNamer old → Names old program stated came new
+    → Watched (watch old) program stated came (watch new) × IsNamer new) (options : AnswerOptions) where
   abbrev watched : NamedSeen L N → NamedSeen M P
   watched maps = record { stored = see maps.stored; names = maps.names; namer = watch maps.namer }
 
@@ -72,10 +74,10 @@ module _ {L N M P : Type 0} (see : StoredSeen L → StoredSeen M) (watch : N →
   locates_so old new None text are step = ((step.0, ap watched step.1), subst AreSo (sym step.1) are)
   locates_so old new (Some named) text are step =
       let url = named.place.url in
-      let one = named_finds see watch same_found same_held Finds Seen Is finds Names Watched IsNamer lists old new url are step.0 in (
+      let one = named_finds see watch same_found same_held same_program Finds Seen Is finds Names Watched IsNamer lists old new url are step.0 in (
         (
           one.0,
-          step.1 ∙ (λ i. named_line options named (names_beside (same_found new.stored url i) (kept_names url new.names)) (same_outcome new.stored url i)),
+          step.1 ∙ (λ i. named_line options named (names_beside (same_found new.stored url i) (kept_names (same_program new.stored url i) new.names)) (same_outcome new.stored url i)),
         ),
         one.1,
       )
@@ -115,8 +117,8 @@ module _ {F : Type 0} (gives : F → MayRead) (first : FileNamer F) (reader : F)
     answered = subst (λ (s : NamedSeen L ToldSeen). EditsInto (NamedLocateStep (FindsNamed (FindsIn Loads) (NamesBy (gives reader) programs)) options) most_text_bytes
         before after s (record { stored = new.stored; names = new.names; namer = told_seen new.namer.told }) counts)
         (λ i. record { stored = old; names = names_are i; namer = told_is i })
-        (lines_so (λ stored. stored) (λ namer. told_seen namer.told) (λ stored url. refl) (λ stored url. refl) (λ stored url. refl) (FindsIn Loads) (FindsIn Loads)
-        (λ stored. ⊤) (λ old new url is finds. (finds, tt)) (NamerNames gives) (NamesBy (gives reader) programs) (IsSameNamer first)
+        (lines_so (λ stored. stored) (λ namer. told_seen namer.told) (λ stored url. refl) (λ stored url. refl) (λ stored url. refl) (λ stored url. refl)
+        (FindsIn Loads) (FindsIn Loads) (λ stored. ⊤) (λ old new url is finds. (finds, tt)) (NamerNames gives) (NamesBy (gives reader) programs) (IsSameNamer first)
         (lists_so gives first reader programs reader_is programs_are told_is) options before after (record { stored = old; names = names; namer = first }) new counts
         (tt, record { files = refl; number = refl; arguments = refl; locations = refl }) edits);
     stored = refl;
@@ -124,12 +126,13 @@ module _ {F : Type 0} (gives : F → MayRead) (first : FileNamer F) (reader : F)
   }
 
   pub lines_front : (May : LoadsMay L) (fault : LineFault)
-      → EditsFrontInto (BecomesNamedAnswer (GivesNamed (GivesIn May old) (NamerMay gives) names first) options) most_text_bytes before after fault
-      → AnswersNamesFront (gives reader) programs names_bytes options (GivesIn May old) before after fault
+      → EditsFrontInto (BecomesNamedAnswer (GivesNamed (GivesIn May old) (program_in old) (NamerMay gives) names first) options) most_text_bytes before after fault
+      → AnswersNamesFront (gives reader) programs names_bytes options (GivesIn May old) (program_in old) before after fault
   lines_front May fault is =
-      front_more (GivesNamed (GivesIn May old) (NamerMay gives) names first)
-      (GivesNamed (GivesIn May old) (MayNameBy (gives reader) programs) (names_at_first names_bytes) nothing_told)
-      (λ url stated written gives_it. subst (λ n. GivesNamed (GivesIn May old) (MayNameBy (gives reader) programs) n nothing_told url stated written) names_are
-      (gives_so (GivesIn May old) (GivesIn May old) (λ url found is. is) (NamerMay gives) (MayNameBy (gives reader) programs) names first nothing_told
+      front_more (GivesNamed (GivesIn May old) (program_in old) (NamerMay gives) names first)
+      (GivesNamed (GivesIn May old) (program_in old) (MayNameBy (gives reader) programs) (names_at_first names_bytes) nothing_told)
+      (λ url stated written gives_it. subst (λ n. GivesNamed (GivesIn May old) (program_in old) (MayNameBy (gives reader) programs) n nothing_told url stated written)
+      names_are
+      (gives_so (GivesIn May old) (GivesIn May old) (λ url found is. is) (program_in old) (NamerMay gives) (MayNameBy (gives reader) programs) names first nothing_told
       (may_so gives first reader programs reader_is programs_are told_is) url stated written gives_it))
       options before after fault is

@@ -7,6 +7,7 @@ use Rattle.std.proofs.Common.{ap, arith, inl, inr, refl, subst, sym, ◌∙◌}
 use Rattle.url.specs.Parts.{Parts}
 use Rattle.smap_lines.specs.Editing.{DevicesSeen, devices_seen}
 use Rattle.smap_lines.specs.declared.fault.LineFault.{LineFault}
+use Rattle.smap_anywhere.specs.Replaced.{by_maps}
 use Rattle.smap_anywhere.specs.Anywhere.{PlacesAsked, RewritesAnywhere}
 use Rattle.smap_anywhere.specs.AnywhereBy.{RewritesAnywhereBy}
 use Rattle.smap_anywhere.specs.ChunkParts.{parts_in}
@@ -36,7 +37,8 @@ use Rattle.smap_text_answers.specs.Loader.{FailsBy, FailsWith, LoaderSeen, Loads
 use Rattle.smap_replies.specs.Outcome.{Report}
 use Rattle.smap_text_answers.specs.Told.{ToldSeen, nothing_told}
 use Rattle.smap_text_answers.specs.Request.{RequestSeen, fit_number}
-use Rattle.smap_text_answers.specs.RewriteFrom.{AnswersByPath, IsTextOverStore, RewritesPlaces, RewritesText, RewritesTextBy, asked_of, places_asked, urls_of}
+use Rattle.smap_text_answers.specs.Places.{RewritesPlacesOver}
+use Rattle.smap_text_answers.specs.RewriteFrom.{AnswersByPath, IsTextOverStore, RewritesText, RewritesTextBy, asked_of, places_asked, urls_of}
 use Rattle.smap_text_answers.specs.StoreRun.{store_start}
 use Rattle.smap_text_answers.proofs.RightLaws.{IsRight, right_after, right_start}
 use Rattle.smap_text_answers.specs.SameBytes.{AreSettled, BytesByPath, FailsSame, MapsByPath, ReadsSame, by_path, maps_at, stated_by, stated_in, stored_maps}
@@ -222,17 +224,19 @@ module _ (Reads : MayRead) (Causes : MayCause) (paths : Bool) (base : Option Par
 
   pub same_settled : (request : RequestSeen) (sources : MapSources) (before after : DevicesSeen) (old new : StoredSeen LoaderSeen) (counts : RewriteCounts)
       (notes others : NotesSeen) (told : ToldSeen) (anywhere names : Bool) (Named : Type 0)
-      → MatchBool anywhere
-      (RewritesPlaces request sources (FindsIn (Loads Reads Causes paths base k number None)) before after old new counts notes others × (told ≡ nothing_told))
-      (MatchBool names Named (RewritesOver (FindsIn (Loads Reads Causes paths base k number None)) found_in (asked_of request sources) before after old new counts notes
-      × (told ≡ nothing_told)) × (others ≡ nothing_noted))
+      → MatchBool names Named
+      (MatchBool anywhere
+      (RewritesPlacesOver by_maps (FindsIn (Loads Reads Causes paths base k number None)) found_in (places_asked false request sources) before after old new counts
+      notes others)
+      (RewritesOver (FindsIn (Loads Reads Causes paths base k number None)) found_in (asked_of request sources) before after old new counts notes
+      × (others ≡ nothing_noted)) × (told ≡ nothing_told))
       → names ≡ false
       → IsEmpty old.cache → Settled new.loader → new.cache.shortages ≡ 0
       → RewritesTextBy anywhere (stored_maps load old.exact old.locations) (parts_in (urls_of sources)) request.hide request.limit_bytes before after counts
-  same_settled request sources before after old new counts notes others told true names Named all unnamed empty settled enough =
-      places_same (Loads Reads Causes paths base k number None) Settled load loads_settled (places_asked request sources) before after old new counts.summary notes others
-      all.0.over empty (settled, enough)
-  same_settled request sources before after old new counts notes others told false true Named all unnamed empty settled enough = absurd (cc)
+  same_settled request sources before after old new counts notes others told anywhere true Named all unnamed empty settled enough = absurd (cc)
+  same_settled request sources before after old new counts notes others told true false Named all unnamed empty settled enough =
+      places_same (Loads Reads Causes paths base k number None) Settled load loads_settled (places_asked false request sources) before after old new counts.summary
+      notes others all.0.over empty (settled, enough)
   same_settled request sources before after old new counts notes others told false false Named all unnamed empty settled enough =
       rewrites_same (Loads Reads Causes paths base k number None) Settled load loads_settled (asked_of request sources) before after old new counts notes all.0.0 empty
       (settled, enough)

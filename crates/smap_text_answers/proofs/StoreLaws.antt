@@ -1,5 +1,5 @@
 -- What reading maps from files when they are named comes to, of which a run shows what it reported.
-use Rattle.std.specs.Prelude.{◌≡◌, ◌⊎◌, ℕ, List, Option, Some, None, Result, IfErr, Err, MatchOption, ⊤, option_copied}
+use Rattle.std.specs.Prelude.{◌≡◌, ◌⊎◌, ℕ, false, true, List, Option, Some, None, Result, IfErr, Err, MatchOption, ⊤, option_copied}
 use Rattle.std.specs.Result.{result_ok}
 use Rattle.std.proofs.Common.{ap, ◌∙◌, inl, inr, refl, subst, sym}
 use Rattle.smap_io.specs.Device.{SinkSeen}
@@ -10,7 +10,9 @@ use Rattle.smap_lines.specs.declared.counts.LineCounts.{LineCounts}
 use Rattle.smap_lines.specs.declared.fault.LineFault.{LineFault}
 use Rattle.smap_lines.specs.declared.fault.LineFault.TheVariants.{Memory}
 use Rattle.smap_locations.specs.Locations.{key_for, path_for}
-use Rattle.smap_anywhere.specs.Laws.AnywhereSeen.{anywhere_front_seen, anywhere_seen}
+use Rattle.smap_anywhere.specs.Anywhere.{PlacesAsked}
+use Rattle.smap_anywhere.specs.Laws.AnywhereSeen.{anywhere_front_seen}
+use Rattle.smap_anywhere.specs.Replaced.{by_maps}
 use Rattle.smap_command.specs.declared.asked.Locate.{Locate}
 use Rattle.smap_command.specs.declared.options.AnswerOptions.{AnswerOptions}
 use Rattle.smap_record.specs.Record.{MapRecord}
@@ -18,8 +20,9 @@ use Rattle.smap_store.specs.Cache.{IsKept, kept_under}
 use Rattle.smap_store.specs.Fileless.{known_of}
 use Rattle.smap_store.specs.Laws.Stored.{Moves, found_moves}
 use Rattle.smap_store.specs.Loaded.{Came, Outcome}
-use Rattle.smap_store.specs.Named.{FindsNamed, names_in}
+use Rattle.smap_store.specs.Named.{FindsNamed}
 use Rattle.smap_store.specs.Names.{names_at_first}
+use Rattle.smap_store.specs.Program.{program_of}
 use Rattle.smap_store.specs.Stored.{Asks, Comes, FindsIn, GivesIn, LoadsMay, LoadsStep, MayCome, Recalled, Recalls, StoredSeen, Untouched, found_in}
 use Rattle.smap_trace.specs.Rewriting.{Looked, RewritesOver}
 use Rattle.smap_trace.specs.UrlNotes.{NotesSeen}
@@ -34,13 +37,15 @@ use Rattle.smap_text_answers.specs.UrlPlace.{UrlPlace, place_of}
 use Rattle.smap_text_answers.specs.Request.{RequestSeen}
 use Rattle.smap_text_answers.specs.Names.{MayNameBy, NamesBy}
 use Rattle.smap_text_answers.specs.Told.{ToldSeen, nothing_told}
-use Rattle.smap_text_answers.specs.Naming.{RewritesNames, found_beside, named_start}
-use Rattle.smap_text_answers.specs.RewriteFrom.{RewritesPlaces, RewritesText, RewritesTextFront, asked_of, places_asked, programs_of}
+use Rattle.smap_text_answers.specs.Naming.{RewritesNames, named_start}
+use Rattle.smap_text_answers.specs.Places.{RewritesPlacesOver}
+use Rattle.smap_text_answers.specs.RewriteFrom.{RewritesText, RewritesTextFront, asked_of, places_asked, programs_of}
 use Rattle.smap_text_answers.specs.StoreRun.{LoadsOf, MayLoadOf}
 use Rattle.smap_text_answers.specs.declared.loader.FileLoader.{FileLoader}
 use Rattle.smap_text_answers.specs.declared.sources.MapSources.{MapSources}
 use Rattle.smap_text_answers.proofs.BesideLaws.{when_both}
-use Rattle.smap_text_answers.proofs.NamedLaws.{gives_so, named_finds, names_front_so, names_seen_so}
+use Rattle.smap_text_answers.proofs.NamedLaws.{gives_so, named_finds}
+use Rattle.smap_text_answers.proofs.NamedTextLaws.{named_front_so, named_text_so, places_seen_so}
 use Rattle.smap_text_answers.proofs.NamedLocatingLaws.{front_more, lines_so}
 
 -- ---- where only some is seen of what loads maps, what is seen goes the same way
@@ -202,38 +207,38 @@ module _ {F E : Type 0} (gives : F → MayRead) (causes : F → MayCause) (seen 
         abbrev Is : StoredSeen (FileLoader F E) → Type 0
         Is maps = IsSameLoader first maps.loader
 
-        places_from : (counts : RewriteCounts) (notes others : NotesSeen) → RewritesPlaces request sources (FindsIn Steps) before after old new counts notes others
-            → RewritesPlaces request sources (FindsIn (LoadsOf gives causes first)) before after (see old) (see new) counts notes others
-        places_from counts notes others is = record {
-          over = anywhere_seen (FindsIn Steps) found_in (FindsIn (LoadsOf gives causes first)) found_in see Is finds_so (λ maps url same. refl)
-              (places_asked request sources) before after old new counts.summary notes others at_first is.over;
-          long = is.long;
-          passed = is.passed;
-        }
+        places_from : (counts : RewriteCounts) (notes others : NotesSeen)
+            → RewritesPlacesOver by_maps (FindsIn Steps) found_in (places_asked false request sources) before after old new counts notes others
+            → RewritesPlacesOver by_maps (FindsIn (LoadsOf gives causes first)) found_in (places_asked false request sources) before after (see old) (see new) counts
+            notes others
+        places_from counts notes others is =
+            places_seen_so by_maps (FindsIn Steps) found_in (FindsIn (LoadsOf gives causes first)) found_in see Is finds_so (λ maps url same. refl)
+            (places_asked false request sources) before after old new counts notes others at_first is
 
-        over_from : (counts : RewriteCounts) (notes : NotesSeen) (told : ToldSeen)
-            → RewritesOver (FindsIn Steps) found_in (asked_of request sources) before after old new counts notes × (told ≡ nothing_told)
-            → RewritesOver (FindsIn (LoadsOf gives causes first)) found_in (asked_of request sources) before after (see old) (see new) counts notes × (told ≡ nothing_told)
-        over_from counts notes told is = (
-          rewrites_seen (FindsIn Steps) found_in (FindsIn (LoadsOf gives causes first)) found_in see Is finds_so (λ maps url. refl) (asked_of request sources)
-              before after old new counts notes at_first is.0,
-          is.1,
-        )
+        over_from : (counts : RewriteCounts) (notes : NotesSeen) → RewritesOver (FindsIn Steps) found_in (asked_of request sources) before after old new counts notes
+            → RewritesOver (FindsIn (LoadsOf gives causes first)) found_in (asked_of request sources) before after (see old) (see new) counts notes
+        over_from counts notes is =
+            rewrites_seen (FindsIn Steps) found_in (FindsIn (LoadsOf gives causes first)) found_in see Is finds_so (λ maps url. refl) (asked_of request sources)
+            before after old new counts notes at_first is
 
-        names_from : (counts : RewriteCounts) (notes : NotesSeen) (told : ToldSeen)
-            → RewritesNames Reads (programs_of request sources) request.names_bytes (asked_of request sources) (FindsIn Steps) before after old new counts notes told
-            → RewritesNames Reads (programs_of request sources) request.names_bytes (asked_of request sources) (FindsIn (LoadsOf gives causes first)) before after
-            (see old) (see new) counts notes told
-        names_from counts notes told is = record {
+        abbrev places : PlacesAsked
+        places = places_asked true request sources
+
+        names_from : (counts : RewriteCounts) (notes others : NotesSeen) (told : ToldSeen)
+            → RewritesNames Reads (programs_of request sources) request.names_bytes request.anywhere places (asked_of request sources) (FindsIn Steps) before after
+            old new counts notes others told
+            → RewritesNames Reads (programs_of request sources) request.names_bytes request.anywhere places (asked_of request sources)
+            (FindsIn (LoadsOf gives causes first)) before after (see old) (see new) counts notes others told
+        names_from counts notes others told is = record {
           last = record { stored = see is.last.stored; names = is.last.names; namer = is.last.namer };
-          named = names_seen_so (FindsNamed (FindsIn Steps) (NamesBy Reads (programs_of request sources))) found_beside names_in
-              (FindsNamed (FindsIn (LoadsOf gives causes first)) (NamesBy Reads (programs_of request sources))) found_beside names_in
+          named = named_text_so (FindsNamed (FindsIn Steps) (NamesBy Reads (programs_of request sources)))
+              (FindsNamed (FindsIn (LoadsOf gives causes first)) (NamesBy Reads (programs_of request sources)))
               (λ maps. record { stored = see maps.stored; names = maps.names; namer = maps.namer }) (λ maps. Is maps.stored × ⊤)
-              (named_finds see (λ told. told) (λ stored url. refl) (λ stored url. refl) (FindsIn Steps) (FindsIn (LoadsOf gives causes first)) Is finds_so
+              (named_finds see (λ told. told) (λ stored url. refl) (λ stored url. refl) (λ stored url. refl) (FindsIn Steps) (FindsIn (LoadsOf gives causes first)) Is finds_so
               (NamesBy Reads (programs_of request sources)) (NamesBy Reads (programs_of request sources)) (λ told. ⊤)
-              (λ old new url stated came is names. (names, tt)))
-              (λ maps url. refl) (λ maps url. refl) (asked_of request sources) before after (named_start request.names_bytes old) is.last counts notes
-              (at_first, tt) is.named;
+              (λ old new program stated came is names. (names, tt)))
+              (λ maps url. refl) (λ maps url. refl) request.anywhere places (asked_of request sources) before after (named_start request.names_bytes old) is.last
+              counts notes others (at_first, tt) is.named;
           stored = ap see is.stored;
           told_is = is.told_is;
         }
@@ -242,19 +247,19 @@ module _ {F E : Type 0} (gives : F → MayRead) (causes : F → MayCause) (seen 
             → RewritesText Reads request sources (FindsIn Steps) before after old new counts notes others told
             → RewritesText Reads request sources (FindsIn (LoadsOf gives causes first)) before after (see old) (see new) counts notes others told
         text_from counts notes others told =
-            when_both request.anywhere _ _ _ _ (λ is. (places_from counts notes others is.0, is.1))
-            (λ is. (when_both request.names _ _ _ _ (names_from counts notes told) (over_from counts notes told) is.0, is.1))
+            when_both request.names _ _ _ _ (names_from counts notes others told)
+            (λ is. (when_both request.anywhere _ _ _ _ (places_from counts notes others) (λ is. (over_from counts notes is.0, is.1)) is.0, is.1))
 
         pub front_from : (fault : LineFault) → RewritesTextFront Reads request sources (GivesIn May old) before after fault
             → RewritesTextFront Reads request sources (GivesIn (MayLoadOf gives first) (see old)) before after fault
         front_from fault =
-            when_both request.anywhere _ _ _ _
-            (anywhere_front_seen (GivesIn May old) (GivesIn (MayLoadOf gives first) (see old)) gives_first (places_asked request sources) before after fault)
-            (when_both request.names _ _ _ _
-            (names_front_so (GivesIn May old) (GivesIn (MayLoadOf gives first) (see old)) _ _
-            (gives_so (GivesIn May old) (GivesIn (MayLoadOf gives first) (see old)) gives_first (MayNameBy Reads (programs_of request sources))
-            (MayNameBy Reads (programs_of request sources)) (names_at_first request.names_bytes) nothing_told nothing_told (λ url stated kept may. may))
-            request.hide request.limit_bytes before after fault)
+            when_both request.names _ _ _ _
+            (named_front_so (GivesIn May old) (GivesIn (MayLoadOf gives first) (see old)) _ _
+            (gives_so (GivesIn May old) (GivesIn (MayLoadOf gives first) (see old)) gives_first (program_of sources.exact sources.locations) (MayNameBy Reads (programs_of request sources))
+            (MayNameBy Reads (programs_of request sources)) (names_at_first request.names_bytes) nothing_told nothing_told (λ program stated kept may. may))
+            request.anywhere places (asked_of request sources) before after fault)
+            (when_both request.anywhere _ _ _ _
+            (anywhere_front_seen (GivesIn May old) (GivesIn (MayLoadOf gives first) (see old)) gives_first (places_asked false request sources) before after fault)
             (front_seen (GivesIn May old) (GivesIn (MayLoadOf gives first) (see old)) gives_first request.hide request.limit_bytes before after fault))
 
       -- answering over it
@@ -293,9 +298,9 @@ module _ {F E : Type 0} (gives : F → MayRead) (causes : F → MayCause) (seen 
             (see old) (see new) counts told
         named_lines_from counts told is = record {
           last = record { stored = see is.last.stored; names = is.last.names; namer = is.last.namer };
-          answered = lines_so see (λ told. told) (λ stored url. refl) (λ stored url. refl) (λ stored url. refl) (FindsIn Steps) (FindsIn (LoadsOf gives causes first))
+          answered = lines_so see (λ told. told) (λ stored url. refl) (λ stored url. refl) (λ stored url. refl) (λ stored url. refl) (FindsIn Steps) (FindsIn (LoadsOf gives causes first))
               (λ maps. IsSameLoader first maps.loader) finds_so (NamesBy Reads (located_programs asked sources)) (NamesBy Reads (located_programs asked sources))
-              (λ told. ⊤) (λ old new url stated came is names. (names, tt)) options before after (named_start (names_bytes asked) old) is.last counts
+              (λ told. ⊤) (λ old new program stated came is names. (names, tt)) options before after (named_start (names_bytes asked) old) is.last counts
               (at_first, tt) is.answered;
           stored = ap see is.stored;
           told_is = is.told_is;
@@ -310,8 +315,8 @@ module _ {F E : Type 0} (gives : F → MayRead) (causes : F → MayCause) (seen 
         answers_front_from fault =
             when_both asked.names _ _ _ _
             (front_more _ _
-            (gives_so (GivesIn May old) (GivesIn (MayLoadOf gives first) (see old)) gives_first (MayNameBy Reads (located_programs asked sources))
-            (MayNameBy Reads (located_programs asked sources)) (names_at_first (names_bytes asked)) nothing_told nothing_told (λ url stated kept may. may))
+            (gives_so (GivesIn May old) (GivesIn (MayLoadOf gives first) (see old)) gives_first (program_of sources.exact sources.locations) (MayNameBy Reads (located_programs asked sources))
+            (MayNameBy Reads (located_programs asked sources)) (names_at_first (names_bytes asked)) nothing_told nothing_told (λ program stated kept may. may))
             options before after fault)
             (lines_front_from fault)
 

@@ -8,6 +8,7 @@ pub mod Generated
 pub mod Told
 pub mod Fitting
 pub mod Names
+pub mod Places
 pub mod Naming
 pub mod Request
 pub mod Required

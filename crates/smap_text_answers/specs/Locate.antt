@@ -9,6 +9,7 @@ use Rattle.smap_lines.specs.RunEnds.{RunEnds}
 use Rattle.smap_lines.specs.declared.counts.LineCounts.{LineCounts}
 use Rattle.smap_lines.specs.declared.fault.LineFault.{LineFault}
 use Rattle.smap_record.specs.Record.{MapRecord}
+use Rattle.smap_store.specs.Program.{program_of}
 use Rattle.smap_store.specs.Stored.{FindsIn, GivesIn, LoadsMay, LoadsStep, StoredSeen}
 use Rattle.smap_text_answers.specs.NamedLocating.{AnswersNames, AnswersNamesFront}
 use Rattle.smap_text_answers.specs.Names.{Programs}
@@ -66,7 +67,8 @@ abbrev pub LocatesTextFront : MayRead → Locate → MapSources → (Gives : (ur
     → Type 0
 LocatesTextFront Reads asked sources Gives before after fault =
     MatchBool asked.names
-    (AnswersNamesFront Reads (located_programs asked sources) (names_bytes asked) asked.options Gives before after fault)
+    (AnswersNamesFront Reads (located_programs asked sources) (names_bytes asked) asked.options Gives (program_of sources.exact sources.locations)
+    before after fault)
     (EditsFrontInto (BecomesAnswer Gives asked.options) most_text_bytes before after fault)
 
 -- how a run over a store of maps that are loaded so ends, and how the store stands then

@@ -16,6 +16,7 @@ use Rattle.smap_record.specs.Record.{MapRecord}
 use Rattle.smap_replies.specs.Files.{MayRead}
 use Rattle.smap_store.specs.Loaded.{Outcome}
 use Rattle.smap_store.specs.Named.{FindsNamed, GivesNamed, NamedSeen, names_in}
+use Rattle.smap_store.specs.Program.{ProgramSeen}
 use Rattle.smap_store.specs.Names.{names_at_first}
 use Rattle.smap_store.specs.Stored.{StoredSeen, outcome_at}
 use Rattle.smap_text_answers.specs.NamedPlace.{NamedPlace, named_place_of}
@@ -80,6 +81,6 @@ pub record AnswersNames {L : Type 0} (Reads : MayRead) (programs : Programs) (na
 
 -- or up to a fault
 abbrev pub AnswersNamesFront : MayRead → Programs → (names_bytes : ℕ) → AnswerOptions → (Gives : (url : List ℕ) → Option MapRecord → Type 0)
-    → (before after : DevicesSeen) → LineFault → Type 0
-AnswersNamesFront Reads programs names_bytes options Gives before after fault =
-    EditsFrontInto (BecomesNamedAnswer (GivesNamed Gives (MayNameBy Reads programs) (names_at_first names_bytes) nothing_told) options) most_text_bytes before after fault
+    → (program : (url : List ℕ) → ProgramSeen) → (before after : DevicesSeen) → LineFault → Type 0
+AnswersNamesFront Reads programs names_bytes options Gives program before after fault =
+    EditsFrontInto (BecomesNamedAnswer (GivesNamed Gives program (MayNameBy Reads programs) (names_at_first names_bytes) nothing_told) options) most_text_bytes before after fault

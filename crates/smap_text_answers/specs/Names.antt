@@ -12,7 +12,10 @@ use Rattle.smap_record.specs.Record.{MapRecord}
 use Rattle.smap_replies.specs.Arguments.{argument_of}
 use Rattle.smap_replies.specs.Files.{MayRead}
 use Rattle.smap_store.specs.Names.{NamesCame, declared_in}
+use Rattle.smap_store.specs.Program.{ProgramSeen}
 use Rattle.smap_store.specs.declared.names_cache.NamesCache.{NamesCache}
+use Rattle.smap_store.specs.declared.program.MapKind.{MapKind}
+use Rattle.smap_store.specs.declared.program.MapKind.TheVariants.{Table, File}
 use Rattle.smap_text.specs.Shown.{shown}
 use Rattle.smap_text_answers.specs.Generated.{generated_path, is_generated}
 use Rattle.smap_text_answers.specs.Told.{Said, Tells, ToldSeen, line, nothing, shortage}
@@ -43,13 +46,13 @@ argument_path [] url = None
 argument_path ((named, path) ∷ arguments) url =
     if bytes_eq named url && not (is_rule named path) then Some path else argument_path arguments url
 
-abbrev pub or_path : Option (List ℕ) → (other : Option (List ℕ)) → Option (List ℕ)
-or_path None other = other
-or_path (Some path) other = Some path
+-- the path of the map of a program: an argument's, where the table has that, and else its file's
+abbrev pub path_under : MapKind → Programs → (key : List ℕ) → Option (List ℕ)
+path_under Table programs key = argument_path programs.arguments key
+path_under File programs key = path_for programs.locations key
 
--- the path of the map of a URL
-abbrev pub path_named : Programs → (url : List ℕ) → Option (List ℕ)
-path_named programs url = or_path (argument_path programs.arguments url) (path_for programs.locations url)
+abbrev pub path_named : Programs → ProgramSeen → Option (List ℕ)
+path_named programs program = path_under program.kind programs program.key
 
 -- ---- what comes of a program
 
@@ -69,24 +72,24 @@ module _ (Reads : MayRead) where
       MatchOption (generated_path path) ((came ≡ None) × (said ≡ line (no_file_beside_text path)))
       (λ file. ListsFile number path file stated came said)
 
-  -- of a URL that has a path, or none
+  -- of one that has a path, or none
   abbrev pub ListsAt : (number : ℕ) → (path : Option (List ℕ)) → MapRecord → NamesCame → Said → Type 0
   ListsAt number None stated came said = (came ≡ None) × (said ≡ nothing)
   ListsAt number (Some path) stated came said = ListsBeside number path stated came said
 
   module _ (programs : Programs) where
-    -- of a URL, unless memory ran out
-    abbrev pub Lists : (url : List ℕ) → MapRecord → NamesCame → Said → Type 0
-    Lists url stated came said =
-        ((came ≡ None) × (said ≡ shortage)) ⊎ ListsAt programs.number (path_named programs url) stated came said
+    -- of a program, unless memory ran out
+    abbrev pub Lists : ProgramSeen → MapRecord → NamesCame → Said → Type 0
+    Lists program stated came said =
+        ((came ≡ None) × (said ≡ shortage)) ⊎ ListsAt programs.number (path_named programs program) stated came said
 
     -- what it comes to, and what was told before and after that
-    abbrev pub NamesBy : ToldSeen → (url : List ℕ) → MapRecord → NamesCame → ToldSeen → Type 0
-    NamesBy told url stated came after = (said : Said) × Lists url stated came said × Tells told said after
+    abbrev pub NamesBy : ToldSeen → ProgramSeen → MapRecord → NamesCame → ToldSeen → Type 0
+    NamesBy told program stated came after = (said : Said) × Lists program stated came said × Tells told said after
 
     -- which declarations a program may have
-    abbrev pub MayNameBy : ToldSeen → (url : List ℕ) → MapRecord → Option (List Named) → Type 0
-    MayNameBy told url stated kept = (came : NamesCame) × (said : Said) × Lists url stated came said × (kept ≡ declared_in came)
+    abbrev pub MayNameBy : ToldSeen → ProgramSeen → MapRecord → Option (List Named) → Type 0
+    MayNameBy told program stated kept = (came : NamesCame) × (said : Said) × Lists program stated came said × (kept ≡ declared_in came)
 
 -- ---- what lists them
 

@@ -1,7 +1,7 @@
 -- What `rewrite` does over files and folders of maps that are read when a trace names them: it gathers what it is over, rewrites
 -- the text over a store of maps, and says what that came to. The status is the greatest of all that was reported.
 use Rattle.std.specs.Prelude.{◌≡◌, ◌⊎◌, ℕ, ◌+◌, ◌==◌, Bool, List, [], ◌∷◌, Option, Result, Ok, Err, MatchBool, codes, length, max}
-use Rattle.std.specs.Prelude.{◌++◌, ◌&&◌, ◌||◌, false, if◌then◌else◌, nat_lt, not}
+use Rattle.std.specs.Prelude.{◌++◌, ◌&&◌, ◌||◌, false, true, if◌then◌else◌, nat_lt, not}
 use Rattle.std.specs.Fmt.{decimal}
 use Rattle.std.specs.List.{concat}
 use Rattle.url.specs.Parts.{Parts}
@@ -9,15 +9,18 @@ use Rattle.smap_io.specs.Device.{SinkSeen, SourceSeen}
 use Rattle.smap_lines.specs.Editing.{DevicesSeen, devices_seen}
 use Rattle.smap_lines.specs.RunEnds.{RunEnds}
 use Rattle.smap_lines.specs.declared.fault.LineFault.{LineFault}
-use Rattle.smap_anywhere.specs.Anywhere.{PlacesAsked, RewritesAnywhere, RewritesAnywhereFront}
+use Rattle.smap_anywhere.specs.Anywhere.{PlacesAsked, RewritesAnywhereFront}
 use Rattle.smap_anywhere.specs.AnywhereBy.{RewritesAnywhereBy}
 use Rattle.smap_anywhere.specs.ChunkParts.{parts_in, unknown_in}
 use Rattle.smap_anywhere.specs.Counted.{counted_in}
 use Rattle.smap_anywhere.specs.MapUrls.{urls_known}
+use Rattle.smap_anywhere.specs.NamedParts.{parts_by}
 use Rattle.smap_anywhere.specs.Parts.{Part}
+use Rattle.smap_anywhere.specs.Replaced.{by_maps}
 use Rattle.smap_anywhere.specs.SeemingUrls.{urls_seeming}
 use Rattle.smap_pairs.specs.Known.{UrlsKnown}
 use Rattle.smap_record.specs.Record.{MapRecord}
+use Rattle.smap_store.specs.Program.{program_of}
 use Rattle.smap_store.specs.Stored.{FindsIn, GivesIn, LoadsMay, LoadsStep, StoredSeen, found_in}
 use Rattle.smap_trace.specs.Hiding.{HidingSeen}
 use Rattle.smap_trace.specs.MapsOf.{MapsByUrl, RewritesBy}
@@ -30,6 +33,7 @@ use Rattle.smap_text_answers.specs.Lines.{counted_text}
 use Rattle.smap_text_answers.specs.Names.{Programs}
 use Rattle.smap_text_answers.specs.Told.{TellsLines, ToldSeen, nothing_told, told_seen}
 use Rattle.smap_text_answers.specs.Naming.{RewritesNames, RewritesNamesFront}
+use Rattle.smap_text_answers.specs.Places.{RewritesPlacesOver}
 use Rattle.smap_text_answers.specs.Required.{Requires}
 use Rattle.smap_text_answers.specs.NothingLine.{nothing_line}
 use Rattle.smap_text_answers.specs.UrlLines.{TellsUrls}
@@ -53,22 +57,17 @@ use Rattle.smap_text_answers.specs.declared.sources.MapSources.{MapSources}
 abbrev pub urls_of : MapSources → UrlsKnown
 urls_of sources = urls_known (record { table = sources.exact; locations = sources.locations })
 
--- what is asked of its places: which they are, and which URLs look like one and have no map
-abbrev pub places_asked : RequestSeen → MapSources → PlacesAsked
-places_asked request sources = record {
-  parts = parts_in (urls_of sources);
-  unknown = unknown_in (urls_of sources) urls_seeming;
+-- what is asked of its places: which they are, with the functions of frames or without, and which URLs look like one and have no map
+abbrev pub places_by : (is_named : Bool) → UrlsKnown → RequestSeen → PlacesAsked
+places_by is_named known request = record {
+  parts = parts_by is_named known;
+  unknown = unknown_in known urls_seeming;
   most_bytes = request.limit_bytes;
   is_noted = request.explain;
 }
 
--- its places are rewritten, in lines of which none is too long, and none is passed; and these are the notes of what they name, and
--- beside them those of the URLs that look like one and have no map, where that is asked
-pub record RewritesPlaces {L : Type 0} (request : RequestSeen) (sources : MapSources) (Finds : StoredSeen L → (url : List ℕ) → StoredSeen L → Type 0)
-    (before after : DevicesSeen) (old new : StoredSeen L) (counts : RewriteCounts) (notes others : NotesSeen) : Type 0 where
-  pub over : RewritesAnywhere Finds found_in (places_asked request sources) before after old new counts.summary notes others
-  pub long : counts.long ≡ 0
-  pub passed : counts.passed ≡ 0
+abbrev pub places_asked : (is_named : Bool) → RequestSeen → MapSources → PlacesAsked
+places_asked is_named request sources = places_by is_named (urls_of sources) request
 
 -- what is asked of its frames: of its other lines the places are counted up to a number
 abbrev pub asked_by : RequestSeen → PlaceCount → RewriteAsked
@@ -87,36 +86,26 @@ asked_of request sources = asked_by request (counted_in (urls_of sources) reques
 abbrev pub programs_of : RequestSeen → MapSources → Programs
 programs_of request sources = record { number = length request.arguments + 2; arguments = request.arguments; locations = sources.locations }
 
--- its frames are rewritten, with the written names of functions where that is asked, and this is told of these
-abbrev pub RewritesFrames : {L : Type 0} → MayRead → RequestSeen → MapSources → (Finds : StoredSeen L → (url : List ℕ) → StoredSeen L → Type 0)
-    → (before after : DevicesSeen) → (old new : StoredSeen L) → RewriteCounts → (notes : NotesSeen) → (told : ToldSeen) → Type 0
-RewritesFrames Reads request sources Finds before after old new counts notes told =
-    MatchBool request.names
-    (RewritesNames Reads (programs_of request sources) request.names_bytes (asked_of request sources) Finds before after old new counts notes told)
-    (RewritesOver Finds found_in (asked_of request sources) before after old new counts notes × (told ≡ nothing_told))
-
-abbrev pub RewritesFramesFront : MayRead → RequestSeen → MapSources → (Gives : (url : List ℕ) → Option MapRecord → Type 0) → (before after : DevicesSeen) → LineFault
-    → Type 0
-RewritesFramesFront Reads request sources Gives before after fault =
-    MatchBool request.names
-    (RewritesNamesFront Reads (programs_of request sources) request.names_bytes Gives request.hide request.limit_bytes before after fault)
-    (RewritesFrontOver Gives request.hide request.limit_bytes before after fault)
-
--- a text is rewritten over stored maps: its places, or the frames of a trace, and these are the notes of what they name, and what is
--- told of names
+-- a text is rewritten over stored maps: its places, or the frames of a trace, with the written names of functions where that is asked;
+-- and these are the notes of what it names, and what is told of names
 abbrev pub RewritesText : {L : Type 0} → MayRead → RequestSeen → MapSources → (Finds : StoredSeen L → (url : List ℕ) → StoredSeen L → Type 0)
     → (before after : DevicesSeen) → (old new : StoredSeen L) → RewriteCounts → (notes others : NotesSeen) → (told : ToldSeen) → Type 0
 RewritesText Reads request sources Finds before after old new counts notes others told =
-    MatchBool request.anywhere
-    (RewritesPlaces request sources Finds before after old new counts notes others × (told ≡ nothing_told))
-    (RewritesFrames Reads request sources Finds before after old new counts notes told × (others ≡ nothing_noted))
+    MatchBool request.names
+    (RewritesNames Reads (programs_of request sources) request.names_bytes request.anywhere (places_asked true request sources) (asked_of request sources) Finds
+    before after old new counts notes others told)
+    (MatchBool request.anywhere (RewritesPlacesOver by_maps Finds found_in (places_asked false request sources) before after old new counts notes others)
+    (RewritesOver Finds found_in (asked_of request sources) before after old new counts notes × (others ≡ nothing_noted)) × (told ≡ nothing_told))
 
 -- or up to a fault
 abbrev pub RewritesTextFront : MayRead → RequestSeen → MapSources → (Gives : (url : List ℕ) → Option MapRecord → Type 0) → (before after : DevicesSeen) → LineFault
     → Type 0
 RewritesTextFront Reads request sources Gives before after fault =
-    MatchBool request.anywhere (RewritesAnywhereFront Gives (places_asked request sources) before after fault)
-    (RewritesFramesFront Reads request sources Gives before after fault)
+    MatchBool request.names
+    (RewritesNamesFront Reads (programs_of request sources) request.names_bytes request.anywhere (places_asked true request sources) (asked_of request sources) Gives
+    (program_of sources.exact sources.locations) before after fault)
+    (MatchBool request.anywhere (RewritesAnywhereFront Gives (places_asked false request sources) before after fault)
+    (RewritesFrontOver Gives request.hide request.limit_bytes before after fault))
 
 -- how a run over a store of maps that are loaded so ends, and how the store stands then
 pub record EndsText {R W L : Type 0} (input_seen : R → SourceSeen) (output_seen : W → SinkSeen) (Reads : MayRead) (Loads : LoadsStep L) (May : LoadsMay L)

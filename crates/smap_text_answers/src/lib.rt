@@ -9,9 +9,11 @@
 #![tactic(auto)]
 
 mod answering;
+mod anywhere;
 mod dotted;
 mod ending;
 mod fitting;
+mod frames;
 mod generated;
 mod lines;
 mod loader;
@@ -27,9 +29,11 @@ mod place;
 mod request;
 mod required;
 mod rewriting;
+mod saying;
 mod sources;
 mod standing;
 mod storing;
+mod text_over_store;
 mod told;
 mod trace;
 mod url_lines;

@@ -141,7 +141,8 @@ impl<'m, 'r, 'e, F: FileReader, E: ByteSink> FileLoader<'m, 'r, 'e, F, E> {
         }
     }
 
-    // The map of the file at a path, where it fits its generated file, with what is told of it; a URL whose map does not has none.
+    // The map of the file at a path, where it fits its generated file, with what is told of it; a URL whose map does not
+    // has none.
     fn compared(&self, alloc: Global, path: &str, loaded: LoadedMap) -> Result<LoadedFile, NoMap>
         ensures same { IfOk result (λ file. loaded_seen file.loaded ≡ loaded_seen loaded) }
         ensures fits { IfOk result (λ file. Fits (F.gives self.now.maps.now.files.now) self.now.fit

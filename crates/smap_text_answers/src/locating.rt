@@ -9,7 +9,7 @@ use crate::dotted::tell_dotted;
 use crate::loader::FileLoader;
 use crate::locating_named::locate_named;
 use crate::locator::Locator;
-use crate::rewriting::say_told;
+use crate::saying::say_told;
 use crate::sources::{MapSources, sources_of};
 use crate::storing::{StoreRun, StoreWork, finish, over_store};
 use crate::told::ToldLines;

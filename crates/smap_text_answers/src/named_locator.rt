@@ -73,7 +73,8 @@ fn put_named_line<L: MapLoader, N: NamesLoader, W: ByteSink>(
     function: Option<&str>,
     output: &mut LineOutput<'_, W>,
 ) -> Result<(), DeviceFault>
-    ensures { let url = place.entry.url.now in let function = option_map (λ text. text.now) function.entry in
+    ensures { let url = place.entry.url.now in
+        let function = option_map (λ text. text.now) function.entry in
         IsPut W.seen output.old output.new (named_line options
         (record { place = place_seen place.entry; function = function })
         (names_in (named_seen maps.now) url) (outcome_at (named_seen maps.now).stored url)) result }

@@ -2,6 +2,7 @@
 ghost use Rattle.std.specs.Prelude.{◌≡◌, ◌&&◌, ◌++◌, codes, not, option_copied, option_map, map, string_bytes, IfOk};
 ghost use Rattle.std.specs.Str.{bytes_eq};
 ghost use Rattle.smap_locations.specs.ListLine.{is_rule};
+ghost use Rattle.smap_store.specs.Program.{program_seen};
 ghost use Rattle.smap_text.specs.Shown.{shown};
 ghost use Rattle.smap_text_answers.specs.Names.{ListsAt, ListsBeside, ListsFile, argument_path, misfit_text, no_file_beside_text, no_file_text, path_named, programs_seen};
 ghost use Rattle.smap_text_answers.specs.Told.{nothing_told, told_seen};
@@ -15,11 +16,11 @@ use smap_io::ReadFailure;
 use smap_locations::{Locations, is_rule};
 use smap_record::{MapFile, ReadyMap};
 use smap_replies::FileReader;
-use smap_store::{LoadedNames, NamesLoader};
+use smap_store::{LoadedNames, MapKind, NamesLoader, Program};
 use smap_text::shown;
 use std::alloc::{AllocError, Global};
 
-/// Lists declarations from the generated file beside the map of each URL, and keeps a line for each that has none.
+/// Lists declarations from the generated file beside the map of each program, and keeps a line for each that has none.
 #[derive(Drop)]
 pub struct FileNamer<'s, 'a, F: FileReader> {
     pub files: &'s F,
@@ -32,7 +33,7 @@ pub struct FileNamer<'s, 'a, F: FileReader> {
     pub told: ToldLines,
 }
 
-/// What comes of the generated file of a URL.
+/// What comes of the generated file of a program.
 #[derive(Drop)]
 pub enum Listing {
     Listed(LoadedNames),
@@ -64,27 +65,35 @@ impl<'s, 'a, F: FileReader> FileNamer<'s, 'a, F> {
         }
     }
 
-    // What comes of the generated file of a URL that has this map, where memory is enough.
-    fn list(&self, alloc: Global, url: &[u8], map: &MapFile) -> Result<Listing, AllocError>
+    // What comes of the generated file of a program that has this map, where memory is enough.
+    fn list(
+        &self,
+        alloc: Global,
+        program: Program<'_>,
+        map: &MapFile,
+    ) -> Result<Listing, AllocError>
         ensures { IfOk result (λ listing. ListsAt (F.gives self.now.files.now) self.now.number
-            (path_named (programs_seen self.now) url.now) map.now.stated
+            (path_named (programs_seen self.now) (program_seen program.entry)) map.now.stated
             (came_of listing) (said_of listing)) }
     {
-        match self.path_named(alloc, url)? {
+        match self.path_named(alloc, program)? {
             Some(path) => list_beside(alloc, self.files, self.number, &path, map),
             None => Ok(Listing::Unlisted(None)),
         }
     }
 
-    // The path of the map of a URL.
-    fn path_named(&self, alloc: Global, url: &[u8]) -> Result<Option<String>, AllocError>
+    // The path of the map of a program.
+    fn path_named(&self, alloc: Global, program: Program<'_>) -> Result<Option<String>, AllocError>
         ensures { IfOk result (λ path. option_map string_bytes path
-            ≡ path_named (programs_seen self.now) url.now) }
+            ≡ path_named (programs_seen self.now) (program_seen program.entry)) }
     {
-        if let Some(path) = argument_path(self.arguments, url) {
-            return Ok(Some(String::from_str(alloc, path)?));
+        match program.kind {
+            MapKind::Table => match argument_path(self.arguments, program.key) {
+                Some(path) => Ok(Some(String::from_str(alloc, path)?)),
+                None => Ok(None),
+            },
+            MapKind::File => self.locations.path_for(alloc, program.key),
         }
-        self.locations.path_for(alloc, url)
     }
 }
 
@@ -95,12 +104,17 @@ impl<F: FileReader> NamesLoader for FileNamer<'_, '_, F> {
 
     ghost MayName = { λ namer. MayNameBy (F.gives namer.files.now) (programs_seen namer) (told_seen namer.told) };
 
-    ghost Names = { λ namer url stated came after.
-        NamesBy (F.gives namer.files.now) (programs_seen namer) (told_seen namer.told) url stated came (told_seen after.told)
+    ghost Names = { λ namer program stated came after.
+        NamesBy (F.gives namer.files.now) (programs_seen namer) (told_seen namer.told) program stated came (told_seen after.told)
         × IsSameNamer namer after };
 
-    fn load_names(&mut self, alloc: Global, url: &[u8], map: &ReadyMap) -> Option<LoadedNames> {
-        match self.list(alloc, url, map.map()) {
+    fn load_names(
+        &mut self,
+        alloc: Global,
+        program: Program<'_>,
+        map: &ReadyMap,
+    ) -> Option<LoadedNames> {
+        match self.list(alloc, program, map.map()) {
             Ok(Listing::Listed(loaded)) => Some(loaded),
             Ok(Listing::Unlisted(Some(text))) => {
                 self.told.tell(text);
@@ -114,10 +128,10 @@ impl<F: FileReader> NamesLoader for FileNamer<'_, '_, F> {
         }
     }
 
-    ghost given_names = { λ namer after url stated came names.
-        given_name (F.gives namer.files.now) (programs_seen namer) _ _ url stated came names.0 };
+    ghost given_names = { λ namer after program stated came names.
+        given_name (F.gives namer.files.now) (programs_seen namer) _ _ program stated came names.0 };
 
-    ghost same_names = { λ namer after url other stated other_stated came more names may.
+    ghost same_names = { λ namer after program other stated other_stated came more names may.
         same_name F.gives namer after names.1 other other_stated more may };
 }
 

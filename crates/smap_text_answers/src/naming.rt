@@ -1,18 +1,20 @@
-//! Rewriting the frames of a text with the written names of functions.
+//! Rewriting a text with the written names of functions.
 ghost use Rattle.std.specs.Prelude.{◌≡◌, ◌<◌, ◌^◌, ◌+◌, false, true, length};
 ghost use Rattle.smap_anywhere.specs.Anywhere.{AreNone};
 ghost use Rattle.smap_text_answers.specs.Names.{told_at_end};
 ghost use Rattle.smap_text_answers.specs.Told.{told_seen};
 ghost use Rattle.smap_text_answers.specs.Private.Naming.{EndsNamed, named_over};
 ghost use Rattle.smap_text_answers.specs.Request.{request_seen};
-ghost use Rattle.smap_text_answers.specs.RewriteFrom.{EndsText, asked_of};
+ghost use Rattle.smap_text_answers.specs.RewriteFrom.{EndsText, asked_of, places_asked};
 ghost use Rattle.smap_text_answers.specs.StoreRun.{store_of};
 ghost use Rattle.smap_trace.specs.NotesSeen.{notes_seen};
 
+use crate::anywhere::places_over;
+use crate::frames::frames_over;
 use crate::namer::FileNamer;
 use crate::request::TextRequest;
-use crate::rewriting::{TextRun, frames_over};
 use crate::sources::MapSources;
+use crate::text_over_store::TextRun;
 use crate::told::ToldLines;
 use smap_anywhere::{LineCounter, MapUrls, PlaceNotes};
 use smap_io::{ByteSink, ByteSource};
@@ -20,8 +22,8 @@ use smap_replies::FileReader;
 use smap_store::{MapCache, MapLoader, NamedMaps, NamesCache, NamesLoader, StoredMaps};
 use smap_trace::{RewriteCounts, RewriteFault};
 
-/// Rewrites the frames of a text over a store of maps, with the names of functions that the generated files beside the maps
-/// declare; and puts into `told` what is to be told of them.
+/// Rewrites a text over a store of maps, its frames or its places, with the names of functions that the generated files
+/// beside the maps declare; and puts into `told` what is to be told of them.
 pub fn rewrite_named<F: FileReader, L: MapLoader, R: ByteSource, W: ByteSink>(
     run: &TextRun<'_, '_, '_, F>,
     cache: &mut MapCache,
@@ -31,7 +33,6 @@ pub fn rewrite_named<F: FileReader, L: MapLoader, R: ByteSource, W: ByteSink>(
     input: &mut R,
     output: &mut W,
 ) -> Result<RewriteCounts, RewriteFault>
-    requires frames { run.now.request.now.options.now.anywhere ≡ false }
     requires named { run.now.request.now.options.now.names ≡ true }
     requires unnoted { AreNone notes.old }
     requires input_works { (R.seen input.old).failed ≡ false }
@@ -56,7 +57,7 @@ pub fn rewrite_named<F: FileReader, L: MapLoader, R: ByteSource, W: ByteSink>(
         request.arguments,
         &run.sources.locations,
     );
-    let result = rewrite_named_frames(
+    let result = rewrite_beside_names(
         run, cache, loader, &mut names, &mut namer, notes, input, output,
     );
     *told = told_at_end(&names, namer.told);
@@ -74,9 +75,9 @@ pub fn told_at_end(names: &NamesCache, told: ToldLines) -> ToldLines
     }
 }
 
-// The frames over a store of maps beside which declarations are listed. (It is generic in what loads and lists them, as
+// The text over a store of maps beside which declarations are listed. (It is generic in what loads and lists them, as
 // `rewrite_text` is.)
-fn rewrite_named_frames<F: FileReader, L: MapLoader, N: NamesLoader, R: ByteSource, W: ByteSink>(
+fn rewrite_beside_names<F: FileReader, L: MapLoader, N: NamesLoader, R: ByteSource, W: ByteSink>(
     run: &TextRun<'_, '_, '_, F>,
     cache: &mut MapCache,
     loader: &mut L,
@@ -90,13 +91,87 @@ fn rewrite_named_frames<F: FileReader, L: MapLoader, N: NamesLoader, R: ByteSour
     requires input_works { (R.seen input.old).failed ≡ false }
     requires output_works { (W.seen output.old).failed ≡ false }
     requires limit { (request_seen run.now.request.now).limit_bytes < 2 ^ 63 }
-    ensures ended { EndsNamed R.seen W.seen L.Loads L.MayLoad N.Names N.MayName
+    ensures { EndsNamed R.seen W.seen L.Loads L.MayLoad N.Names N.MayName
+        run.now.request.now.options.now.anywhere
+        (places_asked true (request_seen run.now.request.now) run.now.sources.now)
         (asked_of (request_seen run.now.request.now) run.now.sources.now)
         input.old input.new output.old output.new
         (named_over run.now.sources.now cache.old loader.old names.old namer.old)
         (named_over run.now.sources.now cache.new loader.new names.new namer.new)
-        (notes_seen notes.new.named) result }
-    ensures others { notes.new.others ≡ notes.old.others }
+        (notes_seen notes.new.named) (notes_seen notes.new.others) result }
+{
+    if run.request.options.anywhere {
+        rewrite_named_places(run, cache, loader, names, namer, notes, input, output)
+    } else {
+        rewrite_named_frames(run, cache, loader, names, namer, notes, input, output)
+    }
+}
+
+// Its places.
+fn rewrite_named_places<F: FileReader, L: MapLoader, N: NamesLoader, R: ByteSource, W: ByteSink>(
+    run: &TextRun<'_, '_, '_, F>,
+    cache: &mut MapCache,
+    loader: &mut L,
+    names: &mut NamesCache,
+    namer: &mut N,
+    notes: &mut PlaceNotes,
+    input: &mut R,
+    output: &mut W,
+) -> Result<RewriteCounts, RewriteFault>
+    requires anywhere { run.now.request.now.options.now.anywhere ≡ true }
+    requires unnoted { AreNone notes.old }
+    requires input_works { (R.seen input.old).failed ≡ false }
+    requires output_works { (W.seen output.old).failed ≡ false }
+    requires limit { (request_seen run.now.request.now).limit_bytes < 2 ^ 63 }
+    ensures { EndsNamed R.seen W.seen L.Loads L.MayLoad N.Names N.MayName
+        run.now.request.now.options.now.anywhere
+        (places_asked true (request_seen run.now.request.now) run.now.sources.now)
+        (asked_of (request_seen run.now.request.now) run.now.sources.now)
+        input.old input.new output.old output.new
+        (named_over run.now.sources.now cache.old loader.old names.old namer.old)
+        (named_over run.now.sources.now cache.new loader.new names.new namer.new)
+        (notes_seen notes.new.named) (notes_seen notes.new.others) result }
+{
+    let alloc = run.alloc;
+    let MapSources { exact, locations } = run.sources;
+    let Ok(urls) = MapUrls::new(alloc, exact, locations) else {
+        return Err(RewriteFault::Memory);
+    };
+    let maps = StoredMaps {
+        alloc,
+        exact,
+        locations,
+        cache,
+        loader,
+    };
+    let mut named = NamedMaps { maps, names, namer };
+    places_over(run, &urls, &mut named, notes, input, output)
+}
+
+// Its frames.
+fn rewrite_named_frames<F: FileReader, L: MapLoader, N: NamesLoader, R: ByteSource, W: ByteSink>(
+    run: &TextRun<'_, '_, '_, F>,
+    cache: &mut MapCache,
+    loader: &mut L,
+    names: &mut NamesCache,
+    namer: &mut N,
+    notes: &mut PlaceNotes,
+    input: &mut R,
+    output: &mut W,
+) -> Result<RewriteCounts, RewriteFault>
+    requires frames { run.now.request.now.options.now.anywhere ≡ false }
+    requires unnoted { AreNone notes.old }
+    requires input_works { (R.seen input.old).failed ≡ false }
+    requires output_works { (W.seen output.old).failed ≡ false }
+    requires limit { (request_seen run.now.request.now).limit_bytes < 2 ^ 63 }
+    ensures { EndsNamed R.seen W.seen L.Loads L.MayLoad N.Names N.MayName
+        run.now.request.now.options.now.anywhere
+        (places_asked true (request_seen run.now.request.now) run.now.sources.now)
+        (asked_of (request_seen run.now.request.now) run.now.sources.now)
+        input.old input.new output.old output.new
+        (named_over run.now.sources.now cache.old loader.old names.old namer.old)
+        (named_over run.now.sources.now cache.new loader.new names.new namer.new)
+        (notes_seen notes.new.named) (notes_seen notes.new.others) result }
 {
     let alloc = run.alloc;
     let MapSources { exact, locations } = run.sources;

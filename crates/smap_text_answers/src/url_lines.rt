@@ -12,7 +12,7 @@ mod ends;
 mod nothing;
 
 use crate::loader::FileLoader;
-use crate::rewriting::TextRun;
+use crate::text_over_store::TextRun;
 use crate::told::ToldLines;
 use crate::url_lines::ends::end_of;
 use crate::url_lines::nothing::nothing_line;

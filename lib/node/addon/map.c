@@ -64,10 +64,13 @@ napi_value counts(napi_env env, struct held *held) {
     return result;
 }
 
-/* size(map): about how many bytes of memory it takes, with its index of originals if that was made. */
+/* size(map): about how many bytes of memory it takes, with what its generated file declares if that was read, and its index of originals if
+ * that was made. */
 napi_value size(napi_env env, struct held *held) {
-    uint64_t bytes = 0;
+    uint64_t bytes = 0, declared = 0;
     smap_map_size(&held->map, &bytes);
+    if (held->names.at) smap_names_size(&held->names, &declared);
+    bytes += declared;
     if (held->originals.at) {
         smap_count count = {0};
         smap_counts(&held->map, &count);

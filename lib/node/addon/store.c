@@ -46,15 +46,17 @@ napi_value new_table(napi_env env, uint64_t most) {
     return refuse(env, "out of memory");
 }
 
-/* add(table, url, map): nothing, and the map is closed then; or the code of the refusal. */
+/* add(table, url, map): nothing, and the map is closed then, and the table has what its generated file declares, too; or the code of the
+ * refusal. */
 napi_value add(napi_env env, struct held *table, smap_text url, struct held *held) {
     smap_code why = 0;
     uint32_t status = smap_table_add(&table->table, url.bytes, url.length, &held->map, &why);
     if (status == SMAP_REFUSED) return number(env, why);
     if (status == SMAP_DONE) {
+        const bool is_named = !held->names.at || smap_table_add_names(&table->table, url.bytes, url.length, &held->names) == SMAP_DONE;
         table->given += held->size;
         hand_over(env, held, table);
-        return NULL;
+        return is_named ? NULL : refuse(env, "out of memory");
     }
     held->full = false;
     report_size(env, held, 0);
@@ -74,9 +76,10 @@ napi_value is_bad_url(napi_env env, const struct url *url, struct held *held) {
     return status == SMAP_REFUSED ? number(env, why) : NULL;
 }
 
-/* put(table, url, map, bytes): the store has the map, too, and it counts for so many bytes. */
+/* put(table, url, map, bytes): the store has the map, too, with what its generated file declares, and it counts for so many bytes. */
 napi_value put(napi_env env, struct held *table, const struct url *url, struct held *held, uint64_t bytes) {
-    uint32_t status = smap_store_put(&table->store, url->bytes, url->length, &held->map, bytes);
+    uint32_t status = held->names.at ? smap_store_put_named(&table->store, url->bytes, url->length, &held->names, bytes)
+                                     : smap_store_put(&table->store, url->bytes, url->length, &held->map, bytes);
     report_store(env, table);
     return status == SMAP_DONE ? NULL : refuse(env, "out of memory");
 }
@@ -219,13 +222,18 @@ napi_value key_of_map(napi_env env, struct held *table, napi_value text, const s
     return has ? key_of(env, table, text, url) : null(env);
 }
 
-/* mapAt(url): the map that the store has for a URL, held by itself; or null. */
+/* mapAt(url): the map that the store has for a URL, with the names that came with it, held by itself; or null. */
 napi_value map_at(napi_env env, struct held *table, napi_value text, const struct url *url) {
     (void)text;
     uint32_t why = 0;
     uint64_t bytes = 0;
     struct held *held = calloc(1, sizeof *held);
-    uint32_t status = held ? smap_store_map(&table->store, url->bytes, url->length, time_now(), &held->map, &why) : SMAP_NO_MEMORY;
+    const uint64_t time = time_now();
+    uint32_t status = held ? smap_store_map(&table->store, url->bytes, url->length, time, &held->map, &why) : SMAP_NO_MEMORY;
+    if (status == SMAP_DONE && smap_store_names(&table->store, url->bytes, url->length, time, &held->names) == SMAP_NO_MEMORY) {
+        smap_map_free(&held->map);
+        status = SMAP_NO_MEMORY;
+    }
     if (status == SMAP_DONE) {
         smap_map_size(&held->map, &bytes);
         return object_of(env, held, (int64_t)bytes);

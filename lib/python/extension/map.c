@@ -251,9 +251,11 @@ static PyObject *map_file(PyObject *self, void *unused) {
 }
 
 uint64_t size_of_map(const struct held *held) {
-    uint64_t size = 0;
+    uint64_t size = 0, declared = 0;
     smap_count count = {0};
     smap_map_size(&held->map, &size);
+    if (held->names.at) smap_names_size(&held->names, &declared);
+    size += declared;
     if (!held->originals.at) return size;
     smap_counts(&held->map, &count);
     return size + 16 * count.segments + 24 * count.sources;
@@ -342,7 +344,7 @@ PyObject *map_function_name(struct held *held, uint32_t line, uint32_t column, s
 /* A method whose arguments may be given by their names. */
 #define WITH_NAMES(call) (PyCFunction)(void (*)(void))(call), METH_FASTCALL | METH_KEYWORDS
 
-/* Another one of the same map. */
+/* Another one of the same map, and of what its generated file declares. */
 static PyObject *map_shared(PyObject *self, PyObject *unused) {
     (void)unused;
     struct held *held = (struct held *)self, *other = (struct held *)held_new(Py_TYPE(self), NULL, NULL);
@@ -351,7 +353,8 @@ static PyObject *map_shared(PyObject *self, PyObject *unused) {
         return NULL;
     }
     other->full = smap_map_share(&held->map, &other->map) == SMAP_DONE;
-    if (other->full) return (PyObject *)other;
+    if (other->full && (!held->names.at || smap_names_share(&held->names, &other->names) == SMAP_DONE)) return (PyObject *)other;
+    other->names.at = NULL;
     Py_DECREF((PyObject *)other);
     return PyErr_NoMemory();
 }

@@ -123,12 +123,14 @@ static PyObject *store_look_up(PyObject *self, PyObject *const *words, Py_ssize_
     return result;
 }
 
-/* The map of a URL in the store, as a new one of a class, which shares it; or None; or the URL that is wanted. */
+/* The map of a URL in the store, as a new one of a class, which shares it, with the names that came with it; or None; or the URL that is
+ * wanted. */
 static PyObject *store_map(PyObject *self, PyObject *words) {
     struct held *held = (struct held *)self, *made = NULL;
     PyObject *class, *value, *bytes, *result = NULL;
     struct given url;
     smap_map map = {0};
+    smap_names names = {0};
     uint64_t now;
     uint32_t status = SMAP_REFUSED, why = 0;
     if (!PyArg_ParseTuple(words, "OO", &class, &value) || !(bytes = url_of(value, &url))) return NULL;
@@ -136,16 +138,22 @@ static PyObject *store_map(PyObject *self, PyObject *words) {
     /* As in `asked`. */
     if (status == SMAP_REFUSED && !PyErr_Occurred() && time_now(&now) && ready(&held, 1))
         status = smap_store_map(&held->store, url.bytes, url.length, now, &map, &why);
+    if (status == SMAP_DONE && !PyErr_Occurred() && smap_store_names(&held->store, url.bytes, url.length, 0, &names) == SMAP_NO_MEMORY) {
+        smap_map_free(&map);
+        status = SMAP_NO_MEMORY;
+    }
     if (PyErr_Occurred()) status = SMAP_REFUSED;
     else if (status == SMAP_DONE) made = (struct held *)held_new((PyTypeObject *)class, NULL, NULL);
     else if (status == SMAP_NO_MEMORY) PyErr_NoMemory();
     else result = status == SMAP_WANTED ? wanted(held, url) : none();
     if (made) {
         made->map = map;
+        made->names = names;
         made->full = true;
         result = (PyObject *)made;
     } else if (status == SMAP_DONE) {
         smap_map_free(&map);
+        if (names.at) smap_names_free(&names);
     }
     Py_DECREF(bytes);
     return result;
@@ -200,15 +208,19 @@ PyObject *url_refusal(struct given url, struct held *map) {
     return status == SMAP_NO_MEMORY ? PyErr_NoMemory() : number_if(status == SMAP_REFUSED, refusal);
 }
 
-/* Puts a map, which stays open, into the store under this very URL; or with `is_named` into the table, under a URL or a pattern. */
+/* Puts a map, which stays open, with the names of its generated file, if that was read, into the store under this very URL; or with
+ * `is_named` into the table, under a URL or a pattern. */
 PyObject *store_put(struct held *held, PyObject *url_value, struct given url, struct held *map, bool is_named) {
     smap_code refusal = 0;
     const uint64_t size = size_of_map(map);
     held->size += (size_t)size;
     map->size = 0;
-    if (!is_named) return put_in(held, smap_store_put(&held->store, url.bytes, url.length, &map->map, size));
+    if (!is_named)
+        return put_in(held, map->names.at ? smap_store_put_named(&held->store, url.bytes, url.length, &map->names, size)
+                                          : smap_store_put(&held->store, url.bytes, url.length, &map->map, size));
     uint32_t status = smap_table_add_shared(&held->table, url.bytes, url.length, &map->map, &refusal);
     held->is_named |= status == SMAP_DONE;
+    if (status == SMAP_DONE && map->names.at) status = smap_table_add_names(&held->table, url.bytes, url.length, &map->names);
     if (status == SMAP_REFUSED) return PyErr_Format(PyExc_ValueError, "the table takes no map under %R", url_value);
     return status == SMAP_DONE ? none() : PyErr_NoMemory();
 }

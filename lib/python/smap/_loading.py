@@ -11,8 +11,9 @@ from ._answers import TextRefusal
 from ._maps import SourceMap
 from ._reported import refused_text, refused_url
 
-# What a loader gives, and what takes a map under a URL.
-Given = Union[_given.FileData, SourceMap]
+# What a loader gives, and what takes a map under a URL: a map, or with its generated file a pair of both.
+_OneMap = Union[_given.FileData, SourceMap]
+Given = Union[_OneMap, Tuple[_OneMap, _given.FileData]]
 Load = Callable[[str], Optional[Given]]
 AsyncLoad = Callable[[str], Awaitable[Optional[Given]]]
 Told = Optional[Callable[[str, Exception], object]]
@@ -99,11 +100,18 @@ class Loading(_smap.Store):
         self._bound(most)
 
     def _read(self, url: str, given: Given) -> SourceMap:
-        source_map = SourceMap._under(url, given, self._paths, self._most_names)
+        one, generated = given if isinstance(given, tuple) else (given, None)
+        source_map = SourceMap._under(url, one, self._paths, self._most_names)
         why = _smap.url_refusal(url, source_map)
         if why is not None:
             raise refused_url(why, url)
-        return source_map
+        if generated is None:
+            return source_map
+        if source_map is one:
+            # What another has stays as it is.
+            source_map, id = source_map._shared(), source_map.debug_id
+            source_map._debug_id = id
+        return source_map.with_generated(generated)
 
     async def _made(self, url: str, given: Given) -> SourceMap:
         return self._read(url, given)

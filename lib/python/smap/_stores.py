@@ -57,9 +57,12 @@ class _Kept(Loading):
     def __repr__(self) -> str:
         return f"<{type(self).__name__} maps={len(self)} nbytes={self.nbytes} max_bytes={self.max_bytes}>"
 
-    def add(self, url: str, given: Given) -> None:
-        """Puts a map under this very URL, in place of what is kept of it. Raises `Refused`. A pattern is no URL here."""
-        source_map = self._read(_given.whole_url(url, "a URL"), given)
+    def add(self, url: str, given: Given, generated: Optional[_given.FileData] = None) -> None:
+        """Puts a map under this very URL, in place of what is kept of it. With its generated file, which is given as a map is, functions
+        of frames get the names of their sources, and the map counts for what that declares. Raises `Refused`. A pattern is no URL
+        here."""
+        with_file = given if generated is None or isinstance(given, tuple) else (given, generated)
+        source_map = self._read(_given.whole_url(url, "a URL"), with_file)
         with self._changing:
             self._outdate(url)
             self._seen.pop(url, None)
@@ -180,9 +183,9 @@ class AsyncMaps(_Kept):
                  max_names: int = _given.NAME_BYTES, retry_after: Seconds = 30.0, none_for: Seconds = None) -> None:
         super().__init__(aload, max_bytes=max_bytes, refused=refused, paths=paths, max_names=max_names, retry_after=retry_after, none_for=none_for)
 
-    # A large map, and one of a file, is read by another thread.
+    # A large map, one of a file, and one with its generated file is read by another thread.
     async def _made(self, url: str, given: Given) -> SourceMap:
-        if isinstance(given, SourceMap) or (not isinstance(given, os.PathLike) and len(given) <= _LARGE):
+        if isinstance(given, SourceMap) or (not isinstance(given, (os.PathLike, tuple)) and len(given) <= _LARGE):
             return self._read(url, given)
         return await asyncio.get_running_loop().run_in_executor(None, self._read, url, given)
 

@@ -181,10 +181,16 @@ impl Engine {
         self.store.look_up(url, now, position, is_after)
     }
 
-    /// The map that the store has of a URL.
-    pub(crate) fn map(&mut self, url: &[u8]) -> Result<Option<library::Map>, Error> {
+    /// The map that the store has of a URL, and the names that came with it.
+    pub(crate) fn map(
+        &mut self,
+        url: &[u8],
+    ) -> Result<Option<(library::Map, Option<library::Names>)>, Error> {
         let now = self.settle(url)?;
-        self.store.map(url, now)
+        match self.store.map(url, now)? {
+            Some(map) => Ok(Some((map, self.store.names(url, now)?))),
+            None => Ok(None),
+        }
     }
 
     /// Asks for the map of a URL or path of which nothing is known, and says at which time something is.
@@ -207,7 +213,7 @@ impl Engine {
         match loaded {
             Ok(Some(map)) => {
                 self.failures.remove(key);
-                self.store.put(key, &map)
+                self.store.put(key, &map, None)
             }
             Ok(None) => {
                 self.failures.remove(key);

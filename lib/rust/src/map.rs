@@ -373,7 +373,7 @@ impl SourceMap {
         self.functions.as_ref()?.name_of(name, line, column)
     }
 
-    pub(crate) fn of(map: library::Map) -> SourceMap {
+    pub(crate) fn of(map: library::Map, functions: Option<library::Names>) -> SourceMap {
         let mut sources = Vec::new();
         while let Some(source) = map.source(sources.len() as u32) {
             sources.push(source);
@@ -390,7 +390,7 @@ impl SourceMap {
         SourceMap {
             map,
             texts: Arc::new(texts),
-            functions: None,
+            functions,
         }
     }
 
@@ -398,8 +398,12 @@ impl SourceMap {
         &self.map
     }
 
-    pub(crate) fn into_library_map(self) -> library::Map {
-        self.map
+    pub(crate) fn library_names(&self) -> Option<&library::Names> {
+        self.functions.as_ref()
+    }
+
+    pub(crate) fn into_library_map(self) -> (library::Map, Option<library::Names>) {
+        (self.map, self.functions)
     }
 }
 

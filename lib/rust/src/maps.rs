@@ -151,7 +151,8 @@ impl Maps {
 
     /// Puts the map of this very URL, in the place of what was known under it. Both share it. One that
     /// begins with `*` is a pattern, as [`Table::insert`](crate::Table::insert) has it: its map counts
-    /// for nothing, stays, and is put once.
+    /// for nothing, stays, and is put once. A map that has read its generated file names the functions of
+    /// its frames, too, and counts for what that declares.
     ///
     /// ```
     /// # use smap::{Maps, SourceMap};
@@ -166,10 +167,16 @@ impl Maps {
     pub fn insert(&mut self, url: impl AsRef<str>, map: &SourceMap) -> Result<(), Error> {
         let url = url.as_ref();
         if url.starts_with('*') {
-            return self.engine.table.add_shared(url, map.library_map());
+            self.engine.table.add_shared(url, map.library_map())?;
+            return match map.library_names() {
+                Some(names) => self.engine.table.add_names(url, names),
+                None => Ok(()),
+            };
         }
         self.engine.forgive(Some(url.as_bytes()));
-        self.engine.store.put(url.as_bytes(), map.library_map())
+        self.engine
+            .store
+            .put(url.as_bytes(), map.library_map(), map.library_names())
     }
 
     /// Forgets what is known under this very URL, so that it is asked for when it is next named.
@@ -266,7 +273,7 @@ impl Maps {
         self.engine.found(url.as_ref(), (line, column), true)
     }
 
-    /// The map of a URL, where it has one. It stays when this one drops it.
+    /// The map of a URL, where it has one, with what was put with it. It stays when this one drops it.
     ///
     /// ```
     /// # let mut maps = smap::Maps::with_folder(64 << 20, "https://example.test/", "../../examples")?;
@@ -275,7 +282,10 @@ impl Maps {
     /// # Ok::<(), smap::Error>(())
     /// ```
     pub fn get(&mut self, url: impl AsRef<str>) -> Result<Option<SourceMap>, Error> {
-        Ok(self.engine.map(url.as_ref().as_bytes())?.map(SourceMap::of))
+        Ok(self
+            .engine
+            .map(url.as_ref().as_bytes())?
+            .map(|(map, names)| SourceMap::of(map, names)))
     }
 
     /// Rewrites a trace, as [`Table::rewrite`](crate::Table::rewrite) does, over the maps that the

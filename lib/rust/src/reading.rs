@@ -121,7 +121,7 @@ impl ReadOptions {
         if let Some(path) = &self.map_path {
             map.stand_at(path, self.how.most_names)?;
         }
-        Ok(SourceMap::of(map))
+        Ok(SourceMap::of(map, None))
     }
 }
 

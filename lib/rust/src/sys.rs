@@ -438,6 +438,8 @@ extern "C" {
         column: u32,
         name: *mut smap_text,
     ) -> u32;
+    pub fn smap_names_share(names: *mut smap_names, other: *mut smap_names) -> u32;
+    pub fn smap_names_size(names: *const smap_names, size: *mut u64) -> u32;
     pub fn smap_names_free(names: *mut smap_names);
     pub fn smap_map_mappings(map: *mut smap_map, bytes: *mut smap_bytes) -> u32;
     pub fn smap_encode(
@@ -527,6 +529,12 @@ extern "C" {
         map: *mut smap_map,
         refusal: *mut smap_code,
     ) -> u32;
+    pub fn smap_table_add_names(
+        table: *mut smap_table,
+        url: *const u8,
+        url_length: usize,
+        names: *mut smap_names,
+    ) -> u32;
     pub fn smap_table_look_up(
         table: *const smap_table,
         url: *const u8,
@@ -595,6 +603,20 @@ extern "C" {
         url_length: usize,
         map: *mut smap_map,
         bytes: u64,
+    ) -> u32;
+    pub fn smap_store_put_named(
+        store: *mut smap_store,
+        url: *const u8,
+        url_length: usize,
+        names: *mut smap_names,
+        bytes: u64,
+    ) -> u32;
+    pub fn smap_store_names(
+        store: *mut smap_store,
+        url: *const u8,
+        url_length: usize,
+        now: u64,
+        names: *mut smap_names,
     ) -> u32;
     pub fn smap_store_put_none(
         store: *mut smap_store,

@@ -103,7 +103,8 @@ impl Table {
     /// Puts a map under a URL. One that no frame can name is refused, and one that has a map. A URL
     /// that begins with `*` is a pattern: its map is that of each URL that ends with the text behind
     /// it, where a piece of the URL begins, with or without query and fragment, if no map is under
-    /// the URL with or without them; of several the longest text decides.
+    /// the URL with or without them; of several the longest text decides. A map that has read its
+    /// generated file names the functions of its frames, too.
     ///
     /// ```
     /// # use smap::{SourceMap, Table};
@@ -116,10 +117,21 @@ impl Table {
     /// let mut rewritten = Vec::new();
     /// table.rewrite("f@https://ex.test/js/a.js?v=2:1:7\n".as_bytes(), &mut rewritten)?;
     /// assert_eq!(rewritten, b"f@a.ts:3:1\n");
+    ///
+    /// let map = SourceMap::from_slice(br#"{"version":3,"sources":["a.ts"],"names":["main"],"mappings":"SAAAA"}"#)?;
+    /// table.insert("b.js", map.with_generated("function f(){g()}")?)?;
+    /// rewritten.clear();
+    /// table.rewrite("    at f (b.js:1:14)\n".as_bytes(), &mut rewritten)?;
+    /// assert_eq!(rewritten, b"    at main (a.ts:1:1)\n");
     /// # Ok::<(), smap::Error>(())
     /// ```
     pub fn insert(&mut self, url: impl AsRef<str>, map: SourceMap) -> Result<(), Error> {
-        self.engine.table.add(url.as_ref(), map.into_library_map())
+        let (map, names) = map.into_library_map();
+        self.engine.table.add(url.as_ref(), map)?;
+        match names {
+            Some(names) => self.engine.table.add_names(url.as_ref(), &names),
+            None => Ok(()),
+        }
     }
 
     /// How many bytes one call writes at most, 1,073,741,824 if this is not said. Of a text that comes to

@@ -12,7 +12,7 @@ use Rattle.smap_trace.specs.UrlNotes.{NotesSeen}
 use Rattle.smap_trace.specs.declared.outcome.Summary.{Summary}
 use Rattle.smap_anywhere.specs.Parts.{Part, found, other}
 use Rattle.smap_anywhere.specs.PartSteps.{PartStep, PlacesNow, places_start}
-use Rattle.smap_anywhere.specs.Replaced.{is_place, is_replaced, part_text, parts_text, replacement}
+use Rattle.smap_anywhere.specs.Replaced.{is_place, by_maps, is_replaced, part_text, parts_text, replacement}
 use Rattle.smap_anywhere.specs.Anywhere.{PlacesAsked, RewritesAnywhere}
 use Rattle.smap_anywhere.specs.AnywhereBy.{RewritesAnywhereBy}
 
@@ -28,11 +28,11 @@ module _ {M : Type 0} (Finds : M → (url : List ℕ) → M → Type 0) (under :
     (good_back : (old new : M) (url : List ℕ) → Finds old url new → Good new → Good old)
     (finds_right : (old new : M) (url : List ℕ) → Finds old url new → Good new → Kept old → (under new url ≡ maps url) × Kept new) where
   -- where no trouble came to the maps at the end, none came before
-  part_back : (old new : PlacesNow M) (part : Part) → PartStep Finds under old part new → Good new.maps → Good old.maps
+  part_back : (old new : PlacesNow M) (part : Part) → PartStep by_maps Finds under old part new → Good new.maps → Good old.maps
   part_back old new (other byte) step good = subst (λ (now : PlacesNow M). Good now.maps) step good
   part_back old new (found place bytes) step good = good_back old.maps new.maps place.url step.finds good
 
-  parts_back : (old new : PlacesNow M) (parts : List Part) → FoldsTo (PartStep Finds under) old parts new → Good new.maps → Good old.maps
+  parts_back : (old new : PlacesNow M) (parts : List Part) → FoldsTo (PartStep by_maps Finds under) old parts new → Good new.maps → Good old.maps
   parts_back old new [] steps good = subst (λ (now : PlacesNow M). Good now.maps) (sym steps) good
   parts_back old new (part ∷ parts) steps good =
       part_back old steps.0 part steps.1 (parts_back steps.0 new parts steps.2 good)
@@ -41,7 +41,7 @@ module _ {M : Type 0} (Finds : M → (url : List ℕ) → M → Type 0) (under :
   abbrev Becomes : (old new : PlacesNow M) → (text : List ℕ) → (places mapped : ℕ) → Type 0
   Becomes old new text places mapped = (new.text ≡ old.text ++ text) × (new.places ≡ old.places + places) × (new.mapped ≡ old.mapped + mapped)
 
-  part_is : (old new : PlacesNow M) (part : Part) → PartStep Finds under old part new → Good new.maps → Kept old.maps →
+  part_is : (old new : PlacesNow M) (part : Part) → PartStep by_maps Finds under old part new → Good new.maps → Kept old.maps →
       Becomes old new (part_text maps part) (cond (is_place part) 1 0) (cond (is_replaced maps part) 1 0) × Kept new.maps
   part_is old new (other byte) step good kept =
       let places : new.places ≡ old.places = ap (λ (now : PlacesNow M). now.places) step in
@@ -59,7 +59,7 @@ module _ {M : Type 0} (Finds : M → (url : List ℕ) → M → Type 0) (under :
         right.1,
       )
 
-  parts_are : (old new : PlacesNow M) (parts : List Part) → FoldsTo (PartStep Finds under) old parts new → Good new.maps → Kept old.maps →
+  parts_are : (old new : PlacesNow M) (parts : List Part) → FoldsTo (PartStep by_maps Finds under) old parts new → Good new.maps → Kept old.maps →
       Becomes old new (parts_text maps parts) (length (filter is_place parts)) (length (filter (is_replaced maps) parts))
   parts_are old new [] steps good kept =
       let places : old.places ≡ new.places = ap (λ (now : PlacesNow M). now.places) steps in

@@ -1,10 +1,8 @@
-//! A handle lends what it holds, and gives it up. All that follows a pointer of C's stands here.
-ghost use Rattle.std.specs.Prelude.{◌≡◌, None, Some, IsSome};
-ghost use Rattle.std.specs.Borrow.{sem};
-ghost use Rattle.smap_c.specs.Private.Lending.{LendsBytes, LendsInners, LendsMap, LendsNames, LendsOriginals, LendsRewriting, LendsStore, LendsTable, LendsUrlFinder};
+//! The handles as holders. All that follows a pointer of C's stands here.
+ghost use Rattle.std.specs.Prelude.{◌≡◌, Some};
 
 use super::{
-    BytesHandle, InnersHandle, MapHandle, NamesHandle, OriginalsHandle, RewritingHandle,
+    BytesHandle, Holder, InnersHandle, MapHandle, NamesHandle, OriginalsHandle, RewritingHandle,
     StoreHandle, TableHandle, UrlFinderHandle,
 };
 use crate::bytes::Bytes;
@@ -18,22 +16,25 @@ use smap_record::SharedMap;
 use smap_store::UrlTable;
 use std::alloc::Global;
 
-impl MapHandle {
-    /// What the handle holds, which is not empty.
-    pub(crate) fn lend(&mut self) -> &mut SharedMap
-        requires { IsSome self.old.held }
-        ensures* writes_back { sem 𝓛 (LendsMap self.entry result) }
-        ensures value { Some result.now ≡ self.old.held }
+impl Holder for MapHandle {
+    type Held = SharedMap;
+
+    ghost held = { λ handle. handle.held };
+
+    ghost with_held = { λ handle held. record handle { held = Some held } };
+
+    fn of(loose: Loose<SharedMap, Global>) -> MapHandle
+        ensures { result.held ≡ Some loose.value }
     {
+        let Loose { at, alloc: _ } = loose;
+        MapHandle { at: at as *mut u8 }
+    }
+
+    fn lend(&mut self) -> &mut SharedMap {
         unsafe { &mut *(self.at as *mut SharedMap) }
     }
 
-    // Takes out what the handle holds, and leaves it empty.
-    pub(super) fn take(&mut self, alloc: Global) -> Loose<SharedMap, Global>
-        requires { IsSome self.old.held }
-        ensures taken { Some result.value ≡ self.old.held }
-        ensures emptied { self.new.held ≡ None }
-    {
+    fn take(&mut self, alloc: Global) -> Loose<SharedMap, Global> {
         Loose {
             at: self.at as *mut SharedMap,
             alloc,
@@ -41,22 +42,25 @@ impl MapHandle {
     }
 }
 
-impl TableHandle {
-    /// What the handle holds, which is not empty.
-    pub(crate) fn lend(&mut self) -> &mut UrlTable
-        requires { IsSome self.old.held }
-        ensures* writes_back { sem 𝓛 (LendsTable self.entry result) }
-        ensures value { Some result.now ≡ self.old.held }
+impl Holder for TableHandle {
+    type Held = UrlTable;
+
+    ghost held = { λ handle. handle.held };
+
+    ghost with_held = { λ handle held. record handle { held = Some held } };
+
+    fn of(loose: Loose<UrlTable, Global>) -> TableHandle
+        ensures { result.held ≡ Some loose.value }
     {
+        let Loose { at, alloc: _ } = loose;
+        TableHandle { at: at as *mut u8 }
+    }
+
+    fn lend(&mut self) -> &mut UrlTable {
         unsafe { &mut *(self.at as *mut UrlTable) }
     }
 
-    // Takes out what the handle holds, and leaves it empty.
-    pub(super) fn take(&mut self, alloc: Global) -> Loose<UrlTable, Global>
-        requires { IsSome self.old.held }
-        ensures taken { Some result.value ≡ self.old.held }
-        ensures emptied { self.new.held ≡ None }
-    {
+    fn take(&mut self, alloc: Global) -> Loose<UrlTable, Global> {
         Loose {
             at: self.at as *mut UrlTable,
             alloc,
@@ -64,22 +68,25 @@ impl TableHandle {
     }
 }
 
-impl InnersHandle {
-    /// What the handle holds, which is not empty.
-    pub(crate) fn lend(&mut self) -> &mut Inners
-        requires { IsSome self.old.held }
-        ensures* writes_back { sem 𝓛 (LendsInners self.entry result) }
-        ensures value { Some result.now ≡ self.old.held }
+impl Holder for InnersHandle {
+    type Held = Inners;
+
+    ghost held = { λ handle. handle.held };
+
+    ghost with_held = { λ handle held. record handle { held = Some held } };
+
+    fn of(loose: Loose<Inners, Global>) -> InnersHandle
+        ensures { result.held ≡ Some loose.value }
     {
+        let Loose { at, alloc: _ } = loose;
+        InnersHandle { at: at as *mut u8 }
+    }
+
+    fn lend(&mut self) -> &mut Inners {
         unsafe { &mut *(self.at as *mut Inners) }
     }
 
-    // Takes out what the handle holds, and leaves it empty.
-    pub(super) fn take(&mut self, alloc: Global) -> Loose<Inners, Global>
-        requires { IsSome self.old.held }
-        ensures taken { Some result.value ≡ self.old.held }
-        ensures emptied { self.new.held ≡ None }
-    {
+    fn take(&mut self, alloc: Global) -> Loose<Inners, Global> {
         Loose {
             at: self.at as *mut Inners,
             alloc,
@@ -87,22 +94,25 @@ impl InnersHandle {
     }
 }
 
-impl BytesHandle {
-    /// What the handle holds, which is not empty.
-    pub(crate) fn lend(&mut self) -> &mut Bytes
-        requires { IsSome self.old.held }
-        ensures* writes_back { sem 𝓛 (LendsBytes self.entry result) }
-        ensures value { Some result.now ≡ self.old.held }
+impl Holder for BytesHandle {
+    type Held = Bytes;
+
+    ghost held = { λ handle. handle.held };
+
+    ghost with_held = { λ handle held. record handle { held = Some held } };
+
+    fn of(loose: Loose<Bytes, Global>) -> BytesHandle
+        ensures { result.held ≡ Some loose.value }
     {
+        let Loose { at, alloc: _ } = loose;
+        BytesHandle { at: at as *mut u8 }
+    }
+
+    fn lend(&mut self) -> &mut Bytes {
         unsafe { &mut *(self.at as *mut Bytes) }
     }
 
-    // Takes out what the handle holds, and leaves it empty.
-    pub(super) fn take(&mut self, alloc: Global) -> Loose<Bytes, Global>
-        requires { IsSome self.old.held }
-        ensures taken { Some result.value ≡ self.old.held }
-        ensures emptied { self.new.held ≡ None }
-    {
+    fn take(&mut self, alloc: Global) -> Loose<Bytes, Global> {
         Loose {
             at: self.at as *mut Bytes,
             alloc,
@@ -110,22 +120,25 @@ impl BytesHandle {
     }
 }
 
-impl OriginalsHandle {
-    /// What the handle holds, which is not empty.
-    pub(crate) fn lend(&mut self) -> &mut Originals
-        requires { IsSome self.old.held }
-        ensures* writes_back { sem 𝓛 (LendsOriginals self.entry result) }
-        ensures value { Some result.now ≡ self.old.held }
+impl Holder for OriginalsHandle {
+    type Held = Originals;
+
+    ghost held = { λ handle. handle.held };
+
+    ghost with_held = { λ handle held. record handle { held = Some held } };
+
+    fn of(loose: Loose<Originals, Global>) -> OriginalsHandle
+        ensures { result.held ≡ Some loose.value }
     {
+        let Loose { at, alloc: _ } = loose;
+        OriginalsHandle { at: at as *mut u8 }
+    }
+
+    fn lend(&mut self) -> &mut Originals {
         unsafe { &mut *(self.at as *mut Originals) }
     }
 
-    // Takes out what the handle holds, and leaves it empty.
-    pub(super) fn take(&mut self, alloc: Global) -> Loose<Originals, Global>
-        requires { IsSome self.old.held }
-        ensures taken { Some result.value ≡ self.old.held }
-        ensures emptied { self.new.held ≡ None }
-    {
+    fn take(&mut self, alloc: Global) -> Loose<Originals, Global> {
         Loose {
             at: self.at as *mut Originals,
             alloc,
@@ -133,22 +146,25 @@ impl OriginalsHandle {
     }
 }
 
-impl NamesHandle {
-    /// What the handle holds, which is not empty.
-    pub(crate) fn lend(&mut self) -> &mut NamedFunctions
-        requires { IsSome self.old.held }
-        ensures* writes_back { sem 𝓛 (LendsNames self.entry result) }
-        ensures value { Some result.now ≡ self.old.held }
+impl Holder for NamesHandle {
+    type Held = NamedFunctions;
+
+    ghost held = { λ handle. handle.held };
+
+    ghost with_held = { λ handle held. record handle { held = Some held } };
+
+    fn of(loose: Loose<NamedFunctions, Global>) -> NamesHandle
+        ensures { result.held ≡ Some loose.value }
     {
+        let Loose { at, alloc: _ } = loose;
+        NamesHandle { at: at as *mut u8 }
+    }
+
+    fn lend(&mut self) -> &mut NamedFunctions {
         unsafe { &mut *(self.at as *mut NamedFunctions) }
     }
 
-    // Takes out what the handle holds, and leaves it empty.
-    pub(super) fn take(&mut self, alloc: Global) -> Loose<NamedFunctions, Global>
-        requires { IsSome self.old.held }
-        ensures taken { Some result.value ≡ self.old.held }
-        ensures emptied { self.new.held ≡ None }
-    {
+    fn take(&mut self, alloc: Global) -> Loose<NamedFunctions, Global> {
         Loose {
             at: self.at as *mut NamedFunctions,
             alloc,
@@ -156,22 +172,25 @@ impl NamesHandle {
     }
 }
 
-impl UrlFinderHandle {
-    /// What the handle holds, which is not empty.
-    pub(crate) fn lend(&mut self) -> &mut UrlFinder
-        requires { IsSome self.old.held }
-        ensures* writes_back { sem 𝓛 (LendsUrlFinder self.entry result) }
-        ensures value { Some result.now ≡ self.old.held }
+impl Holder for UrlFinderHandle {
+    type Held = UrlFinder;
+
+    ghost held = { λ handle. handle.held };
+
+    ghost with_held = { λ handle held. record handle { held = Some held } };
+
+    fn of(loose: Loose<UrlFinder, Global>) -> UrlFinderHandle
+        ensures { result.held ≡ Some loose.value }
     {
+        let Loose { at, alloc: _ } = loose;
+        UrlFinderHandle { at: at as *mut u8 }
+    }
+
+    fn lend(&mut self) -> &mut UrlFinder {
         unsafe { &mut *(self.at as *mut UrlFinder) }
     }
 
-    // Takes out what the handle holds, and leaves it empty.
-    pub(super) fn take(&mut self, alloc: Global) -> Loose<UrlFinder, Global>
-        requires { IsSome self.old.held }
-        ensures taken { Some result.value ≡ self.old.held }
-        ensures emptied { self.new.held ≡ None }
-    {
+    fn take(&mut self, alloc: Global) -> Loose<UrlFinder, Global> {
         Loose {
             at: self.at as *mut UrlFinder,
             alloc,
@@ -179,22 +198,25 @@ impl UrlFinderHandle {
     }
 }
 
-impl StoreHandle {
-    /// What the handle holds, which is not empty.
-    pub(crate) fn lend(&mut self) -> &mut KeptMaps
-        requires { IsSome self.old.held }
-        ensures* writes_back { sem 𝓛 (LendsStore self.entry result) }
-        ensures value { Some result.now ≡ self.old.held }
+impl Holder for StoreHandle {
+    type Held = KeptMaps;
+
+    ghost held = { λ handle. handle.held };
+
+    ghost with_held = { λ handle held. record handle { held = Some held } };
+
+    fn of(loose: Loose<KeptMaps, Global>) -> StoreHandle
+        ensures { result.held ≡ Some loose.value }
     {
+        let Loose { at, alloc: _ } = loose;
+        StoreHandle { at: at as *mut u8 }
+    }
+
+    fn lend(&mut self) -> &mut KeptMaps {
         unsafe { &mut *(self.at as *mut KeptMaps) }
     }
 
-    // Takes out what the handle holds, and leaves it empty.
-    pub(super) fn take(&mut self, alloc: Global) -> Loose<KeptMaps, Global>
-        requires { IsSome self.old.held }
-        ensures taken { Some result.value ≡ self.old.held }
-        ensures emptied { self.new.held ≡ None }
-    {
+    fn take(&mut self, alloc: Global) -> Loose<KeptMaps, Global> {
         Loose {
             at: self.at as *mut KeptMaps,
             alloc,
@@ -202,22 +224,25 @@ impl StoreHandle {
     }
 }
 
-impl RewritingHandle {
-    /// What the handle holds, which is not empty.
-    pub(crate) fn lend(&mut self) -> &mut Rewriting
-        requires { IsSome self.old.held }
-        ensures* writes_back { sem 𝓛 (LendsRewriting self.entry result) }
-        ensures value { Some result.now ≡ self.old.held }
+impl Holder for RewritingHandle {
+    type Held = Rewriting;
+
+    ghost held = { λ handle. handle.held };
+
+    ghost with_held = { λ handle held. record handle { held = Some held } };
+
+    fn of(loose: Loose<Rewriting, Global>) -> RewritingHandle
+        ensures { result.held ≡ Some loose.value }
     {
+        let Loose { at, alloc: _ } = loose;
+        RewritingHandle { at: at as *mut u8 }
+    }
+
+    fn lend(&mut self) -> &mut Rewriting {
         unsafe { &mut *(self.at as *mut Rewriting) }
     }
 
-    // Takes out what the handle holds, and leaves it empty.
-    pub(super) fn take(&mut self, alloc: Global) -> Loose<Rewriting, Global>
-        requires { IsSome self.old.held }
-        ensures taken { Some result.value ≡ self.old.held }
-        ensures emptied { self.new.held ≡ None }
-    {
+    fn take(&mut self, alloc: Global) -> Loose<Rewriting, Global> {
         Loose {
             at: self.at as *mut Rewriting,
             alloc,

@@ -3,7 +3,7 @@ use Rattle.std.specs.Prelude.{◌≤◌, ℕ, ◌+◌, cond, length, map, string
 use Rattle.smap_trace.specs.Rewriting.{counts_seen}
 use Rattle.smap_trace.specs.Rewritten.{Counts}
 use Rattle.smap_piecewise.specs.Frames.{FramesNow, GoesOn}
-use Rattle.smap_piecewise.specs.Known.{KnownByUrl}
+use Rattle.smap_piecewise.specs.Known.{NamedKnown}
 use Rattle.smap_piecewise.specs.declared.frames.Frames.{Frames}
 use Rattle.smap_piecewise.specs.declared.put_line.LineKind.{LineKind}
 
@@ -25,7 +25,7 @@ pub record IsWithin (size : ℕ) (now : FramesNow) : Type 0 where
   pub hidden : now.counts.hidden + length now.left ≤ size
 
 -- it goes on, and what was within a bound stays so
-pub record Steps (known : KnownByUrl) (old new : Frames) : Type 0 where
+pub record Steps (known : NamedKnown) (old new : Frames) : Type 0 where
   pub goes : GoesOn known (frames_seen old) (frames_seen new)
   pub within : (size : ℕ) → IsWithin size (frames_seen old) → IsWithin size (frames_seen new)
 

@@ -4,16 +4,16 @@ use Rattle.smap_lines.specs.Lines.{Line}
 use Rattle.smap_trace.specs.Frame.{FrameParts}
 use Rattle.smap_trace.specs.FrameOf.{frame_of}
 use Rattle.smap_trace.specs.Hiding.{HidingSeen}
-use Rattle.smap_trace.specs.MapsOf.{MapsByUrl, fate_by}
+use Rattle.smap_store.specs.NamedOf.{NamedByUrl, fate_named}
 use Rattle.smap_trace.specs.Rewritten.{Fate, is_hidden, is_mapped, line_after}
-use Rattle.smap_piecewise.specs.Known.{Agrees, KnownByUrl}
+use Rattle.smap_piecewise.specs.Known.{AgreesNamed, NamedKnown}
 use Rattle.smap_piecewise.specs.declared.put_line.LineKind.{LineKind}
 
 -- nothing was put of a frame, of whose URL it is not known what map it has
-pub record IsUnknown (known : KnownByUrl) (parts : Option FrameParts) (old new : List ℕ) : Type 0 where
+pub record IsUnknown (known : NamedKnown) (parts : Option FrameParts) (old new : List ℕ) : Type 0 where
   pub frame : FrameParts
   pub is : parts ≡ Some frame
-  pub unknown : known frame.url ≡ None
+  pub unknown : known.maps frame.url ≡ None
   pub same : new ≡ old
 
 -- what a line is, whose frame, if it is one, comes to this
@@ -21,9 +21,9 @@ abbrev pub kind_of : Option FrameParts → Fate → LineKind
 kind_of parts met = record { is_frame = is_some parts; is_mapped = is_mapped met; is_hidden = is_hidden met }
 
 -- what becomes of a line over all maps that agree with what is known was put
-pub record IsLinePut (known : KnownByUrl) (hide : HidingSeen) (line : Line) (old new : List ℕ) (kind : LineKind) : Type 0 where
+pub record IsLinePut (known : NamedKnown) (hide : HidingSeen) (line : Line) (old new : List ℕ) (kind : LineKind) : Type 0 where
   pub met : Fate
-  pub is : (maps : MapsByUrl) → Agrees known maps → fate_by maps hide (frame_of line.bytes) ≡ met
+  pub is : (maps : NamedByUrl) → AgreesNamed known maps → fate_named maps hide (frame_of line.bytes) ≡ met
   pub text : new ≡ old ++ line_after line met
   pub kind_is : kind ≡ kind_of (frame_of line.bytes) met
 

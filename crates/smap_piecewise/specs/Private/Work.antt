@@ -2,7 +2,7 @@
 use Rattle.std.specs.Prelude.{◌≡◌, ◌≤◌, ℕ, ◌+◌, Bool, true, List, [], ◌++◌, length}
 use Rattle.smap_pairs.specs.Known.{UrlsKnown}
 use Rattle.smap_io.specs.Sequences.{kept}
-use Rattle.smap_piecewise.specs.Known.{KnownByUrl}
+use Rattle.smap_piecewise.specs.Known.{NamedKnown}
 use Rattle.smap_piecewise.specs.Private.Frames.{IsWithin, Steps, frames_seen}
 use Rattle.smap_piecewise.specs.Private.Places.{ArePlacesWithin, IsSound, PlaceSteps, places_seen}
 use Rattle.smap_piecewise.specs.Work.{OfFrames, OfPlaces, WorkNow, with_left}
@@ -23,9 +23,9 @@ abbrev pub IsWorkWithin : (size : ℕ) → WorkNow → Type 0
 IsWorkWithin size (OfFrames now) = IsWithin size now
 IsWorkWithin size (OfPlaces now) = ArePlacesWithin size now
 
-abbrev pub WorkSteps : UrlsKnown → KnownByUrl → (old new : Work) → Type 0
+abbrev pub WorkSteps : UrlsKnown → NamedKnown → (old new : Work) → Type 0
 WorkSteps urls known (Frames old) (Frames new) = Steps known old new
-WorkSteps urls known (Places old) (Places new) = PlaceSteps urls known old new
+WorkSteps urls known (Places old) (Places new) = PlaceSteps urls known.maps old new
 WorkSteps urls known (Frames old) (Places new) = ⊥
 WorkSteps urls known (Places old) (Frames new) = ⊥
 

@@ -12,6 +12,7 @@ use Rattle.smap_store.specs.Laws.Named.{given_named, same_named, some_named}
 use Rattle.smap_store.specs.Loaded.{Came, Outcome, record_in}
 use Rattle.smap_store.specs.Named.{FindsNamed, GivesNamed, IsSameNamed, NamedSeen, NamesMay, NamesStep, named_seen, names_in}
 use Rattle.smap_store.specs.Names.{NamesCame, declared_in}
+use Rattle.smap_store.specs.Program.{ProgramSeen, program_in}
 use Rattle.smap_store.specs.Stored.{FindsIn, GivesIn, LoadsMay, LoadsStep, outcome_at}
 use Rattle.smap_store.specs.StoredMaps.{same_store_on, same_store_self}
 use Rattle.smap_store.specs.declared.loader.NoMap.TheVariants.{Unnamed}
@@ -39,7 +40,7 @@ module _ {L N : Type 0} where
 module _ {L N : Type 0} (MayLoad : LoadsMay L) (MayName : NamesMay N) where
   -- which maps and names a URL may have
   abbrev MayHave : NamedSeen L N → (url : List ℕ) → Option MapRecord → Option FunctionNames → Type 0
-  MayHave maps = GivesNamed (GivesIn MayLoad maps.stored) MayName maps.names maps.namer
+  MayHave maps = GivesNamed (GivesIn MayLoad maps.stored) (program_in maps.stored) MayName maps.names maps.namer
 
   some_with : (options : AnswerOptions) (maps : NamedSeen L N) (named : NamedPlace) (found : Option MapRecord) (names : Option FunctionNames)
       → MayHave maps named.place.url found names → (text : List ℕ) × MayLocateNamed (MayHave maps) options (Some named) text
@@ -58,8 +59,8 @@ module _ {L N : Type 0} (MayLoad : LoadsMay L) (MayName : NamesMay N) where
   module _ (Loads : LoadsStep L)
       (given : (loader after : L) (url path : List ℕ) (came : Came) → Loads loader url path came after
       → MayLoad loader url path (record_in came)) (Names : NamesStep N)
-      (names_given : (namer after : N) (url : List ℕ) (stated : MapRecord) (came : NamesCame) → Names namer url stated came after
-      → MayName namer url stated (declared_in came)) where
+      (names_given : (namer after : N) (program : ProgramSeen) (stated : MapRecord) (came : NamesCame) → Names namer program stated came after
+      → MayName namer program stated (declared_in came)) where
     abbrev Finds : NamedSeen L N → (url : List ℕ) → NamedSeen L N → Type 0
     Finds = FindsNamed (FindsIn Loads) Names
 
@@ -81,13 +82,13 @@ module _ {L N : Type 0} (MayLoad : LoadsMay L) (MayName : NamesMay N) where
 
     module _ (same : (loader after : L) (url path other other_path : List ℕ) (came : Came) (more : Option MapRecord)
         → Loads loader url path came after → MayLoad after other other_path more → MayLoad loader other other_path more)
-        (names_same : (namer after : N) (url other : List ℕ) (stated other_stated : MapRecord) (came : NamesCame) (more : Option (List Named))
-        → Names namer url stated came after → MayName after other other_stated more → MayName namer other other_stated more) where
+        (names_same : (namer after : N) (program other : ProgramSeen) (stated other_stated : MapRecord) (came : NamesCame) (more : Option (List Named))
+        → Names namer program stated came after → MayName after other other_stated more → MayName namer other other_stated more) where
       has_before : (options : AnswerOptions) (old new : NamedSeen L N) (named : Option NamedPlace) (text : List ℕ) → LocatesNamed Finds options old named text new
           → (other : List ℕ) (found : Option MapRecord) (names : Option FunctionNames) → MayHave new other found names → MayHave old other found names
       has_before options old new None text is other found names has = subst (λ m. MayHave m other found names) is.1 has
       has_before options old new (Some named) text is other found names has =
-          same_named MayLoad Loads given same MayName Names names_given names_same old new named.place.url other found names is.0 has
+          same_named MayLoad Loads given MayName Names names_given same names_same old new named.place.url other found names is.0 has
 
       before_with : (options : AnswerOptions) (old new : NamedSeen L N)
           → ((other : List ℕ) (found : Option MapRecord) (names : Option FunctionNames) → MayHave new other found names → MayHave old other found names)

@@ -9,6 +9,7 @@ use Rattle.smap_lines.specs.RunEnds.{RunEnds}
 use Rattle.smap_lines.specs.declared.counts.LineCounts.{LineCounts}
 use Rattle.smap_lines.specs.declared.fault.LineFault.{LineFault}
 use Rattle.smap_store.specs.Named.{FindsNamed, GivesNamed, IsSameNamed, NamedSeen, NamesMay, NamesStep, named_seen}
+use Rattle.smap_store.specs.Program.{program_in}
 use Rattle.smap_store.specs.Stored.{FindsIn, GivesIn, LoadsMay, LoadsStep}
 use Rattle.smap_text_answers.specs.NamedLocating.{BecomesNamedAnswer, NamedLocateStep}
 use Rattle.smap_text_answers.specs.declared.named_locator.NamedLocator.{NamedLocator}
@@ -19,7 +20,7 @@ module _ {L N : Type 0} where
   abbrev pub NamedBecomes : LoadsMay L → NamesMay N → NamedLocator L N → Line → (text : List ℕ) → Type 0
   NamedBecomes MayLoad MayName locator =
       let maps = named_seen locator.maps in
-      BecomesNamedAnswer (GivesNamed (GivesIn MayLoad maps.stored) MayName maps.names maps.namer) locator.options
+      BecomesNamedAnswer (GivesNamed (GivesIn MayLoad maps.stored) (program_in maps.stored) MayName maps.names maps.namer) locator.options
 
   -- what it became, and the editor after it
   pub record NamedSteps (Loads : LoadsStep L) (Names : NamesStep N) (old : NamedLocator L N) (line : Line) (text : List ℕ) (new : NamedLocator L N) : Type 0 where
@@ -42,5 +43,6 @@ pub record EndsAnswered {R W L N : Type 0} (input_seen : R → SourceSeen) (outp
     (result : Result LineCounts LineFault) : Type 0 where
   pub ends : RunEnds input_seen output_seen input_old input_new output_old output_new
       (λ before after. EditsInto (NamedLocateStep (FindsNamed (FindsIn Loads) Names) options) most_text_bytes before after old new)
-      (EditsFrontInto (BecomesNamedAnswer (GivesNamed (GivesIn May old.stored) MayName old.names old.namer) options) most_text_bytes) result
+      (EditsFrontInto (BecomesNamedAnswer (GivesNamed (GivesIn May old.stored) (program_in old.stored) MayName old.names old.namer) options) most_text_bytes)
+      result
   pub looked : Looked (FindsNamed (FindsIn Loads) Names) old new

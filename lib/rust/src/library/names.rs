@@ -27,6 +27,23 @@ impl Names {
         Ok(Names { handle })
     }
 
+    /// What was handed out by another call.
+    pub(super) fn full(handle: sys::smap_names) -> Names {
+        Names { handle }
+    }
+
+    /// For calls that change nothing of what it holds.
+    pub(super) fn handle(&self) -> *mut sys::smap_names {
+        &self.handle as *const sys::smap_names as *mut sys::smap_names
+    }
+
+    /// For how many bytes of memory they count.
+    pub(crate) fn size(&self) -> u64 {
+        let mut bytes = 0;
+        unsafe { sys::smap_names_size(self.handle(), &mut bytes) };
+        bytes
+    }
+
     /// The name of a function that is called so in a frame at this place.
     pub(crate) fn name_of(&self, function: &str, line: u32, column: u32) -> Option<String> {
         let mut name = no_text();

@@ -1,6 +1,6 @@
 //! Stores of maps, and texts that are rewritten over them.
 
-use super::{copied, done, lent, no_source, no_text, Map};
+use super::{copied, done, lent, no_source, no_text, Map, Names};
 use crate::error::{Error, Refused};
 use crate::sys;
 use std::ptr;
@@ -67,11 +67,21 @@ impl Store {
         &mut self.handle
     }
 
-    /// Puts the map of a URL, which the store holds with it.
-    pub(crate) fn put(&mut self, url: &[u8], map: &Map) -> Result<(), Error> {
-        let (store, bytes) = (&mut self.handle, map.size());
-        let status =
-            unsafe { sys::smap_store_put(store, url.as_ptr(), url.len(), map.handle(), bytes) };
+    /// Puts the map of a URL, which the store holds with it, and with it names of functions, where there are some.
+    pub(crate) fn put(
+        &mut self,
+        url: &[u8],
+        map: &Map,
+        names: Option<&Names>,
+    ) -> Result<(), Error> {
+        let (store, bytes, length) = (&mut self.handle, url.as_ptr(), url.len());
+        let status = match names {
+            Some(names) => {
+                let size = map.size().saturating_add(names.size());
+                unsafe { sys::smap_store_put_named(store, bytes, length, names.handle(), size) }
+            }
+            None => unsafe { sys::smap_store_put(store, bytes, length, map.handle(), map.size()) },
+        };
         done(status, Refused::nothing)
     }
 
@@ -168,6 +178,20 @@ impl Store {
             Known::Map => Some(Map::full(handle)),
             _ => None,
         })
+    }
+
+    /// The names that came with the map of a URL, which they share with the store.
+    pub(crate) fn names(&mut self, url: &[u8], now: u64) -> Result<Option<Names>, Error> {
+        let mut handle = sys::smap_names {
+            at: ptr::null_mut(),
+        };
+        let store = &mut self.handle;
+        let status =
+            unsafe { sys::smap_store_names(store, url.as_ptr(), url.len(), now, &mut handle) };
+        match status {
+            sys::SMAP_REFUSED => Ok(None),
+            _ => done(status, Refused::nothing).map(|_| Some(Names::full(handle))),
+        }
     }
 }
 

@@ -1,7 +1,7 @@
 //! Tables of maps, and what they make of texts.
 
 use super::store::Found;
-use super::{done, lent, no_source, no_text, Bytes, Map, NOTHING};
+use super::{done, lent, no_source, no_text, Bytes, Map, Names, NOTHING};
 use crate::error::{Error, Refused};
 use crate::sys;
 use std::ptr;
@@ -50,6 +50,15 @@ impl Table {
             sys::smap_table_add_shared(table, url, length, map.handle(), &mut refusal)
         };
         done(status, || Refused::new(refusal))
+    }
+
+    /// Puts names of functions beside the map under a URL, whose they are.
+    pub(crate) fn add_names(&mut self, url: &str, names: &Names) -> Result<(), Error> {
+        let status = unsafe {
+            let (table, url, length) = (&mut self.handle, url.as_ptr(), url.len());
+            sys::smap_table_add_names(table, url, length, names.handle())
+        };
+        done(status, Refused::nothing)
     }
 
     /// What answers at a position in the map of a URL, which has one by itself, without its query and

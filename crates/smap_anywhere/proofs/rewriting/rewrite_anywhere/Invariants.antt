@@ -6,6 +6,7 @@ use Rattle.smap_trace.specs.NotesSeen.{notes_seen}
 use Rattle.smap_anywhere.specs.Private.ChunkWriter.{HasRoom, IsSameChunkWriter}
 use Rattle.smap_anywhere.specs.Private.LineEnds.{AreLinesOf}
 use Rattle.smap_anywhere.proofs.RewritingLaws.{Through}
+use Rattle.smap_anywhere.specs.NamedParts.{found_by, replacing}
 use Rattle.smap_anywhere.proofs.rewriting.rewrite_anywhere.Given as goal
 
 -- what was read is a front and the window, and what becomes of the front was written and noted, all whole lines among it
@@ -13,7 +14,8 @@ abbrev pub invariant-loop-count : goal.invariant-loop-count
 invariant-loop-count g l = record {
   read : (front : List ℕ) × Gives (g.R.ByteSource.seen l.initial.input).left (g.R.ByteSource.seen l.input).left (front ++ l.window.bytes)
       × (length (front ++ l.window.bytes) ≡ l.total)
-      × Through g.M.Maps.Finds g.M.Maps.found (g.K.KnownUrls.known l.options.known.now) l.initial.chunks.writer.maps.now
+      × Through (replacing g.M.Maps.names_any) g.M.Maps.Finds (found_by g.M.Maps.names_any g.M.Maps.found g.M.Maps.names) g.M.Maps.names_any
+      (g.K.KnownUrls.known l.options.known.now) l.initial.chunks.writer.maps.now
       (g.W.ByteSink.seen l.initial.output).taken front (record {
         window = l.window.bytes;
         is_broken = l.chunks.is_broken;

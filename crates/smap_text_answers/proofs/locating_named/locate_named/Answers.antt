@@ -5,6 +5,7 @@ use Rattle.smap_lines.specs.Limits.{most_text_bytes}
 use Rattle.smap_replies.specs.Arguments.{argument_of}
 use Rattle.smap_store.specs.Named.{GivesNamed}
 use Rattle.smap_store.specs.Names.{names_at_first}
+use Rattle.smap_store.specs.Program.{program_of}
 use Rattle.smap_store.specs.Stored.{FindsIn, GivesIn}
 use Rattle.smap_text_answers.specs.Locate.{located_programs, names_bytes}
 use Rattle.smap_text_answers.specs.NamedLocating.{AnswersNames, BecomesNamedAnswer}
@@ -25,7 +26,7 @@ returns-in_default g c =
     record {
       ends = ends_memory c.requires.input_works c.requires.output_works (when_on asked.names _ _ c.requires.named
           (front_of_none (BecomesNamedAnswer (GivesNamed (GivesIn g.L.MapLoader.MayLoad (store_of sources c.args.cache.now c.args.loader.now))
-          (MayNameBy gives (located_programs asked sources)) (names_at_first (names_bytes asked)) nothing_told) asked.options) most_text_bytes _));
+          (program_of sources.exact sources.locations) (MayNameBy gives (located_programs asked sources)) (names_at_first (names_bytes asked)) nothing_told) asked.options) most_text_bytes _));
       looked = ([], refl);
     }
 

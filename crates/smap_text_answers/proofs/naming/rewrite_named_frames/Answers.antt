@@ -1,35 +1,52 @@
 use Rattle.std.proofs.Common.{◌≡◌, [], refl, rules, subst}
-use Rattle.std.specs.Prelude.{⊤}
+use Rattle.std.specs.Prelude.{true}
+use Rattle.smap_anywhere.specs.Laws.AnywhereSeen.{parts_by_none}
 use Rattle.smap_lines.specs.Laws.RunEnds.{ends_memory, ends_wider}
 use Rattle.smap_lines.specs.Editing.{devices_seen}
-use Rattle.smap_store.specs.Named.{FindsNamed, NamedSeen, names_in}
-use Rattle.smap_store.specs.Stored.{FindsIn}
+use Rattle.smap_store.specs.Named.{FindsNamed, GivesNamed, NamedSeen, names_in}
+use Rattle.smap_store.specs.Program.{program_in}
+use Rattle.smap_store.specs.Stored.{FindsIn, GivesIn}
 use Rattle.smap_trace.specs.Rewriting.{Looked, RewritesNamed}
 use Rattle.smap_trace.specs.NotesSeen.{notes_seen}
 use Rattle.smap_text_answers.specs.Naming.{found_beside}
 use Rattle.smap_text_answers.specs.Private.Naming.{named_over}
 use Rattle.smap_text_answers.specs.Request.{request_seen}
-use Rattle.smap_text_answers.specs.RewriteFrom.{asked_of}
-use Rattle.smap_text_answers.proofs.NamedLaws.{names_front_none}
+use Rattle.smap_text_answers.specs.RewriteFrom.{asked_of, places_asked, urls_of}
+use Rattle.smap_text_answers.proofs.BesideLaws.{named_front_of_none, when_off}
 use Rattle.smap_text_answers.proofs.NamingLaws.{maps_looked, maps_rewritten, named_after}
 use Rattle.smap_text_answers.proofs.naming.rewrite_named_frames.Goals as goal
 
-pub returns-in_default-clause-ended : goal.returns-in_default-clause-ended
-returns-in_default-clause-ended g c = record {
-  ends = ends_memory c.requires.input_works c.requires.output_works (names_front_none (λ url found. ⊤) _ _ _ _);
-  looked = ([], refl);
-}
-
-pub returns-in_default-new-clause-ended : goal.returns-in_default-new-clause-ended
-returns-in_default-new-clause-ended g c = record {
-  ends = ends_memory c.requires.input_works c.requires.output_works (names_front_none (λ url found. ⊤) _ _ _ _);
-  looked = ([], refl);
-}
-
-pub returns-clause-ended : goal.returns-clause-ended
-returns-clause-ended g c =
+pub returns-in_default : goal.returns-in_default
+returns-in_default g c =
+    let request = request_seen c.args.run.now.request.now in
     let sources = c.args.run.now.sources.now in
-    let asked = asked_of (request_seen c.args.run.now.request.now) sources in
+    let old = named_over sources c.args.cache.now c.args.loader.now c.args.names.now c.args.namer.now in
+    record {
+      ends = ends_memory c.requires.input_works c.requires.output_works
+          (named_front_of_none request.anywhere (places_asked true request sources) (asked_of request sources) (GivesIn g.L.MapLoader.MayLoad old.stored)
+          (GivesNamed (GivesIn g.L.MapLoader.MayLoad old.stored) (program_in old.stored) g.N.NamesLoader.MayName old.names old.namer) _
+          (parts_by_none true (urls_of sources)));
+      looked = ([], refl);
+    }
+
+pub returns-in_default-new : goal.returns-in_default-new
+returns-in_default-new g c =
+    let request = request_seen c.args.run.now.request.now in
+    let sources = c.args.run.now.sources.now in
+    let old = named_over sources c.args.cache.now c.args.loader.now c.args.names.now c.args.namer.now in
+    record {
+      ends = ends_memory c.requires.input_works c.requires.output_works
+          (named_front_of_none request.anywhere (places_asked true request sources) (asked_of request sources) (GivesIn g.L.MapLoader.MayLoad old.stored)
+          (GivesNamed (GivesIn g.L.MapLoader.MayLoad old.stored) (program_in old.stored) g.N.NamesLoader.MayName old.names old.namer) _
+          (parts_by_none true (urls_of sources)));
+      looked = ([], refl);
+    }
+
+pub returns : goal.returns
+returns g c =
+    let sources = c.args.run.now.sources.now in
+    let request = request_seen c.args.run.now.request.now in
+    let asked = asked_of request sources in
     let new = c.frames_over.new.maps in
     let notes = notes_seen c.frames_over.new.notes in
     let both = maps_looked (FindsIn g.L.MapLoader.Loads) g.N.NamesLoader.Names _ new c.frames_over.ensures.looked in
@@ -42,11 +59,13 @@ returns-clause-ended g c =
     let after = devices_seen (g.R.ByteSource.seen c.frames_over.new.input) (g.W.ByteSink.seen c.frames_over.new.output) in
     let first = named_over sources c.args.cache.now c.args.loader.now c.args.names.now c.args.namer.now in
     record {
-      ends = ends_wider c.frames_over.result (λ counts is.
-          subst (λ (s : NamedSeen g.row.L.Denot g.row.N.Denot). RewritesNamed (FindsNamed (FindsIn g.L.MapLoader.Loads) g.N.NamesLoader.Names) found_beside names_in
-          asked before after first s counts notes) stands
-          (maps_rewritten (FindsIn g.L.MapLoader.Loads) g.N.NamesLoader.Names _ new asked before after counts notes is))
-          (λ fault is. is)
+      ends = ends_wider c.frames_over.result (λ counts is. when_off request.anywhere _ _ c.requires.frames (
+        subst (λ (s : NamedSeen g.row.L.Denot g.row.N.Denot). RewritesNamed (FindsNamed (FindsIn g.L.MapLoader.Loads) g.N.NamesLoader.Names) found_beside names_in
+            asked before after first s counts notes) stands
+            (maps_rewritten (FindsIn g.L.MapLoader.Loads) g.N.NamesLoader.Names _ new asked before after counts notes is),
+        c.requires.unnoted.1,
+      ))
+          (λ fault is. when_off request.anywhere _ _ c.requires.frames is)
           (rw (c.in-Ok-new.ensures, c.in-Ok.ensures) at c.frames_over.ensures.ends);
       looked = subst (λ (s : NamedSeen g.row.L.Denot g.row.N.Denot). Looked (FindsNamed (FindsIn g.L.MapLoader.Loads) g.N.NamesLoader.Names) first s)
           stands both.0;

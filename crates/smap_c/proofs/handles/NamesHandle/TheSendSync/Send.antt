@@ -1,7 +1,7 @@
 -- A handle of names of functions may go to another thread, as the map and the declarations in it may.
 use denote.Param.Send.{IsSend, struct_send, recorded_send}
 use denote.Struct.Declared.{shape}
-use Rattle.smap_declarations.proofs.declarations.Declarations.TheSendSync as declarations
+use Rattle.smap_store.proofs.shared_declarations.SharedDeclarations.TheSendSync as declarations
 use Rattle.smap_record.proofs.shared_map.SharedMap.TheSendSync as shared_map
 use Rattle.smap_c.specs.contracts.handles.NamesHandle.{the_row}
 use Rattle.smap_c.specs.contracts.names.NamedFunctions as named_functions

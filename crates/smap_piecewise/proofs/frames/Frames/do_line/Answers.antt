@@ -1,5 +1,6 @@
 use Rattle.std.proofs.Common.{◌≡◌, ◌<◌, ap, arith, drop, length, refl, subst, sym, take, ◌∙◌}
 use Rattle.smap_piecewise.specs.Frames.{FramesNow, IsTooLong}
+use Rattle.smap_piecewise.specs.Known.{with_declared}
 use Rattle.smap_piecewise.specs.Private.Given.{line_size}
 use Rattle.smap_piecewise.specs.Private.Frames.{counts_with, frames_seen}
 use Rattle.smap_piecewise.proofs.AppendLaws.{taken_back}
@@ -11,12 +12,12 @@ use Rattle.smap_piecewise.proofs.frames.Frames.do_line.Goals as goal
 pub returns-in_default-clause-stops : goal.returns-in_default-clause-stops
 returns-in_default-clause-stops g c =
     let put = rw (c.bytes.ensures, c.deref.ensures.value) at c.in_ok-put.ensures.put in
-    before_unknown (g.K.KnownMaps.known c.args.maps.now) _ c.args.first _ _ c.requires.line
-    (put_none (g.K.KnownMaps.known c.args.maps.now) _ _ _ _ c.in_ok-put.put c.in_default.is put) c.requires.anew c.requires.decided
+    before_unknown (with_declared (g.K.KnownMaps.known c.args.maps.now) (g.K.KnownMaps.declared c.args.maps.now)) _ c.args.first _ _ c.requires.line
+    (put_none (with_declared (g.K.KnownMaps.known c.args.maps.now) (g.K.KnownMaps.declared c.args.maps.now)) _ _ _ _ c.in_ok-put.put c.in_default.is put) c.requires.anew c.requires.decided
 
 pub returns-clause-goes : goal.returns-clause-goes
 returns-clause-goes g c =
-    let known = g.K.KnownMaps.known c.args.maps.now in
+    let known = with_declared (g.K.KnownMaps.known c.args.maps.now) (g.K.KnownMaps.declared c.args.maps.now) in
     let old = frames_seen c.args.self.now in
     let put = rw (c.bytes.ensures, c.deref.ensures.value) at c.in_ok-put.ensures.put in
     let line = put_some known _ _ _ _ c.in_ok-put.put c.in-Some.kind c.in-Some.is put in
@@ -30,7 +31,7 @@ returns-clause-goes g c =
 
 pub returns-then-len-limit-clause-goes : goal.returns-then-len-limit-clause-goes
 returns-then-len-limit-clause-goes g c =
-    let known = g.K.KnownMaps.known c.args.maps.now in
+    let known = with_declared (g.K.KnownMaps.known c.args.maps.now) (g.K.KnownMaps.declared c.args.maps.now) in
     let put = rw (c.bytes.ensures, c.deref.ensures.value) at c.in_ok-put.ensures.put in
     let line = put_some known _ _ _ _ c.in_ok-put.put c.in-Some.kind c.in-Some.is put in
     let len : c.len-written.result ≡ length c.args.self.now.output.items = omega (arith, c.len-written.ensures, c.args.self.now.output.ok.0) in
@@ -39,7 +40,7 @@ returns-then-len-limit-clause-goes g c =
 
 pub returns-then-len-limit-clause-stops : goal.returns-then-len-limit-clause-stops
 returns-then-len-limit-clause-stops g c =
-    let known = g.K.KnownMaps.known c.args.maps.now in
+    let known = with_declared (g.K.KnownMaps.known c.args.maps.now) (g.K.KnownMaps.declared c.args.maps.now) in
     let old : FramesNow = frames_seen c.args.self.now in
     let put = rw (c.bytes.ensures, c.deref.ensures.value) at c.in_ok-put.ensures.put in
     let line = put_some known _ _ _ _ c.in_ok-put.put c.in-Some.kind c.in-Some.is put in

@@ -2,7 +2,7 @@ use Rattle.std.proofs.Common.{◌≡◌, ◌&&◌, ◌∙◌, ap, sym}
 use Rattle.std.specs.Prelude.{is_some, not}
 use Rattle.smap_locations.specs.Paths.{without_query}
 use Rattle.smap_piecewise.specs.Location.{is_location}
-use Rattle.smap_piecewise.proofs.StoreLaws.{both_off, known_same, some_mapped, unknown_is}
+use Rattle.smap_piecewise.proofs.StoreLaws.{both_off, declared_same, known_same, some_mapped, unknown_is}
 use Rattle.smap_piecewise.proofs.store_maps.StoreMapsKnownMaps.ask.Goals as goal
 use Rattle.smap_piecewise.proofs.store_maps.StoreMapsKnownMaps.ask.Goals.{then-self, else-self}
 
@@ -31,3 +31,9 @@ returns-then-ask-clause-still c =
 pub returns-after-self-clause-still : goal.returns-after-self-clause-still
 returns-after-self-clause-still c =
     λ i. record { holding = (c.ask.ensures.still i).0; now = (c.ask.ensures.still i).1; place = c.args.self.now.kept.ghost_name }
+
+pub returns-then-ask-clause-same_declared : goal.returns-then-ask-clause-same_declared
+returns-then-ask-clause-same_declared c = declared_same c.args.self.now.table.now c.args.self.now.kept.now c.ask.new.self c.ask.ensures.same_declared
+
+pub returns-after-self-clause-same_declared : goal.returns-after-self-clause-same_declared
+returns-after-self-clause-same_declared c = declared_same c.args.self.now.table.now c.args.self.now.kept.now c.ask.new.self c.ask.ensures.same_declared

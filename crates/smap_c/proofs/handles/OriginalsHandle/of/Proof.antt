@@ -1,9 +1,0 @@
--- `of` keeps the pointer and what it owns.
-use Rattle.smap_c.specs.contracts.handles.OriginalsHandle.of.Key.{name as #self}
-use Rattle.smap_c.proofs.handles.OriginalsHandle.of.Statement.{statement}
-use Rattle.smap_c.proofs.handles.OriginalsHandle.of.Code as code
-use Rattle.smap_c.proofs.Holders.{originals}
-use Rattle.smap_c.proofs.Walks.{of_walk}
-
-pub of_spec : {M : Type 1} → statement M
-of_spec 𝓤 𝓛 𝓜 𝓡 wired = of_walk originals 𝓤 𝓛 𝓜 𝓡 #self (code.unfolded 𝓤 𝓛.H 𝓜 𝓡 wired)

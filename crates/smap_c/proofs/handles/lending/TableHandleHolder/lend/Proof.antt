@@ -1,0 +1,9 @@
+-- `lend` lends the value, and the handle follows it.
+use Rattle.smap_c.specs.contracts.handles.lending.TableHandleHolder.lend.Key.{name as #self}
+use Rattle.smap_c.proofs.handles.lending.TableHandleHolder.lend.Statement.{statement}
+use Rattle.smap_c.proofs.handles.lending.TableHandleHolder.lend.Code as code
+use Rattle.smap_c.proofs.Holders.{table}
+use Rattle.smap_c.proofs.Walks.{lend_walk}
+
+pub lend_spec : {M : Type 1} → statement M
+lend_spec 𝓤 𝓛 𝓜 𝓡 wired = lend_walk table 𝓤 𝓛 𝓜 𝓡 #self (code.unfolded 𝓤 𝓛.H 𝓜 𝓡 wired)
