@@ -6,7 +6,7 @@ _smap_page() {
     COMPREPLY=()
     if [[ ${COMP_WORDS[COMP_CWORD - 1]} == --base ]]; then return; fi
     if [[ $current == -* ]]; then
-        mapfile -t COMPREPLY < <(compgen -W '--base --help --version' -- "$current")
+        mapfile -t COMPREPLY < <(compgen -W '--base --help --trace --version' -- "$current")
     else
         compopt -o filenames
         mapfile -t COMPREPLY < <(compgen -f -- "$current")

@@ -91,7 +91,7 @@ class Areas {
       if (child.source >= 0) {
         button.style.backgroundColor = colourOf(rankOf(child.source), colours.tint);
         button.addEventListener('click', () => this.open(child.source));
-      }
+      } else button.setAttribute('aria-disabled', 'true');
       if (label) button.append(label);
     });
   }

@@ -1,8 +1,8 @@
-// What the page holds: bundles, each a generated text, its map and what smap says of the two, and which of them is shown.
+// What the page holds: bundles, each a generated text, its map and what smap says of them, the one that is shown, and a trace.
 import { elementOf } from './elements.js';
 import { decodeMappings } from './map.js';
 import { Text } from './text.js';
-export { bundles, held, turnTo };
+export { bundles, given, held, turnTo };
 
 // What an element holds: JSON, compressed, in Base64.
 async function contentOf(element) {
@@ -56,6 +56,9 @@ if (!('DecompressionStream' in window)) {
 }
 const parts = [...document.querySelectorAll('script.part')];
 const bundles = await Promise.all(Array.from({ length: parts.length / 3 }, (_, i) => bundleOf(parts.slice(3 * i, 3 * i + 3), i)));
+// A trace and what smap makes of it, or null.
+const trace = document.querySelector('script.given');
+const given = trace ? await contentOf(trace) : null;
 let at = 0;
 
 const held = () => bundles[at];

@@ -3,7 +3,7 @@ import { letGo, listenToPanes } from './choose.js';
 import { readColours } from './colours.js';
 import { copyLine, copyPlace, listenToCopying } from './copying.js';
 import { elementOf } from './elements.js';
-import { listenToFrames } from './frames.js';
+import { listenToFrames, showGiven } from './frames.js';
 import { bundles, held } from './held.js';
 import { lineOf, mappingAt } from './map.js';
 import { listenToMisfits } from './misfits.js';
@@ -115,7 +115,9 @@ function goBehindHash() {
 
 start();
 listen();
-if (location.hash.length > 1) goBehindHash();
+const hasPlace = location.hash.length > 1;
+showGiven(hasPlace);
+if (hasPlace) goBehindHash();
 for (const pane of Object.values(panes)) pane.draw();
 document.documentElement.dataset.ready = performance.now().toFixed(1);
 

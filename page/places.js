@@ -27,8 +27,8 @@ function placeIn(text, isNamed) {
   return (frame && placeOf(frame[2], frame[3], frame[1])) ?? places[0] ?? null;
 }
 
-// The lines of a trace that name a place of a file, each with that place.
+// The lines of a trace that name a place of a file, each with that place and its number, from 0.
 function framesIn(trace, isNamed) {
-  const frames = trace.split('\n').map((line) => ({ text: line.trim(), place: placeIn(line, isNamed) }));
+  const frames = trace.split('\n').map((line, number) => ({ text: line.trim(), place: placeIn(line, isNamed), number }));
   return frames.filter(({ place }) => place?.url);
 }

@@ -3,11 +3,13 @@ import { elementOf, isolated } from './elements.js';
 import { held } from './held.js';
 import { lineOf } from './map.js';
 import { alike } from './segments.js';
-import { isIgnored, resolvedOf } from './sources.js';
+import { isIgnored, resolvedOf, sourceOf } from './sources.js';
 import { state } from './state.js';
 import { visible } from './units.js';
 export { WELCOME, answerOf, report };
 
+// How much of a line is read aloud, before a place in it and behind it.
+const AROUND = 60;
 const WELCOME = 'Point at either text. ? shows the keys.';
 
 // What `smap lookup` says of a mapping of a bundle, in parts.
@@ -35,6 +37,18 @@ function showAnswer(parts) {
   answer.title = answer.textContent;
 }
 
+// The line of a mapping's original, around its place. The texts are drawn, so who does not see them hears it.
+function lineAround(index) {
+  const { map } = held();
+  const source = index < 0 ? -1 : map.source[index];
+  const text = source < 0 ? null : sourceOf(source).text;
+  const line = source < 0 ? 0 : map.originalLine[index];
+  if (!text || line >= text.lines.count) return '';
+  const at = text.lines.starts[line] + Math.min(map.originalColumn[index], text.lengthOf(line));
+  const seen = text.text.slice(Math.max(text.lines.starts[line], at - AROUND), Math.min(text.lines.ends[line], at + AROUND));
+  return seen.trim();
+}
+
 // Which of several places it is that have one original.
 function showAlike(index) {
   const { order, from, count } = alike(index);
@@ -56,6 +70,7 @@ function report() {
   elementOf('copy-place').hidden = !isText || !asked;
   showAlike(isText && !isPointed ? index : -1);
   showAnswer(at ? partsOf(index) : {});
+  elementOf('line').textContent = at && !isPointed ? visible(lineAround(index)) : '';
   const start = isText ? WELCOME : 'Click an area or a folder to open it. ? shows the keys.';
   const note = elementOf('note');
   note.textContent = at ? (isPointed ? '' : asked.note) : start;

@@ -41,7 +41,7 @@ function showBundle() {
 function showChoice() {
   const choice = elementOf('bundles');
   choice.hidden = bundles.length === 1;
-  elementOf('title').hidden = bundles.length > 1;
+  elementOf('title').classList.toggle('unseen', bundles.length > 1);
   for (const { name, index } of bundles) {
     const option = document.createElement('option');
     choice.append(Object.assign(option, { value: String(index), textContent: visible(name) }));

@@ -12,7 +12,8 @@ const isIgnored = (source, { ignored } = held()) => ignored.has(source);
 const bytesOf = (source) => held().owned.sources[source];
 
 // A number in words, and the share that so many bytes are of all.
-const count = (number) => number.toLocaleString('en-US');
+const format = new Intl.NumberFormat('en-US');
+const count = (number) => format.format(number);
 const many = (number, one, more) => `${count(number)} ${number === 1 ? one : more}`;
 const percent = (bytes, { total }) => `${(total ? (100 * bytes) / total : 0).toFixed(1)} %`;
 const share = (bytes) => `${many(bytes, 'byte', 'bytes')} · ${percent(bytes, held().owned)}`;

@@ -17,7 +17,7 @@ from typing import Any, Dict, List, Tuple
 
 SIZE = (1440, 900)
 SCHEME = "layout.css.prefers-color-scheme.content-override"
-KEYS = {"Enter": "\ue007", "Escape": "\ue00c", "Tab": "\ue004", "Home": "\ue011", "Down": "\ue015", "Control": "\ue009"}
+KEYS = {"Enter": "\ue007", "Escape": "\ue00c", "Tab": "\ue004", "Home": "\ue011", "Down": "\ue015", "Up": "\ue013", "Control": "\ue009"}
 
 
 class Browser:

@@ -16,11 +16,12 @@ import files
 from bundles import URL, Bundles, try_alike, try_bundles, try_names
 from eyes import try_neighbours
 from finding import try_find, try_find_large, try_find_strange
+from given import Given, try_given
 from guards import try_contrast, try_hostile, try_large
 from misfits import try_misfits
 from pages import Checks, Page, asked, opened, press_button
 from texts import PASTE, try_bytes, try_field, try_frames, try_keys, try_marks, try_opened, try_pointing, try_positions, try_preview
-from views import NARROW, try_filter, try_folders, try_hash, try_hidden, try_labels, try_line, try_none, try_room
+from views import NARROW, try_filter, try_folders, try_hash, try_help, try_hidden, try_labels, try_line, try_none, try_room
 
 SIZE = 5000000
 
@@ -88,12 +89,13 @@ def keep_views(browser: browsers.Browser, pages: Dict[str, Page], to: Path, sche
 
 
 def write_picture(program: Path, examples: Path, to: Path) -> None:
-    """The picture for README: the place of its first frame, pointed at."""
+    """The picture for README: the page that it makes, which opens at the first frame of its trace."""
     with tempfile.TemporaryDirectory() as folder:
-        page = Page(program, (examples / "receipt.min.js.map", examples / "receipt.min.js"), Path(folder))
-        browser = browsers.Chromium(size=(1280, 680))
+        trace = str(examples / "receipt.trace")
+        page = Page(program, (examples / "receipt.min.js.map", examples / "receipt.min.js"), Path(folder), "--trace", trace)
+        browser = browsers.Chromium(size=(1140, 626))
         try:
-            opened(browser, page, "#2:4472")
+            opened(browser, page)
             browser.settle()
             to.write_bytes(browser.picture())
         finally:
@@ -123,6 +125,7 @@ def main() -> int:
         (folder / "based").mkdir()
         based = Page(program, (examples / "receipt.min.js.map", examples / "receipt.min.js"), folder / "based", "--base", f"{URL}/js/app.js")
         bundles = Bundles(program, examples, folder)
+        given = Given(program, examples, folder)
         pictures.mkdir(parents=True, exist_ok=True)
         for kind in [one for one in (browsers.Chromium, browsers.Firefox) if not words[3:] or one.name in words[3:]]:
             begin = time.monotonic()
@@ -152,10 +155,13 @@ def main() -> int:
                 try_keys(browser, pages["receipt"], checks)
                 try_hash(browser, pages["receipt"], checks)
                 opened(browser, pages["receipt"])
+                try_help(browser, pages["receipt"], checks)
                 try_alike(browser, pages["receipt"], checks)
                 try_names(browser, pages["receipt"], based, checks)
                 checks.about = f"{kind.name}, bundles"
                 try_bundles(browser, bundles, pages["receipt"], checks)
+                checks.about = f"{kind.name}, given"
+                try_given(browser, given, checks)
                 checks.about = f"{kind.name}, marked"
                 opened(browser, pages["marked"])
                 try_marks(browser, pages["marked"], checks)

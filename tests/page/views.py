@@ -179,6 +179,19 @@ def try_filter(browser: browsers.Browser, page: Page, checks: Checks) -> None:
     checks.insist("the list of all sources", len(browser.run(rows)), len(page.shown["sources"]))
 
 
+def try_help(browser: browsers.Browser, page: Page, checks: Checks) -> None:
+    """The keys where they don't fit: their beginning is seen first. The line of a chosen place is there for who listens."""
+    browser.resize(NARROW)
+    press_button(browser, "#help")
+    checks.insist("where the keys begin", browser.run("return document.getElementById('keys').scrollTop"), 0)
+    browser.press("Escape")
+    browser.resize(browsers.SIZE)
+    asked(browser, "2:4472")
+    checks.insist("the line that is read", said(browser, "#line"), "total: () => ((line.count * line.price!.cents) / 100).toFixed(2),")
+    asked(browser, "8:3")
+    checks.insist("the line of a place without an original", said(browser, "#line"), "")
+
+
 def try_labels(browser: browsers.Browser, page: Page, checks: Checks) -> None:
     """Labels of areas. The page has areas of many sizes."""
     for size in (NARROW, browsers.SIZE):
