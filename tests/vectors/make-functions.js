@@ -8,6 +8,7 @@
 'use strict';
 
 const { RULES, THE_RULE, Text } = require('../compare-names/rule.js');
+const { chanceFrom } = require('./chance.js');
 const { putRows, run } = require('./rows.js');
 
 const URL = 'https://ex.test/app.js';
@@ -180,6 +181,48 @@ function otherRows() {
   ];
 }
 
-const rows = [...programRows(), ...otherRows()];
+// What programs are made of by chance: W is a written name, N the minified one, and M what stands in a body.
+const PIECES = [
+  'function {{W}}N(){ M{{}}x()}',
+  'function*{{W}}N(){ {{}}x();M}',
+  'var {{W}}N=()=>{ M{{}}x()};',
+  'var {{W}}N = async (c,(d))=>{{}}x(c);',
+  'var {{W}}N=function(){ M{{}}x()};',
+  'let {{W}}N=class{static{ M{{}}x()}};',
+  'class {{W}}N extends b{constructor(){ {{}}x();M}}',
+  'o.{{W}}N=function(){ M{{}}x()};',
+  'o={"{{W}}N":()=>{ M{{}}x()}};',
+  'o={ {{W}}N(){ M{{}}x()}};',
+  'if({{W}}N==1){{}}x();',
+  'var {{W}}N=1;{{}}x();',
+  '{{W}}N(1);M{{}}x();',
+  '"function N(){";{{}}x();',
+  '/*N=>*/{{}}x();\n',
+  '{{}}x();\nM',
+];
+const WRITTEN = ['main', 'other', 'größe', '', 'a b', '$1', 'Main'];
+
+function programBy({ below, pick }, depth) {
+  const piece = () => pick(PIECES)
+    .replaceAll('N', pick(['a', 'a', 'b', 'ab']))
+    .replace('M', () => (depth > 0 && below(2) === 0 ? programBy({ below, pick }, depth - 1) : ''))
+    .replace('{{W}}', `{{${pick(WRITTEN)}}}`);
+  return Array.from({ length: 1 + below(3) }, piece).join('');
+}
+
+// As many rows of such programs, of which every other has its frames in a string of JSON.
+function chanceRows(many) {
+  const random = chanceFrom(82);
+  return Array.from({ length: many }, (_, i) => {
+    const one = program(programBy(random, 2));
+    const texts = ['a', 'b'].flatMap((name) => Object.values(FORMS).map((form) => frames(one, name, form)));
+    const [before, after] = [0, 1].map((side) => texts.map((pair) => pair[side]).join(''));
+    if (i % 2 === 0) return run([...ASK, `${URL}=app.js.map`], before, [0, after, ''], FILES(one));
+    const [told, named] = [before, after].map((text) => `${JSON.stringify({ level: 50, stack: `Error: x\n${text}` })}\n`);
+    return run([...ASK, '--anywhere', `${URL}=app.js.map`], told, [0, named, ''], FILES(one));
+  });
+}
+
+const rows = [...programRows(), ...otherRows(), ...chanceRows(300 - PROGRAMS.length - otherRows().length)];
 putRows('rewrite --names', __filename, rows);
 console.log(`${rows.length} rows, ${PROGRAMS.length} programs`);
