@@ -12,7 +12,7 @@ use Rattle.smap_index.specs.Answer.{answer_with, answer_at_or_before}
 use Rattle.smap_index.specs.declared.answer.Answer.{Answer}
 use Rattle.smap_index.specs.declared.answer.Answer.TheVariants.{Nothing, Unmapped, Found}
 use Rattle.smap_compose.specs.Follow.{CountedMappings, moved_origin, origin_of_answer, followed_origin, follow, followed, followed_answer}
-use Rattle.smap_compose.proofs.FollowLaws.{answer_alike}
+use Rattle.smap_compose.proofs.FollowLaws.{answer_alike, same_lists}
 
 -- two moves are one by the sum
 two_moves : (a b : ℕ) (inner outer : Option ℕ) (further : Option ℕ)
@@ -106,8 +106,3 @@ module _ (first : CountedMappings) (s : ℕ) (second : CountedMappings) (t : ℕ
       → followed (followed first s second) (first.sources + t) third ≡ followed first s (followed second t third)
   associates within = same_lists (of_list first.mappings within) (add_assoc first.sources second.sources third.sources)
       (add_assoc first.names second.names third.names)
-    where
-      same_lists : {list list' : List Mapping} {sources sources' names names' : ℕ} → list ≡ list' → sources ≡ sources' → names ≡ names'
-          → ◌≡◌ {A = CountedMappings} (record { mappings = list; sources = sources; names = names })
-          (record { mappings = list'; sources = sources'; names = names' })
-      same_lists list_is sources_are names_are = rw (list_is, sources_are, names_are) refl

@@ -7,7 +7,12 @@ use Rattle.smap_mappings.specs.Order.{IsInOrder}
 use Rattle.smap_mappings.specs.declared.mapping.Mapping.{Mapping}
 use Rattle.smap_mappings.specs.declared.mapping.Origin.{Origin}
 use Rattle.smap_index.specs.Answer.{is_on_line_at_or_before, answer_with, answer_of, answer_of_last, answer_at_or_before}
-use Rattle.smap_compose.specs.Follow.{answer_with_origin, with_origin}
+use Rattle.smap_compose.specs.Follow.{CountedMappings, answer_with_origin, with_origin}
+
+pub same_lists : {list list' : List Mapping} {sources sources' names names' : ℕ} → list ≡ list' → sources ≡ sources' → names ≡ names'
+    → ◌≡◌ {A = CountedMappings} (record { mappings = list; sources = sources; names = names })
+    (record { mappings = list'; sources = sources'; names = names' })
+same_lists list_is sources_are names_are = rw (list_is, sources_are, names_are) refl
 
 module _ (origin_of : Origin → Option Origin) (line column : ℕ) where
   -- the mappings that are kept are the same, with other origins

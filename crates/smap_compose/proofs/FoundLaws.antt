@@ -1,10 +1,10 @@
 -- Each used entry is the same as one that stays, and there are no more of those than there were entries.
-use Rattle.std.proofs.Common.{◌≡◌, ℕ, zero, suc, ◌+◌, ◌≤◌, Bool, true, false, ◌||◌, List, [], ◌∷◌, ◌++◌, length, Option, Some, refl, sym, ap, subst, ◌∙◌, ◌⊎◌, ⊎_elim, arith}
+use Rattle.std.proofs.Common.{◌≡◌, ℕ, zero, suc, ◌+◌, ◌≤◌, Bool, true, false, ◌||◌, List, [], ◌∷◌, ◌++◌, length, Option, Some, sym, ap, subst, ◌∙◌, ◌⊎◌, ⊎_elim, arith}
 use Rattle.std.specs.Prelude.{slice_get, unwrap_or}
 use Rattle.std.specs.Cmp.{IsEquivalence}
 use Rattle.std.specs.List.{list_any, position}
 use Rattle.std.specs.Option.{option_map_or}
-use Rattle.std.proofs.lemmas.Bool.{cond-true, cond-false, cases_Bool, or_cases}
+use Rattle.std.proofs.lemmas.Bool.{cond-true, cond-false, cases_Bool, or_cases, or_left, or_right}
 use Rattle.std.proofs.lemmas.List.{append-nil, append_assoc}
 use Rattle.std.proofs.lemmas.List.Folds.{list_any-append}
 use Rattle.std.proofs.lemmas.Map.Steps.{list_any_congr}
@@ -80,13 +80,6 @@ module _ {A : Type 0} (same : A → A → Bool) (laws : IsEquivalence same) wher
       ∙ first_there entry (left ++ next ∷ []) entries (moved (or_cases (list_any (same entry) left) (same entry next || list_any (same entry) entries) one)))
       (cases_Bool (list_any (same next) left))
     where
-      yes_or : (a b : Bool) → a ≡ true → (a || b) ≡ true
-      yes_or a b holds = ap (λ a. a || b) holds
-
-      or_yes : (a b : Bool) → b ≡ true → (a || b) ≡ true
-      or_yes true b holds = refl
-      or_yes false b holds = holds
-
       here : Bool
       here = list_any (same entry) left
 
@@ -98,11 +91,11 @@ module _ {A : Type 0} (same : A → A → Bool) (laws : IsEquivalence same) wher
 
       still : list_any (same next) left ≡ true → (here ≡ true) ⊎ ((same entry next || later) ≡ true) → (here || later) ≡ true
       still known = ⊎_elim
-          (λ there. yes_or here later there)
+          (λ there. or_left here later there)
           (λ behind.
           ⊎_elim
-          (λ is_next. yes_or here later (list_any_congr laws entry next left is_next ∙ known))
-          (λ there. or_yes here later there)
+          (λ is_next. or_left here later (list_any_congr laws entry next left is_next ∙ known))
+          (λ there. or_right here later there)
           (or_cases (same entry next) later behind))
 
       pushed : more ≡ (here || (same entry next || false))
@@ -110,11 +103,11 @@ module _ {A : Type 0} (same : A → A → Bool) (laws : IsEquivalence same) wher
 
       moved : (here ≡ true) ⊎ ((same entry next || later) ≡ true) → (more || later) ≡ true
       moved = ⊎_elim
-          (λ there. yes_or more later (pushed ∙ yes_or here (same entry next || false) there))
+          (λ there. or_left more later (pushed ∙ or_left here (same entry next || false) there))
           (λ behind.
           ⊎_elim
-          (λ is_next. yes_or more later (pushed ∙ or_yes here (same entry next || false) (yes_or (same entry next) false is_next)))
-          (λ there. or_yes more later there)
+          (λ is_next. or_left more later (pushed ∙ or_right here (same entry next || false) (or_left (same entry next) false is_next)))
+          (λ there. or_right more later there)
           (or_cases (same entry next) later behind))
 
   module _ (is_used : ℕ → Bool) (entries : List A) (i : ℕ) (entry : A) (there : slice_get entries i ≡ Some entry) where

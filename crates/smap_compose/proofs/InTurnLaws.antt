@@ -13,6 +13,7 @@ use Rattle.smap_index.specs.declared.answer.Answer.{Answer}
 use Rattle.smap_index.specs.declared.answer.Answer.TheVariants.{Nothing, Unmapped, Found}
 use Rattle.smap_compose.specs.Follow.{CountedMappings, followed, followed_origin, moved_origin, origin_of_answer, with_origin}
 use Rattle.smap_compose.specs.FollowAll.{Placed, followed_all, followed_in_turn, inner_names, inner_sources, origin_through, origin_through_all, placed}
+use Rattle.smap_compose.proofs.FollowLaws.{same_lists}
 
 -- ---- mappings with other origins
 
@@ -150,11 +151,6 @@ counted_names current k (None ∷ inners) =
 counted_names current k (Some inner ∷ inners) =
     counted_names (followed current k inner) (k + 1) inners ∙ add_assoc current.names inner.names (sum_by inner_names inners)
     ∙ ap (λ n. current.names + n) (sym (sum_by-cons inner_names (Some inner) inners))
-
-same_lists : {list list' : List Mapping} {sources sources' names names' : ℕ} → list ≡ list' → sources ≡ sources' → names ≡ names'
-    → ◌≡◌ {A = CountedMappings} (record { mappings = list; sources = sources; names = names })
-    (record { mappings = list'; sources = sources'; names = names' })
-same_lists list_is sources_are names_are = rw (list_is, sources_are, names_are) refl
 
 pub all_in_turn : (outer : CountedMappings) (inners : List (Option CountedMappings)) → length inners ≤ outer.sources
     → followed_all outer inners ≡ followed_in_turn outer 0 inners

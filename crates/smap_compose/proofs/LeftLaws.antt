@@ -1,21 +1,15 @@
 -- Which entries stay, entry by entry.
-use Rattle.std.proofs.Common.{◌≡◌, ℕ, zero, suc, ◌+◌, ◌<◌, ◌≤◌, Bool, true, false, not, ◌&&◌, cond, List, [], ◌∷◌, ◌++◌, length, map, filter, drop, get_or, Option, Some, None, refl, sym, ap, subst, ◌∙◌, ⊎_elim, eq-or-lt_of_le, arith}
+use Rattle.std.proofs.Common.{◌≡◌, ℕ, ◌+◌, ◌<◌, ◌≤◌, Bool, true, false, not, ◌&&◌, cond, List, [], ◌∷◌, ◌++◌, length, map, filter, drop, get_or, Option, Some, None, refl, sym, ap, subst, ◌∙◌, ⊎_elim, eq-or-lt_of_le, arith}
 use Rattle.std.specs.Prelude.{slice_get}
 use Rattle.std.specs.Cmp.{IsEquivalence}
 use Rattle.std.specs.List.{enumerate_from, list_any, position}
 use Rattle.std.proofs.lemmas.Bool.{cond-true, cond-false, cases_Bool, cases_eq, and_from, and_parts, and_right, not-true}
 use Rattle.std.proofs.lemmas.Map.Steps.{list_any_congr}
 use Rattle.std.proofs.lemmas.List.{append_assoc, length-append, get_or_append_left, get_or_push}
+use Rattle.smap_mappings.specs.Laws.Lists.{drop_next}
 use Rattle.smap_compose.specs.Pruned.{entries_left, first_ones, used_from}
 use Rattle.smap_compose.specs.Private.Left.{stays_behind, stays_from}
 use Rattle.smap_compose.proofs.PositionLaws.{position_none, position_some, position_stays, position_pushed, position_passed_over}
-
--- ---- a list from one of its elements on
-
-pub drop_next : {X : Type 0} (xs : List X) (i : ℕ) (x : X) → slice_get xs i ≡ Some x → drop i xs ≡ x ∷ drop (i + 1) xs
-drop_next [] i x there = absurd (cc)
-drop_next (y ∷ xs) zero x there = let same : y ≡ x = cc in ap (λ y. y ∷ xs) same
-drop_next (y ∷ xs) (suc i) x there = let n : suc i + 1 ≡ suc (i + 1) = omega arith in drop_next xs i x there ∙ ap (λ n. x ∷ drop n (y ∷ xs)) (sym n)
 
 -- ---- one entry more
 

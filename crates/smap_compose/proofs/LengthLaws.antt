@@ -1,6 +1,6 @@
 -- How many bytes a canonical text has at most: as many as five numbers of seven digits and a `,` for each mapping, and a `;` for
 -- each line.
-use Rattle.std.proofs.Common.{◌≡◌, ℕ, zero, suc, ◌+◌, ◌-◌, ◌*◌, ◌≤◌, ◌/◌, ltb, eqb, false, List, [], ◌∷◌, ◌++◌, length, map, replicate, Option, Some, None, refl, sym, ap, subst, ◌∙◌, arith, length-append, inl, inr, le-ltb}
+use Rattle.std.proofs.Common.{◌≡◌, ℕ, zero, suc, ◌+◌, ◌-◌, ◌*◌, ◌≤◌, ◌/◌, ltb, eqb, false, List, [], ◌∷◌, ◌++◌, length, map, replicate, Option, Some, None, refl, sym, ap, subst, ◌∙◌, arith, length-append, le-ltb}
 use Rattle.std.specs.Prelude.{ℤ}
 use Rattle.std.specs.List.{concat, last_or, slice_get}
 use Rattle.std.proofs.lemmas.Bool.{cond_both}
@@ -8,7 +8,9 @@ use Rattle.std.proofs.lemmas.List.{length-replicate}
 use Rattle.smap_mappings.specs.Limits.{most_text_bytes}
 use Rattle.smap_mappings.specs.Canonical.{letter_of, digits_of, shortest_spelling, name_fields, origin_fields, fields_after, separators, segment_bytes, canonical_after, canonical_text}
 use Rattle.smap_mappings.specs.Encode.{is_text_too_long}
-use Rattle.smap_mappings.specs.Order.{IsAtOrBefore, IsInOrder}
+use Rattle.smap_mappings.specs.Laws.Lists.{last_or-push}
+use Rattle.smap_mappings.specs.Laws.Order.{line_at_most}
+use Rattle.smap_mappings.specs.Order.{IsInOrder}
 use Rattle.smap_mappings.specs.declared.mapping.Mapping.{Mapping}
 use Rattle.smap_mappings.specs.declared.mapping.Origin.{Origin}
 use Rattle.smap_compose.specs.Private.Length.{line_of}
@@ -60,21 +62,13 @@ abbrev Rises : Option Mapping → List Mapping → Type 0
 Rises earlier [] = Unit {0}
 Rises earlier (mapping ∷ mappings) = (line_of earlier ≤ mapping.line) × Rises (Some mapping) mappings
 
-onward : (a b : Mapping) → IsAtOrBefore a b → a.line ≤ b.line
-onward a b (inl below) = omega (arith, below)
-onward a b (inr same) = omega (arith, same.0)
-
 rises_after : (mapping : Mapping) (mappings : List Mapping) → IsInOrder (mapping ∷ mappings) → Rises (Some mapping) mappings
 rises_after mapping [] order = tt
-rises_after mapping (next ∷ mappings) order = (onward mapping next order.0, rises_after next mappings order.1)
+rises_after mapping (next ∷ mappings) order = (line_at_most mapping next order.0, rises_after next mappings order.1)
 
 rises : (list : List Mapping) → IsInOrder list → Rises None list
 rises [] order = tt
 rises (mapping ∷ mappings) order = (omega arith, rises_after mapping mappings order)
-
-last-push : (o : Option Mapping) (list : List Mapping) (mapping : Mapping) → last_or o (list ++ mapping ∷ []) ≡ Some mapping
-last-push o [] mapping = refl
-last-push o (first ∷ list) mapping = last-push (Some first) list mapping
 
 few_after : (before list : List Mapping) → Rises (last_or None before) list
     → length (canonical_after before list) + line_of (last_or None before) ≤ 36 * length list + line_of (last_or (last_or None before) list)
@@ -84,7 +78,7 @@ few_after before (mapping ∷ list) rise =
     let gap = separators (last_or None before) mapping in
     let segment = segment_bytes before mapping in
     let text = canonical_after now list in
-    let is_last : last_or None now ≡ Some mapping = last-push None before mapping in
+    let is_last : last_or None now ≡ Some mapping = last_or-push None before mapping in
     let later : Rises (last_or None now) list = subst (λ earlier. Rises earlier list) (sym is_last) rise.1 in
     let more = few_after now list later in
     let line_is : line_of (last_or None now) ≡ mapping.line = ap line_of is_last in

@@ -6,6 +6,7 @@ use Rattle.std.specs.List.{sum_by}
 use Rattle.std.proofs.lemmas.List.{length-append, length-map}
 use Rattle.std.proofs.lemmas.List.Sums.{sum_by-cons}
 use Rattle.std.proofs.Math.Seq.{drop-cons}
+use Rattle.smap_mappings.specs.Laws.Lists.{drop_next}
 use Rattle.smap_resolve.specs.SourceName.{Name}
 use Rattle.smap_resolve.specs.SourceName.Name.{resolved, kept}
 use Rattle.smap_record.specs.MapFile.{Map}
@@ -15,7 +16,6 @@ use Rattle.smap_compose.specs.Composition.{inner_lists, mappings_of_map, names_w
 use Rattle.smap_compose.specs.FollowAll.{inner_names, inner_sources}
 use Rattle.smap_resolve.specs.InnerNames.{name_from_outer}
 use Rattle.smap_compose.specs.Inners.{stated_inners}
-use Rattle.smap_compose.proofs.ListLaws.{from_place}
 
 -- ---- names that stay
 
@@ -78,6 +78,6 @@ pub one_within : (sources : List StatedSource) (inners : List (Option (Bor Map))
     ++ sources_within (drop (i + 1) sources) (stated_inners (drop (i + 1) inners))
 one_within sources inners i source inner inside there is =
     let next : suc i ≡ i + 1 = omega arith in
-    ap (λ l. sources_within l (stated_inners (drop i inners))) (from_place sources i source there)
+    ap (λ l. sources_within l (stated_inners (drop i inners))) (drop_next sources i source there)
     ∙ ap (λ l. sources_within (source ∷ drop (i + 1) sources) (stated_inners l))
     (drop-cons inners i inner inside ∙ ap (λ x. x ∷ drop (suc i) inners) (sym is) ∙ ap (λ n. inner ∷ drop n inners) next)

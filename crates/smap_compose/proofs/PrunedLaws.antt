@@ -1,5 +1,5 @@
 -- What is left of a map: its mappings lead to the same sources and names, and are within those that are left.
-use Rattle.std.proofs.Common.{◌≡◌, ℕ, zero, suc, ◌<◌, ◌≤◌, Bool, true, false, List, [], ◌∷◌, length, map, filter, get_or, eqb, eq-eqb, Option, Some, None, refl, sym, ap, ◌∙◌, arith}
+use Rattle.std.proofs.Common.{◌≡◌, ℕ, ◌<◌, ◌≤◌, Bool, true, false, List, [], ◌∷◌, length, map, filter, get_or, eqb, eq-eqb, Option, Some, None, refl, sym, ap, ◌∙◌, arith}
 use Rattle.std.specs.Prelude.{bytes_eq, option_map, option_and_then, slice_get, slice_index, IfSome}
 use Rattle.std.specs.List.{All, last_or}
 use Rattle.std.specs.Option.{option_map_or}
@@ -8,6 +8,7 @@ use Rattle.std.proofs.lemmas.List.Elements.{All-filter, All-from_get_or, All-get
 use Rattle.std.proofs.lemmas.List.Folds.{list_any_at}
 use Rattle.std.proofs.lemmas.Option.{slice_get_within}
 use Rattle.std.specs.Cmp.{IsEquivalence}
+use Rattle.smap_mappings.specs.Laws.Lists.{there_is}
 use Rattle.smap_mappings.specs.Within.{IsIndexWithin, IsOriginWithin, IsWithin}
 use Rattle.smap_mappings.specs.declared.mapping.Mapping.{Mapping}
 use Rattle.smap_mappings.specs.declared.mapping.Origin.{Origin}
@@ -24,11 +25,6 @@ use Rattle.smap_compose.proofs.SameLaws.{named_equivalence, same_named, same_tex
 
 same_source_equivalence : IsEquivalence is_same_source
 same_source_equivalence = on_equiv named_source named_equivalence
-
-there_is : {X : Type 0} (xs : List X) (i : ℕ) → i < length xs → (x : X) × (slice_get xs i ≡ Some x)
-there_is [] i inside = absurd (omega arith)
-there_is (x ∷ xs) zero inside = (x, refl)
-there_is (x ∷ xs) (suc i) inside = there_is xs i (omega arith)
 
 map_alike : {X Y : Type 0} (P : X → Type 0) (f g : X → Y) → ((x : X) → P x → f x ≡ g x) → (xs : List X) → All P xs → map f xs ≡ map g xs
 map_alike P f g alike [] all = refl

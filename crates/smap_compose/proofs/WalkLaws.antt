@@ -5,6 +5,7 @@ use Rattle.std.specs.Option.{MatchOption}
 use Rattle.std.specs.List.{All, AllByRecursion, cons_option, last_or}
 use Rattle.std.proofs.lemmas.List.Elements.{recursion_from_All}
 use Rattle.std.proofs.lemmas.Bool.{cond-true, cond-false, cond_both, cases_Bool}
+use Rattle.smap_mappings.specs.Laws.Order.{tail_in_order}
 use Rattle.smap_mappings.specs.Order.{IsInOrder}
 use Rattle.smap_mappings.specs.Within.{IsOriginWithin, IsWithin}
 use Rattle.smap_mappings.specs.declared.mapping.Mapping.{Mapping}
@@ -14,7 +15,6 @@ use Rattle.smap_index.specs.Private.Search.{is_up_to, last_from, on_line, throug
 use Rattle.smap_index.proofs.AnswerLaws.{last_answers}
 use Rattle.smap_index.proofs.BoundLaws.{passes_back}
 use Rattle.smap_index.proofs.LastLaws.{last_passes, last_stops}
-use Rattle.smap_index.proofs.ListLaws.{tail_in_order}
 use Rattle.smap_index.specs.Parts.{joined}
 use Rattle.smap_index.specs.declared.answer.Answer.{Answer}
 use Rattle.smap_index.specs.declared.answer.Answer.TheVariants.{Nothing, Unmapped, Found}
@@ -126,9 +126,6 @@ pub origin_moved : (sources names : ℕ) (name : Option ℕ) (answer : Answer)
 origin_moved sources names name Nothing = refl
 origin_moved sources names name (Unmapped column) = refl
 origin_moved sources names name (Found column origin) = refl
-
-pub some_same : {A : Type 0} (a b : A) → Some a ≡ Some b → a ≡ b
-some_same a b same = cc
 
 -- ---- a walk through a map
 

@@ -1,15 +1,16 @@
 -- A map that is refused for a segment is explained by a segment of the same section with the same fault.
-use Rattle.std.proofs.Common.{◌≡◌, ℕ, suc, zero, ◌+◌, ◌≤◌, List, [], ◌∷◌, ◌++◌, length, Bool, true, false, cond, Option, Some, None, Result, Ok, Err}
+use Rattle.std.proofs.Common.{◌≡◌, ℕ, suc, zero, ◌+◌, ◌≤◌, List, [], ◌∷◌, length, Bool, true, false, cond, Option, Some, None, Result, Ok, Err}
 use Rattle.std.proofs.Common.{◌⊎◌, inl, inr, refl, sym, ap, subst, ◌∙◌, arith, ltb-false, add-one}
 use Rattle.std.specs.Prelude.{codes, nat_lt, nat_le, ◌&&◌, ok_or, option_map, option_and_then, position, slice_get, MatchOption}
 use Rattle.std.specs.Option.{option_map_or}
 use Rattle.std.specs.Result.{result_ok}
 use Rattle.std.proofs.lemmas.Bool.{cond-true, cond-false, cases_Bool, le-leb}
 use Rattle.std.proofs.lemmas.List.{length-append}
+use Rattle.std.proofs.lemmas.Option.{same_Some}
 use Rattle.serde_json.specs.Data.{Data, Items, no_items, item, Members, object}
 use Rattle.serde_json.specs.Find.{as_array, as_object, as_str}
 use Rattle.url.specs.Parts.{Parts}
-use Rattle.smap_mappings.specs.Faults.{first_fault, first_faulty, fault_of}
+use Rattle.smap_mappings.specs.Faults.{first_fault, fault_of}
 use Rattle.smap_mappings.specs.Limits.{limit, most_text_bytes}
 use Rattle.smap_mappings.specs.declared.fault.Fault.{Fault}
 use Rattle.smap_index.specs.Faults.{build_fault}
@@ -49,9 +50,6 @@ both_read : {A B : Type 0} (read : Result A MapRefusal) (next : A → Result B M
 both_read (Ok value) next last h = (value, refl, h)
 both_read (Err other) next last h = absurd (cc)
 
-inside : {A : Type 0} (x y : A) → Some x ≡ Some y → x ≡ y
-inside x y h = cc
-
 was_given : {A : Type 0} (found : Option A) (refusal : MapRefusal) (value : A) → ok_or found refusal ≡ Ok value → found ≡ Some value
 was_given None refusal value h = absurd (cc)
 was_given (Some other) refusal value h = ap Some (cc)
@@ -75,7 +73,7 @@ not_longer : {A : Type 0} (size most : ℕ) (other value : A) → cond (nat_lt m
 not_longer size most other value h =
     elim (cases_Bool (nat_lt most size)) [
       | inl over ↦ absurd (cc (cond-true (nat_lt most size) None (Some other) over))
-      | inr within ↦ (inside _ _ (sym (cond-false (nat_lt most size) None (Some other) within) ∙ h), omega (arith, ltb-false _ _ within))
+      | inr within ↦ (same_Some _ _ (sym (cond-false (nat_lt most size) None (Some other) within) ∙ h), omega (arith, ltb-false _ _ within))
     ]
 
 -- ---- what is not refused for a segment
@@ -280,10 +278,10 @@ module _ {A : Type 0} (read : Data → Option A) where
       → option_and_then (λ first. option_map (λ more. first ∷ more) others) found ≡ Some list → suc n ≡ length list
   one_counted None others n list counts h = absurd (cc)
   one_counted (Some first) None n list counts h = absurd (cc)
-  one_counted (Some first) (Some more) n list counts h = ap suc (counts more refl) ∙ ap length (inside _ _ h)
+  one_counted (Some first) (Some more) n list counts h = ap suc (counts more refl) ∙ ap length (same_Some _ _ h)
 
   length_read : (values : Items) (list : List A) → readings read values ≡ Some list → length (listed values) ≡ length list
-  length_read no_items list h = ap length (inside _ _ h)
+  length_read no_items list h = ap length (same_Some _ _ h)
   length_read (item value values) list h =
       one_counted (read value) (readings read values) (length (listed values)) list (λ more is. length_read values more is) h
 
@@ -299,7 +297,7 @@ module _ {A : Type 0} (read : Data → Option A) where
 
   counted_or_absent : (value : Option Data) (list : List A) → or_absent [] (list_of read) value ≡ Some list
       → option_map_or length (option_and_then list_in value) 0 ≡ length list
-  counted_or_absent None list h = ap length (inside _ _ h)
+  counted_or_absent None list h = ap length (same_Some _ _ h)
   counted_or_absent (Some value) list h = counted_list (as_array value) list h
 
   -- an item and the others, as they were read
@@ -308,7 +306,7 @@ module _ {A : Type 0} (read : Data → Option A) where
       → (first : A) × (more : List A) × (found ≡ Some first) × (others ≡ Some more) × (list ≡ first ∷ more)
   one_found None others list h = absurd (cc)
   one_found (Some first) None list h = absurd (cc)
-  one_found (Some first) (Some more) list h = (first, more, refl, refl, sym (inside _ _ h))
+  one_found (Some first) (Some more) list h = (first, more, refl, refl, sym (same_Some _ _ h))
 
   value_at : (value : Data) (values : Items) (first : A) (more : List A) (i : ℕ) (x : A) → read value ≡ Some first
       → ((j : ℕ) → slice_get more j ≡ Some x → (v : Data) × (slice_get (listed values) j ≡ Some v) × (read v ≡ Some x))
@@ -319,7 +317,7 @@ module _ {A : Type 0} (read : Data → Option A) where
   -- the value of which an item was read
   value_read : (values : Items) (list : List A) (i : ℕ) (x : A) → readings read values ≡ Some list → slice_get list i ≡ Some x
       → (value : Data) × (slice_get (listed values) i ≡ Some value) × (read value ≡ Some x)
-  value_read no_items list i x h at = absurd (no_item i x (ap (λ l. slice_get l i) (inside _ _ h) ∙ at))
+  value_read no_items list i x h at = absurd (no_item i x (ap (λ l. slice_get l i) (same_Some _ _ h) ∙ at))
   value_read (item value values) list i x h at =
       let parts = one_found (read value) (readings read values) list h in
       value_at value values parts.0 parts.1 i x parts.2 (λ j there. value_read values parts.1 j x parts.3 there)
@@ -384,7 +382,7 @@ one_map : (offset : Option Offset) (found : Option Members) (entry : SectionEntr
     → MapOf found entry.fields
 one_map offset None entry h = absurd (cc)
 one_map offset (Some map) entry h =
-    record { map = map; is_found = refl; has_fields = ap (λ (e : SectionEntry). e.fields) (sym (inside _ _ h)) }
+    record { map = map; is_found = refl; has_fields = ap (λ (e : SectionEntry). e.fields) (sym (same_Some _ _ h)) }
 
 map_of_members : (found : Option Members) (entry : SectionEntry) → option_and_then entry_of found ≡ Some entry
     → MapOf (option_and_then (object_at (codes "map")) found) entry.fields
@@ -418,14 +416,14 @@ only_section : (outer : Members) (i : ℕ) (fault : Fault) → FaultAt (regular_
 only_section outer zero fault at = record {
   map = outer;
   is_found = refl;
-  has_it = subst (λ (e : SectionEntry). FaultIn e.fields fault) (sym (inside _ _ at.stands)) at.has_it;
+  has_it = subst (λ (e : SectionEntry). FaultIn e.fields fault) (sym (same_Some _ _ at.stands)) at.has_it;
 }
 only_section outer (suc i) fault at = absurd (no_item i at.entry at.stands)
 
 in_sections_of : (outer : Members) (sections : Option Data) (entries : List SectionEntry) (i : ℕ) (fault : Fault)
     → entries_of sections (section_fields_of (object outer)) ≡ Some entries → FaultAt entries i fault → FaultOf (map_in outer i sections) fault
 in_sections_of outer None entries i fault h at =
-    only_section outer i fault (subst (λ list. FaultAt list i fault) (sym (inside _ _ h)) at)
+    only_section outer i fault (subst (λ list. FaultAt list i fault) (sym (same_Some _ _ h)) at)
 in_sections_of outer (Some sections) entries i fault h at =
     let value = items_read (as_array sections) entries i at.entry (few_entries (list_of entry_in sections) entries h) at.stands in
     let found = map_of_entry value.0 at.entry value.2 in
@@ -504,7 +502,7 @@ reported section mappings (Some facts) fault explanation is known fault_is = rec
   is_reported = is;
   of_section = ap (λ (seen : SegmentSeen). seen.section) known.is_reported;
   of_fault = ap (λ (seen : SegmentSeen). seen.fault) known.is_reported ∙ known.is_first.fault
-      ∙ inside _ _ (sym (ap (option_map fault_of) known.is_first.is_first) ∙ fault_is);
+      ∙ same_Some _ _ (sym (ap (option_map fault_of) known.is_first.is_first) ∙ fault_is);
 }
 
 pub faults_explained : (bytes : List ℕ) (base : Option Parts) (k section : ℕ) (fault : Fault) (explanation : Explanation)

@@ -1,7 +1,6 @@
 pub mod BeginningLaws
 pub mod FaultLaws
 pub mod FirstLaws
-pub mod PositionLaws
 pub mod RuleLaws
 pub mod SectionLaws
 pub mod StopLaws

@@ -7,6 +7,7 @@ use Rattle.std.proofs.lemmas.Iterator.Adapters.{position_from-zero}
 use Rattle.serde_json.specs.Data.{Data, Items, no_items, item, Members, object}
 use Rattle.serde_json.specs.Find.{as_array, as_str}
 use Rattle.smap_record.specs.Fields.{ignored_field}
+use Rattle.smap_record.proofs.ContentLaws.{is_some-map}
 use Rattle.smap_record.specs.Json.{list_of, number_below, or_absent, readings, text_or_null}
 use Rattle.smap_explain.specs.Rule.{asked_key, wrong_in, wrong_items, wrong_where}
 use Rattle.smap_explain.specs.Sections.{count_at, field_of, listed}
@@ -14,10 +15,6 @@ use Rattle.smap_explain.specs.declared.rule.ItemRule.TheVariants as items
 use Rattle.smap_explain.specs.declared.rule.MapKey.TheVariants.{Sources, Names, SourcesContent, IgnoreList, OldIgnoreList, SourceRoot, Mappings}
 use Rattle.smap_explain.specs.declared.rule.Rule.TheVariants as rules
 use Rattle.smap_explain.specs.declared.rule.Wrong.TheVariants as wrongs
-
-some_mapped : {A B : Type 0} (f : A → B) (o : Option A) → is_some (option_map f o) ≡ is_some o
-some_mapped f None = refl
-some_mapped f (Some x) = refl
 
 none_mapped : {A B : Type 0} (f : A → B) (o : Option A) → is_none (option_map f o) ≡ is_none o
 none_mapped f None = refl
@@ -29,7 +26,7 @@ module _ {A : Type 0} (read : Data → Option A) where
   one_read : (found : Option A) (others : Option (List A)) (i : ℕ) (later : Option ℕ) → is_some others ≡ is_none later
       → is_some (option_and_then (λ first. option_map (λ more. first ∷ more) others) found) ≡ is_none (cond (is_none found) (Some i) later)
   one_read None others i later same = refl
-  one_read (Some first) others i later same = some_mapped (λ more. first ∷ more) others ∙ same
+  one_read (Some first) others i later same = is_some-map (λ more. first ∷ more) others ∙ same
 
   each_read : (list : Items) (i : ℕ) → is_some (readings read list) ≡ is_none (position_from (λ value. is_none (read value)) i (listed list))
   each_read no_items i = refl
@@ -82,7 +79,7 @@ indices_where limit (Some value) = indices_right limit (as_array value)
 
 root_where : (value : Option Data) → is_none (wrong_where false rules.Text value) ≡ is_some (or_absent None (λ v. option_map Some (as_str v)) value)
 root_where None = refl
-root_where (Some value) = text_right (as_str value) ∙ sym (some_mapped Some (as_str value))
+root_where (Some value) = text_right (as_str value) ∙ sym (is_some-map Some (as_str value))
 
 mappings_where : (value : Option Data) → is_none (wrong_where true rules.Text value) ≡ is_some (option_and_then as_str value)
 mappings_where None = refl

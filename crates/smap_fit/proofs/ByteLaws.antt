@@ -3,6 +3,7 @@ use Rattle.std.proofs.Common.{◌≡◌, ◌<◌, ◌≤◌, ◌+◌, ℕ, Bool,
 use Rattle.std.specs.Prelude.{IfSome, encode_utf8, slice_index}
 use Rattle.std.proofs.lemmas.Bool.Decides.{nat_tests}
 use Rattle.std.proofs.lemmas.Str.{length-encode}
+use Rattle.smap_index.proofs.PositionLaws.{at_or_before}
 use Rattle.smap_mappings.specs.Order.{IsAtOrBefore}
 use Rattle.smap_mappings.specs.Range.{position_at}
 use Rattle.smap_mappings.specs.declared.mapping.Mapping.{Mapping}
@@ -12,7 +13,6 @@ use Rattle.smap_fit.specs.Owners.{bytes_if, column_after, ends_line, is_same_own
 use Rattle.smap_fit.specs.Private.Counts.{counts_after, unmapped_after}
 use Rattle.smap_fit.specs.Private.Left.{OwnsAlike}
 use Rattle.smap_fit.proofs.CountedLaws.{one_count}
-use Rattle.smap_fit.proofs.OwnerLaws.{not_before}
 
 -- the next character stands behind one
 later : (ends : Bool) (line column units : ℕ) → IsAtOrBefore (position_at line column) (position_at (cond ends (line + 1) line) (cond ends 0 (column + units)))
@@ -31,7 +31,7 @@ same_bytes owner line column a b (c ∷ cs) alike =
     let here : owner_of a line column c ≡ owner_of b line column c =
     ap (λ o. cond (is_line_end c) None o) (alike line column (inr (refl, omega arith))) in
     let rest = same_bytes owner (line_after line c cs) (column_after column c cs) a b cs
-    (λ l k past. alike l k (not_before (position_at line column) (position_at (line_after line c cs) (column_after column c cs)) (position_at l k) (behind line column c cs) past)) in
+    (λ l k past. alike l k (at_or_before (position_at line column) (position_at (line_after line c cs) (column_after column c cs)) (position_at l k) (behind line column c cs) past)) in
     ap (λ o. bytes_if (is_same_owner o owner) c + owned_bytes owner a (line_after line c cs) (column_after column c cs) cs) here
     ∙ ap (λ n. bytes_if (is_same_owner (owner_of b line column c) owner) c + n) rest
 

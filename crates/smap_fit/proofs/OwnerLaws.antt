@@ -1,11 +1,12 @@
 -- Who owns a position between the last mapping that was passed and the next.
-use Rattle.std.proofs.Common.{◌≡◌, ◌<◌, ◌≤◌, ◌⊎◌, ℕ, zero, suc, Bool, true, false, List, [], ◌∷◌, Option, Some, None, inl, inr, ⊎_elim, refl, sym, ap, ◌∙◌, arith}
-use Rattle.std.specs.Prelude.{◌==◌, nat_lt, filter, All, IfSome, IfNone, MatchOption}
+use Rattle.std.proofs.Common.{◌≡◌, ◌<◌, ◌≤◌, ◌⊎◌, ℕ, zero, suc, true, false, List, [], ◌∷◌, Option, Some, None, inl, inr, ⊎_elim, refl, sym, ap, ◌∙◌, arith}
+use Rattle.std.specs.Prelude.{filter, All, IfSome, IfNone, MatchOption}
 use Rattle.std.specs.List.{last_or}
 use Rattle.std.proofs.lemmas.Bool.{cases_Bool, cond-true, cond-false}
 use Rattle.std.proofs.lemmas.Bool.Decides.{nat_tests}
 use Rattle.std.proofs.lemmas.List.Elements.{All-cons}
 use Rattle.smap_index.specs.Answer.{answer_at_or_before, answer_of, answer_of_last, is_on_line_at_or_before}
+use Rattle.smap_index.proofs.PositionLaws.{at_or_before}
 use Rattle.smap_mappings.specs.Order.{IsAtOrBefore, IsInOrder}
 use Rattle.smap_mappings.specs.Range.{position_at, stands_before}
 use Rattle.smap_mappings.specs.Within.{IsWithin}
@@ -14,22 +15,6 @@ use Rattle.smap_mappings.specs.declared.mapping.Origin.{Origin}
 use Rattle.smap_fit.specs.Owners.{answered_source, owner_at}
 use Rattle.smap_fit.specs.Private.Left.{OwnsAlike, with_next}
 use Rattle.smap_fit.specs.Shares.{source_of}
-
--- ---- positions
-
-pub not_after : (m : Mapping) (line column : ℕ) → stands_before (position_at line column) m ≡ false → IsAtOrBefore m (position_at line column)
-not_after m line column is = by_line (nat_lt line m.line) (m.line == line) refl refl
-  where
-    by_line : (a b : Bool) → nat_lt line m.line ≡ a → (m.line == line) ≡ b → IsAtOrBefore m (position_at line column)
-    by_line true b past same = absurd (grind (arith, nat_tests))
-    by_line false true past same = inr (grind (arith, nat_tests), grind (arith, nat_tests))
-    by_line false false past same = inl (grind (arith, nat_tests))
-
-pub not_before : (a b c : Mapping) → IsAtOrBefore a b → IsAtOrBefore b c → IsAtOrBefore a c
-not_before a b c (inl x) (inl y) = inl (omega arith)
-not_before a b c (inl x) (inr y) = inl (omega (arith, y.0))
-not_before a b c (inr x) (inl y) = inl (omega (arith, x.0))
-not_before a b c (inr x) (inr y) = inr (x.0 ∙ y.0, omega (arith, x.1, y.1))
 
 -- ---- the tests of a look-up
 
@@ -137,7 +122,7 @@ module _ (line column : ℕ) where
 pub passes : (line column : ℕ) (a b : Mapping) (xs : List Mapping) → IsAtOrBefore a b → IsAtOrBefore b (position_at line column)
     → OwnsAlike line column (a ∷ b ∷ xs) (b ∷ xs)
 passes line column a b xs order before l c later =
-    one_less l c a b xs order (not_before b (position_at line column) (position_at l c) before later)
+    one_less l c a b xs order (at_or_before b (position_at line column) (position_at l c) before later)
 
 pub alike_on : (line column : ℕ) (a b c : List Mapping) → OwnsAlike line column a b → OwnsAlike line column b c → OwnsAlike line column a c
 alike_on line column a b c x y l k later = x l k later ∙ y l k later

@@ -11,8 +11,7 @@ use Rattle.smap_index.specs.Answer.{is_on_line_at_or_before, is_on_line_at_or_af
 use Rattle.smap_index.specs.Private.Search.{is_up_to, through, up_to, front_up_to, last_up_to, first_past, on_line, from_line}
 use Rattle.smap_index.proofs.BoundLaws.{passes_back}
 use Rattle.smap_index.proofs.LastLaws.{passes, stops, first_passes, first_stops}
-use Rattle.smap_index.proofs.ListLaws.{tail_in_order}
-use Rattle.smap_index.proofs.PositionLaws.{not_before, from_not_before}
+use Rattle.smap_mappings.specs.Laws.Order.{from_not_before, not_before, tail_in_order}
 
 module _ (line column : ℕ) where
   pub on_line_same : (m : Mapping) → m.line ≡ line → on_line line (Some m) ≡ Some m

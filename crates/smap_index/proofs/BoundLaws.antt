@@ -13,7 +13,8 @@ use Rattle.smap_index.specs.declared.part.Part.{Part}
 use Rattle.smap_index.specs.declared.bound.Bound.{Bound}
 use Rattle.smap_index.specs.declared.bound.Side.{Side}
 use Rattle.smap_index.specs.declared.bound.Side.TheVariants.{Before, Through}
-use Rattle.smap_index.proofs.PositionLaws.{at_or_before, before_through, before, from_before, not_before, from_not_before}
+use Rattle.smap_index.proofs.PositionLaws.{at_or_before, before_through, before, from_before}
+use Rattle.smap_mappings.specs.Laws.Order.{from_not_before, not_before}
 
 side_passes_back : (side : Side) (p a b : Mapping) → IsAtOrBefore a b → is_on_side side p b ≡ true → is_on_side side p a ≡ true
 side_passes_back Before p a b order is = from_before a p (before_through a b p order (before b p is))

@@ -17,10 +17,10 @@ use Rattle.smap_index.specs.Private.Walk.{checkpoint_at, number_after}
 use Rattle.smap_index.specs.declared.part.Part.{Part}
 use Rattle.smap_index.specs.declared.checkpoint.Checkpoint.{Checkpoint}
 use Rattle.smap_index.proofs.CheckpointLaws.{shown_state, shown_mapping}
-use Rattle.smap_index.proofs.ListLaws.{take_next}
 use Rattle.smap_index.proofs.MarkLaws.{AllZip-append}
 use Rattle.smap_index.proofs.NumberLaws.{next_remainder, front_in_order, next_number}
 use Rattle.smap_index.proofs.WalkLaws.{length-placed, placed_there, placed_next}
+use Rattle.smap_mappings.specs.Laws.Lists.{take_next}
 
 -- ---- numbers but for multiples of the interval
 

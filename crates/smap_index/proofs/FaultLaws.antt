@@ -6,11 +6,12 @@ use Rattle.std.specs.List.{HoldsAt, position_from, slice_get}
 use Rattle.std.specs.Option.{option_or, option_copied}
 use Rattle.std.specs.Bool.{then_some}
 use Rattle.std.proofs.lemmas.Bool.{cases_Bool, cases_lt, cond-true, cond-false}
-use Rattle.std.proofs.lemmas.List.{drop_more, length-drop}
+use Rattle.std.proofs.lemmas.List.{length-drop}
 use Rattle.smap_index.specs.declared.part.Part.{Part}
 use Rattle.std.proofs.lemmas.Option.{slice_get_past, slice_get-get_or}
 use Rattle.smap_index.specs.Faults.{adjacent, is_overlapping}
 use Rattle.smap_index.specs.Private.Walk.{is_overlapping_next}
+use Rattle.smap_mappings.specs.Laws.Lists.{drop_at}
 
 -- ---- places
 
@@ -22,10 +23,6 @@ none_from test i x xs none =
     (λ yes. absurd (cc (cond-true (test x) (Some i) (position_from test (i + 1) xs) yes, none)))
     (λ no. (no, sym (cond-false (test x) (Some i) (position_from test (i + 1) xs) no) ∙ none))
     (cases_Bool (test x))
-
--- the element at a place, and what is after it
-pub drop_at : {X : Type 0} (xs : List X) (i : ℕ) (x : X) → i < length xs → x ≡ get_or xs i x → drop i xs ≡ x ∷ drop (i + 1) xs
-drop_at xs i x within is = drop_more xs i x within ∙ ap (λ y. y ∷ drop (i + 1) xs) (sym is)
 
 -- one place more, which is the first that passes where none before it did
 pub first_or : (before : Option ℕ) (passes : Bool) (i : ℕ) (after : Option ℕ)

@@ -13,8 +13,8 @@ use Rattle.smap_index.specs.declared.part.Part.{Part}
 use Rattle.smap_index.specs.Parts.{placed}
 use Rattle.smap_index.specs.Marks.{mark_in, count_on_line, number_on_line, marked_segments, marks_from, is_mark_on_line, HasFewMarksOnEachLine}
 use Rattle.smap_index.proofs.CountingLaws.{as_many}
-use Rattle.smap_index.proofs.MarkLaws.{slice_get-after}
 use Rattle.smap_index.proofs.NumberLaws.{next_remainder}
+use Rattle.smap_mappings.specs.Laws.Lists.{slice_get-after}
 
 -- ---- one segment more, in numbers alone
 

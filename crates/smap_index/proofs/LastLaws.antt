@@ -1,5 +1,5 @@
 -- The last mapping at the front of a list and the first after it, one mapping of the list after another.
-use Rattle.std.proofs.Common.{◌≡◌, ℕ, ◌+◌, suc, zero, List, [], ◌∷◌, ◌++◌, take, drop, Option, Some, false, true, refl, ap, sym, ◌∙◌, arith}
+use Rattle.std.proofs.Common.{◌≡◌, ℕ, ◌+◌, suc, List, [], ◌∷◌, ◌++◌, take, drop, Option, Some, false, true, refl, ap, sym, ◌∙◌}
 use Rattle.std.proofs.Common.{one-add, ⊎_elim}
 use Rattle.std.specs.List.{slice_get, last_or}
 use Rattle.std.specs.Option.{option_or}
@@ -14,6 +14,7 @@ use Rattle.smap_index.specs.Private.Search.{is_up_to, front_up_to, last_from, fi
 use Rattle.smap_index.specs.declared.bound.Bound.{Bound}
 use Rattle.smap_index.specs.declared.part.Part.{Part}
 use Rattle.smap_index.proofs.WalkLaws.{length-placed, placed_there}
+use Rattle.smap_mappings.specs.Laws.Lists.{drop_next}
 
 module _ (bound : Bound) where
   pub passes : (m : Mapping) (xs : List Mapping) → is_up_to bound m ≡ true → front_up_to bound (m ∷ xs) ≡ suc (front_up_to bound xs)
@@ -42,11 +43,6 @@ module _ (bound : Bound) where
       (λ reached. first_passes x (xs ++ ys) reached ∙ first_of_both xs ys ∙ ap (λ o. option_or o (first_past bound ys)) (sym (first_passes x xs reached)))
       (λ past. first_stops x (xs ++ ys) past ∙ ap (λ o. option_or o (first_past bound ys)) (sym (first_stops x xs past)))
       (cases_Bool (is_up_to bound x))
-
-drop_next : {A : Type 0} (xs : List A) (n : ℕ) (m : A) → slice_get xs n ≡ Some m → drop n xs ≡ m ∷ drop (n + 1) xs
-drop_next [] n m there = absurd (cc)
-drop_next (x ∷ xs) zero m there = let e : x ≡ m = cc in ap (λ x. x ∷ xs) e
-drop_next (x ∷ xs) (suc n) m there = let more : suc n + 1 ≡ suc (n + 1) = omega arith in drop_next xs n m there ∙ ap (λ k. m ∷ drop k (x ∷ xs)) (sym more)
 
 -- the mapping of the next segment is the first that is left
 pub next_left : (part : Part) (n : ℕ) (m : Mapping) (after : Cursor) → IsNext part.text n m after

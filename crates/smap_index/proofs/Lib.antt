@@ -3,7 +3,6 @@ pub mod PositionLaws
 pub mod BoundLaws
 pub mod LastLaws
 pub mod LineLaws
-pub mod ListLaws
 pub mod NumberLaws
 pub mod CheckpointLaws
 pub mod FitLaws

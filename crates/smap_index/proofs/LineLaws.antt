@@ -1,5 +1,5 @@
 -- A walk along the bound's line finds the last mapping at the front that stands up to the bound, and the first after it.
-use Rattle.std.proofs.Common.{◌≡◌, ℕ, ◌+◌, ◌-◌, ◌<◌, ◌≤◌, suc, zero, true, false, List, [], ◌∷◌, length, take, drop, map, Option, Some, None, refl}
+use Rattle.std.proofs.Common.{◌≡◌, ℕ, ◌+◌, ◌-◌, ◌<◌, ◌≤◌, suc, zero, true, false, List, [], ◌∷◌, take, drop, map, Option, Some, None, refl}
 use Rattle.std.proofs.Common.{sym, ap, subst, ◌∙◌, arith, ⊎_elim}
 use Rattle.std.specs.Prelude.{◌⊎◌, IfSome, MatchOption, option_map}
 use Rattle.std.specs.List.{slice_get, last_or, list_any}
@@ -19,8 +19,9 @@ use Rattle.smap_index.specs.declared.bound.Bound.{Bound}
 use Rattle.smap_index.specs.declared.part.Part.{Part}
 use Rattle.smap_index.proofs.AnswerLaws.{on_line_same, on_line_other}
 use Rattle.smap_index.proofs.BoundLaws.{line_up_to, reaches_in, past_in}
-use Rattle.smap_index.proofs.ListLaws.{some_same, last_taken}
-use Rattle.smap_index.proofs.WalkLaws.{length-mappings_of, placed_there, in_range_at}
+use Rattle.smap_index.proofs.WalkLaws.{placed_there, in_range_at}
+use Rattle.smap_mappings.specs.Laws.Counts.{length-mappings_of}
+use Rattle.smap_mappings.specs.Laws.Lists.{last_taken, some_same, there_is}
 
 taken : {A : Type 0} (n : ℕ) (xs : List A) (i : ℕ) (x : A) → slice_get (take n xs) i ≡ Some x → (i < n) × (slice_get xs i ≡ Some x)
 taken zero xs i x there = absurd (cc)
@@ -60,11 +61,6 @@ module _ (bound : Bound) where
       let rest = front_is xs n (λ i less. before (suc i) (omega arith)) past in
       let counted = cond-true (is_up_to bound x) (1 + front_up_to bound xs) 0 (ap (is_up_to bound) same ∙ first.2) in
       omega (arith, rest, counted)
-
-pub there_is : {A : Type 0} (xs : List A) (i : ℕ) → i < length xs → (x : A) × (slice_get xs i ≡ Some x)
-there_is [] i less = absurd (omega arith)
-there_is (x ∷ xs) zero less = (x, refl)
-there_is (x ∷ xs) (suc i) less = there_is xs i (omega arith)
 
 module _ (part : Part) (j : ℕ) (start : Cursor) (end most : ℕ) (walk : LineWalk) (walked : IsWalked part.text j start end most walk)
     (none : list_any is_mapping_past_limit (placed part) ≡ false) where

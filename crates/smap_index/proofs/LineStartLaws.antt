@@ -19,9 +19,9 @@ use Rattle.smap_index.specs.declared.bound.Bound.{Bound}
 use Rattle.smap_index.specs.declared.checkpoint.Checkpoint.{Checkpoint}
 use Rattle.smap_index.specs.declared.part.Part.{Part}
 use Rattle.smap_index.proofs.BoundLaws.{lines_above}
-use Rattle.smap_index.proofs.ListLaws.{last_taken}
 use Rattle.smap_index.proofs.SearchLaws.{in_front, ends_front, front_within, read_mapping}
 use Rattle.smap_index.proofs.StretchLaws.{line_before}
+use Rattle.smap_mappings.specs.Laws.Lists.{last_taken}
 
 -- ---- the start of a line is the front up to it
 

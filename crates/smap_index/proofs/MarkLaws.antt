@@ -1,6 +1,6 @@
 -- A table has a checkpoint for each mark.
-use Rattle.std.proofs.Common.{◌≡◌, ℕ, ◌+◌, ◌*◌, ◌≤◌, List, [], ◌∷◌, ◌++◌, length, false, Some, refl, ap, sym, subst, ◌∙◌}
-use Rattle.std.specs.List.{AllZip, list_any, slice_get}
+use Rattle.std.proofs.Common.{◌≡◌, ℕ, ◌+◌, ◌*◌, ◌≤◌, List, [], ◌∷◌, ◌++◌, length, false, refl, ap, sym, subst, ◌∙◌}
+use Rattle.std.specs.List.{AllZip, list_any}
 use Rattle.smap_mappings.specs.Order.{IsInOrder}
 use Rattle.smap_index.specs.Parts.{joined, bytes_in}
 use Rattle.smap_mappings.specs.Range.{is_mapping_past_limit}
@@ -17,11 +17,6 @@ AllZip-append R [] xs' [] ys' front rest = rest
 AllZip-append R [] xs' (y ∷ ys) ys' front rest = absurd front
 AllZip-append R (x ∷ xs) xs' [] ys' front rest = absurd front
 AllZip-append R (x ∷ xs) xs' (y ∷ ys) ys' front rest = (front.0, AllZip-append R xs xs' ys ys' front.1 rest)
-
--- the element after a front
-pub slice_get-after : {A : Type 0} (front : List A) (x : A) (after : List A) → slice_get (front ++ x ∷ after) (length front) ≡ Some x
-slice_get-after [] x after = refl
-slice_get-after (a ∷ front) x after = slice_get-after front x after
 
 -- ---- an index that is built
 

@@ -8,7 +8,7 @@ use Rattle.std.proofs.lemmas.List.Elements.{filter-append}
 use Rattle.smap_mappings.specs.Order.{IsAtOrBefore, IsInOrder}
 use Rattle.smap_mappings.specs.declared.mapping.Mapping.{Mapping}
 use Rattle.smap_index.specs.Marks.{number_on_line}
-use Rattle.smap_index.proofs.ListLaws.{tail_in_order}
+use Rattle.smap_mappings.specs.Laws.Order.{line_at_most, tail_in_order}
 
 -- ---- remainders
 
@@ -35,9 +35,6 @@ front_in_order (a ∷ b ∷ xs) ys order = (order.0, front_in_order (b ∷ xs) y
 pub back_in_order : (xs ys : List Mapping) → IsInOrder (xs ++ ys) → IsInOrder ys
 back_in_order [] ys order = order
 back_in_order (a ∷ xs) ys order = back_in_order xs ys (tail_in_order a (xs ++ ys) order)
-
-pub line_at_most : (a b : Mapping) → IsAtOrBefore a b → a.line ≤ b.line
-line_at_most a b order = ⊎_elim (λ (above : a.line < b.line). omega arith) (λ same. omega (arith, same.0)) order
 
 pub line_up_to : (a : Mapping) (before : List Mapping) (m : Mapping) → IsInOrder (a ∷ before ++ m ∷ []) → a.line ≤ m.line
 line_up_to a [] m order = line_at_most a m order.0

@@ -17,8 +17,9 @@ use Rattle.smap_index.specs.Faults.{adjacent, is_out_of_order, is_after_offset, 
 use Rattle.smap_index.specs.Position.{offset_of}
 use Rattle.smap_index.specs.Private.Walk.{position_of, IsTextInOrder}
 use Rattle.smap_index.proofs.FaultLaws.{none_from}
-use Rattle.smap_index.proofs.PositionLaws.{at_or_before, before_from, before, from_before, not_before}
-use Rattle.smap_index.proofs.WalkLaws.{length-mappings_of}
+use Rattle.smap_index.proofs.PositionLaws.{at_or_before, before_from, before, from_before}
+use Rattle.smap_mappings.specs.Laws.Counts.{length-mappings_of}
+use Rattle.smap_mappings.specs.Laws.Order.{not_before}
 
 -- ---- positions beside an offset
 

@@ -28,9 +28,9 @@ use Rattle.smap_index.specs.Private.Walk.{number_after}
 use Rattle.smap_index.specs.declared.checkpoint.Checkpoint.{Checkpoint}
 use Rattle.smap_index.specs.declared.part.Part.{Part}
 use Rattle.smap_index.proofs.CountingLaws.{IsCounting, IsMarked, counting_more, marked_segments-push, number_at, ordered_at}
-use Rattle.smap_index.proofs.LineLaws.{there_is}
-use Rattle.smap_index.proofs.ListLaws.{take_next, last_taken}
-use Rattle.smap_index.proofs.WalkLaws.{length-mappings_of, placed_there}
+use Rattle.smap_index.proofs.WalkLaws.{placed_there}
+use Rattle.smap_mappings.specs.Laws.Counts.{length-mappings_of}
+use Rattle.smap_mappings.specs.Laws.Lists.{last_taken, take_next, there_is}
 
 same_natural : {m n : ℕ} → pos m ≡ pos n → m ≡ n
 same_natural same = cc

@@ -1,7 +1,7 @@
 -- The order of positions, by line and then by column, as a test and as a fact.
-use Rattle.std.proofs.Common.{◌≡◌, ◌<◌, ◌≤◌, true, false, sym, ◌∙◌, arith, ⊎_elim, inl, inr, ◌⊎◌}
-use Rattle.std.proofs.lemmas.Bool.{cases_Bool, cases_lt, ltb-true, ltb-false, lt-ltb, eqb-true, eqb-false, eq-eqb, or_cases, or_left, or_right}
-use Rattle.std.proofs.lemmas.Bool.{or_parts, and_parts, and_cases, and_from}
+use Rattle.std.proofs.Common.{◌≡◌, ◌<◌, ◌≤◌, true, ◌∙◌, arith, ⊎_elim, inl, inr, ◌⊎◌}
+use Rattle.std.proofs.lemmas.Bool.{ltb-true, lt-ltb, eqb-true, eq-eqb, or_cases, or_left, or_right}
+use Rattle.std.proofs.lemmas.Bool.{and_parts, and_from}
 use Rattle.smap_mappings.specs.Order.{IsAtOrBefore}
 use Rattle.smap_mappings.specs.Range.{stands_before}
 use Rattle.smap_mappings.specs.declared.mapping.Mapping.{Mapping}
@@ -47,26 +47,3 @@ module _ (a b : Mapping) where
       (λ above. or_left _ _ (lt-ltb _ _ above))
       (λ same. or_right _ _ (and_from _ _ (eq-eqb _ _ same.0) (lt-ltb _ _ same.1)))
       is
-
-  pub not_before : stands_before b a ≡ false → IsAtOrBefore a b
-  not_before is =
-      let tests = or_parts _ _ is in
-      let line = ltb-false b.line a.line tests.0 in
-      ⊎_elim
-      (λ (above : a.line < b.line). inl above)
-      (λ (least : b.line ≤ a.line).
-      let same : b.line ≡ a.line = omega arith in
-      ⊎_elim (λ other. absurd (eqb-false _ _ other same)) (λ column. inr (sym same, ltb-false b.column a.column column)) (and_cases _ _ tests.1))
-      (cases_lt a.line b.line)
-
-  pub from_not_before : IsAtOrBefore a b → stands_before b a ≡ false
-  from_not_before order =
-      ⊎_elim
-      (λ yes.
-      absurd
-      (⊎_elim
-      (λ (above : a.line < b.line). ⊎_elim (λ (below : b.line < a.line). omega arith) (λ same. omega (arith, same.0)) (before b a yes))
-      (λ equal. ⊎_elim (λ (below : b.line < a.line). omega (arith, equal.0)) (λ same. omega (arith, equal.1, same.1)) (before b a yes))
-      order))
-      (λ no. no)
-      (cases_Bool (stands_before b a))

@@ -19,12 +19,12 @@ use Rattle.smap_index.specs.declared.bound.Bound.{Bound}
 use Rattle.smap_index.specs.declared.part.Part.{Part}
 use Rattle.smap_index.specs.declared.checkpoint.Checkpoint.{Checkpoint}
 use Rattle.smap_index.proofs.BoundLaws.{line_up_to, lines_above, line_on, same_side, past_on}
-use Rattle.smap_index.proofs.ListLaws.{some_same, tail_in_order}
 use Rattle.smap_index.proofs.LastLaws.{passes, stops, last_passes, last_stops, first_passes, first_stops, first_of_both}
-use Rattle.smap_index.proofs.MarkLaws.{slice_get-after}
 use Rattle.smap_index.proofs.NumberLaws.{back_in_order}
 use Rattle.smap_index.proofs.SearchLaws.{head_passes}
 use Rattle.smap_index.proofs.Tiles.{IsTile, IsTiled}
+use Rattle.smap_mappings.specs.Laws.Lists.{slice_get-after, some_same}
+use Rattle.smap_mappings.specs.Laws.Order.{tail_in_order}
 
 -- ---- lists
 

@@ -11,7 +11,7 @@ use Rattle.smap_index.specs.Private.Search.{mappings_at, is_up_to, front_up_to}
 use Rattle.smap_index.specs.declared.bound.Bound.{Bound}
 use Rattle.smap_index.specs.declared.checkpoint.Checkpoint.{Checkpoint}
 use Rattle.smap_index.proofs.BoundLaws.{passes_back}
-use Rattle.smap_index.proofs.ListLaws.{tail_in_order}
+use Rattle.smap_mappings.specs.Laws.Order.{tail_in_order}
 
 module _ (bound : Bound) where
   -- ---- the front

@@ -13,11 +13,11 @@ use Rattle.smap_index.specs.Marks.{Mark, mark_in, number_on_line, marked_segment
 use Rattle.smap_index.specs.Private.Search.{mappings_at}
 use Rattle.smap_index.specs.declared.part.Part.{Part}
 use Rattle.smap_index.specs.declared.checkpoint.Checkpoint.{Checkpoint}
-use Rattle.smap_index.proofs.ListLaws.{tail_in_order}
-use Rattle.smap_index.proofs.MarkLaws.{slice_get-after}
 use Rattle.smap_index.proofs.PositionLaws.{at_or_before}
 use Rattle.smap_index.proofs.NumberLaws.{next_remainder, front_in_order, back_in_order, next_number}
 use Rattle.smap_index.proofs.Tiles.{IsTile, IsTiled}
+use Rattle.smap_mappings.specs.Laws.Lists.{slice_get-after}
+use Rattle.smap_mappings.specs.Laws.Order.{tail_in_order}
 
 -- ---- the table is in order
 

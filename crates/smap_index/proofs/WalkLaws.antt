@@ -1,5 +1,5 @@
 -- A walk through a text takes one mapping more at each step.
-use Rattle.std.proofs.Common.{◌≡◌, ℕ, ◌+◌, List, [], ◌∷◌, ◌++◌, ◌||◌, Bool, true, false, Option, Some, None, take, suc, zero, length, refl}
+use Rattle.std.proofs.Common.{◌≡◌, ℕ, ◌+◌, List, [], ◌∷◌, ◌++◌, ◌||◌, Bool, true, false, Some, None, take, suc, zero, length, refl}
 use Rattle.std.proofs.Common.{arith, sym, ap, subst, ◌∙◌}
 use Rattle.std.specs.Prelude.{option_map, IfSome}
 use Rattle.std.specs.List.{last_or, list_any, slice_get}
@@ -8,23 +8,15 @@ use Rattle.std.proofs.lemmas.List.{length-map, take_all}
 use Rattle.std.proofs.lemmas.List.Folds.{list_any-append}
 use Rattle.std.proofs.lemmas.Option.{slice_get-map}
 use Rattle.smap_mappings.specs.Counts.{segment_count}
-use Rattle.smap_mappings.specs.Segments.{segments_of}
-use Rattle.smap_mappings.specs.Mappings.{Delta, delta_of, deltas_of, mappings_after, mappings_of}
+use Rattle.smap_mappings.specs.Mappings.{mappings_of}
 use Rattle.smap_mappings.specs.State.{IsAfter, IsMappingAt, IsNext}
 use Rattle.smap_mappings.specs.declared.cursor.Cursor.{Cursor}
 use Rattle.smap_mappings.specs.declared.mapping.Mapping.{Mapping}
 use Rattle.smap_index.specs.Parts.{placed_mapping, placed}
 use Rattle.smap_mappings.specs.Range.{is_mapping_past_limit}
 use Rattle.smap_index.specs.declared.part.Part.{Part}
-use Rattle.smap_index.proofs.ListLaws.{take_next}
-
-length-mappings_after : (before deltas : List Delta) → length (mappings_after before deltas) ≡ length deltas
-length-mappings_after before [] = refl
-length-mappings_after before (delta ∷ deltas) = ap suc (length-mappings_after (before ++ delta ∷ []) deltas)
-
-pub length-mappings_of : (text : List ℕ) → length (mappings_of text) ≡ segment_count text
-unfolding mappings_of deltas_of
-length-mappings_of text = length-mappings_after [] (deltas_of text) ∙ length-map (segments_of text) delta_of
+use Rattle.smap_mappings.specs.Laws.Lists.{last_or-push, take_next}
+use Rattle.smap_mappings.specs.Laws.Counts.{length-mappings_of}
 
 pub length-placed : (part : Part) → length (placed part) ≡ segment_count part.text
 unfolding placed
@@ -41,10 +33,6 @@ all_taken text j all = take_all j (mappings_of text) (omega (arith, length-mappi
 
 pub all_placed : (part : Part) (j : ℕ) → j ≡ segment_count part.text → take j (placed part) ≡ placed part
 all_placed part j all = take_all j (placed part) (omega (arith, length-placed part))
-
-last_or-push : (o : Option Mapping) (xs : List Mapping) (m : Mapping) → last_or o (xs ++ m ∷ []) ≡ Some m
-last_or-push o [] m = refl
-last_or-push o (x ∷ xs) m = last_or-push (Some x) xs m
 
 -- before the first mapping there is no last
 pub last_none : (j : ℕ) (list : List Mapping) (state : Cursor) → j ≡ 0 → IfSome (last_or None (take j list)) (IsMappingAt state)

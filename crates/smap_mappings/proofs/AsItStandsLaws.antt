@@ -25,14 +25,16 @@ use Rattle.smap_mappings.proofs.SegmentLaws.{segments_at_nothing, segments_after
 use Rattle.smap_mappings.proofs.JoinLaws.{join_of_fields}
 use Rattle.smap_mappings.proofs.DeltaLaws.{values-push, all_push}
 use Rattle.smap_mappings.proofs.Ranges.{in_range_natural, InRange, each_in_range}
-use Rattle.smap_mappings.proofs.BeforeLaws.{last-push, AreFaultless, faultless, line_before, lines_rise}
+use Rattle.smap_mappings.proofs.BeforeLaws.{AreFaultless, faultless, line_before, lines_rise}
 use Rattle.smap_mappings.proofs.CanonicalSegments.{delta_of_mapping, at_nothing, at_line_end, at_comma}
 use Rattle.smap_mappings.proofs.CanonicalLaws.{values_before, AreAfter, none_are_after, after-push}
-use Rattle.smap_mappings.proofs.ListFaultLaws.{within_limit, within_is_faultless}
+use Rattle.smap_mappings.proofs.ListFaultLaws.{within_is_faultless}
 use Rattle.smap_mappings.proofs.OrderLaws.{mappings_in_order}
 use Rattle.smap_mappings.proofs.WithinLaws.{mappings_within}
 use Rattle.smap_mappings.proofs.NeededLaws.{AreNeeded, joined_back}
 use Rattle.smap_mappings.proofs.CutEndLaws.{kept_segment, no_line_ends}
+use Rattle.smap_mappings.specs.Laws.Range.{within_limit}
+use Rattle.smap_mappings.specs.Laws.Lists.{last_or-push}
 
 -- ---- the text of segments
 
@@ -135,7 +137,7 @@ module _ (sources names : ℕ) where
       let rises = lines_rise last mapping good.0 in
       let same = delta_back before earlier delta are (line_rises before earlier delta rises) parts.0 in
       let are_now : AreAfter now (earlier ++ delta ∷ []) = subst (λ d. AreAfter now (earlier ++ d ∷ [])) same (after-push before earlier mapping are rises) in
-      let is_last = last-push None before mapping in
+      let is_last = last_or-push None before mapping in
       let good_now = subst (λ o. AreFaultless o (mappings_after (earlier ++ delta ∷ []) deltas)) (sym is_last) good.2 in
       let gap = gap_same last mapping ∙ ap (λ (d : Delta). gap_of (line_of last) d.line) same in
       let bytes = ap (λ (d : Delta). concat (map shortest_spelling d.fields)) same in
@@ -307,7 +309,7 @@ module _ (text : List ℕ) (more : IsBack text) where
         after = read.after;
         inside = all_push (λ b. is_inside b ≡ true) run byte read.inside inside;
         needed = needed_push (gap_end earlier line) run before byte read.needed read.last (not-true _ parts.0);
-        last = last-push (Some (gap_end earlier line)) run byte;
+        last = last_or-push (Some (gap_end earlier line)) run byte;
       }) parts.1 (subst (λ t. Known t line place) (sym e) known)
       ∙ ap (λ t. without_line_ends (gap_of earlier line ++ t)) e
 

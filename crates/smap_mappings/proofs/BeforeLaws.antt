@@ -16,6 +16,7 @@ use Rattle.smap_mappings.specs.Encode.{is_not_sorted, list_fault_from, list_faul
 use Rattle.smap_mappings.specs.declared.canonical.EncodeRefusal.{EncodeRefusal}
 use Rattle.smap_mappings.specs.declared.mapping.Mapping.{Mapping}
 use Rattle.smap_mappings.specs.declared.mapping.Origin.{Origin}
+use Rattle.smap_mappings.specs.Laws.Lists.{last_or-push}
 
 -- ---- mappings by their number of fields
 
@@ -43,15 +44,11 @@ by_fields P one four five mapping = by_origin mapping.origin
 
 -- ---- the last ones of some mappings
 
-pub last-push : {A : Type 0} (o : Option A) (xs : List A) (x : A) → last_or o (xs ++ x ∷ []) ≡ Some x
-last-push o [] x = refl
-last-push o (y ∷ xs) x = last-push (Some y) xs x
-
 module _ {A : Type 0} (f : Mapping → Option A) (before : List Mapping) (mapping : Mapping) where
   last_given : (a : A) → f mapping ≡ Some a → last_or None (filter_map f (before ++ mapping ∷ [])) ≡ Some a
   last_given a is =
       ap (last_or None) (filter_map-append f before (mapping ∷ []) ∙ ap (λ o. filter_map f before ++ cons_option o []) is)
-      ∙ last-push None (filter_map f before) a
+      ∙ last_or-push None (filter_map f before) a
 
   last_kept : f mapping ≡ None → last_or None (filter_map f (before ++ mapping ∷ [])) ≡ last_or None (filter_map f before)
   last_kept is =
@@ -73,11 +70,11 @@ name_kept before mapping is = ap (λ o. unwrap_or o 0) (last_kept name_of_mappin
 -- the column on a mapping's own line, and on a later one
 pub column_given : (before : List Mapping) (mapping : Mapping) → column_before (last_or None (before ++ mapping ∷ [])) mapping.line ≡ mapping.column
 column_given before mapping =
-    ap (λ o. column_before o mapping.line) (last-push None before mapping) ∙ cond-true _ _ _ (eq-eqb mapping.line mapping.line refl)
+    ap (λ o. column_before o mapping.line) (last_or-push None before mapping) ∙ cond-true _ _ _ (eq-eqb mapping.line mapping.line refl)
 
 pub column_later : (before : List Mapping) (mapping : Mapping) (line : ℕ) → mapping.line < line → column_before (last_or None (before ++ mapping ∷ [])) line ≡ 0
 column_later before mapping line later =
-    ap (λ o. column_before o line) (last-push None before mapping) ∙ cond-false _ _ _ (ne_eqb mapping.line line (λ e. absurd (omega arith)))
+    ap (λ o. column_before o line) (last_or-push None before mapping) ∙ cond-false _ _ _ (ne_eqb mapping.line line (λ e. absurd (omega arith)))
 
 -- ---- lists that are encoded
 
@@ -169,8 +166,8 @@ module _ (before : List Mapping) (are : AreSmall before) where
   column_stays_small : (mapping : Mapping) → mapping.column ≤ limit → (line : ℕ) → column_before (last_or None (before ++ mapping ∷ [])) line ≤ limit
   column_stays_small mapping small line =
       ⊎_elim
-      (λ (same : mapping.line ≡ line). omega (arith, ap (λ o. column_before o line) (last-push None before mapping) ∙ cond-true _ _ _ (eq-eqb _ _ same)))
-      (λ (other : mapping.line ≡ line → ⊥). omega (arith, ap (λ o. column_before o line) (last-push None before mapping) ∙ cond-false _ _ _ (ne_eqb _ _ other)))
+      (λ (same : mapping.line ≡ line). omega (arith, ap (λ o. column_before o line) (last_or-push None before mapping) ∙ cond-true _ _ _ (eq-eqb _ _ same)))
+      (λ (other : mapping.line ≡ line → ⊥). omega (arith, ap (λ o. column_before o line) (last_or-push None before mapping) ∙ cond-false _ _ _ (ne_eqb _ _ other)))
       (cases_eq mapping.line line)
 
   pub small-push : (mapping : Mapping) → is_mapping_past_limit mapping ≡ false → AreSmall (before ++ mapping ∷ [])

@@ -19,10 +19,11 @@ use Rattle.smap_mappings.specs.Range.{is_mapping_past_limit}
 use Rattle.smap_mappings.specs.declared.mapping.Mapping.{Mapping}
 use Rattle.smap_mappings.specs.declared.mapping.Origin.{Origin}
 use Rattle.smap_mappings.proofs.DeltaLaws.{values-push, none_on_line, below_line, all_push}
-use Rattle.smap_mappings.proofs.BeforeLaws.{unmapped, mapped, by_fields, last-push, origin_given, origin_kept, name_given, name_kept, column_given}
+use Rattle.smap_mappings.proofs.BeforeLaws.{unmapped, mapped, by_fields, origin_given, origin_kept, name_given, name_kept, column_given}
 use Rattle.smap_mappings.proofs.BeforeLaws.{column_later, AreFaultless, faultless, line_before, lines_rise, columns_rise, AreSmall, none_are_small}
 use Rattle.smap_mappings.proofs.BeforeLaws.{small-push}
 use Rattle.smap_mappings.proofs.CanonicalSegments.{delta_of_mapping, deltas_of_mappings, canonical_deltas}
+use Rattle.smap_mappings.specs.Laws.Lists.{last_or-push}
 
 -- ---- the running values
 
@@ -138,7 +139,7 @@ module _ (before : List Mapping) (deltas : List Delta) (mapping : Mapping) (are 
   after-push =
       let now = before ++ mapping ∷ [] in
       let all = deltas ++ delta_of_mapping before mapping ∷ [] in
-      let line_is : mapping.line ≡ line_before (last_or None now) = ap line_before (sym (last-push None before mapping)) in
+      let line_is : mapping.line ≡ line_before (last_or None now) = ap line_before (sym (last_or-push None before mapping)) in
       record {
         lines = subst (λ line. AllByRecursion (λ (delta : Delta). delta.line ≤ line) all) line_is lines_here;
         values = λ line later. ⊎_elim
@@ -191,7 +192,7 @@ decodes before (mapping ∷ mappings) deltas good are =
     let now = before ++ mapping ∷ [] in
     let delta = delta_of_mapping before mapping in
     let rises = lines_rise (last_or None before) mapping good.0 in
-    let good_after = subst (λ o. AreFaultless o mappings) (sym (last-push None before mapping)) good.2 in
+    let good_after = subst (λ o. AreFaultless o mappings) (sym (last_or-push None before mapping)) good.2 in
     ap (λ first. first ∷ mappings_after (deltas ++ delta ∷ []) (deltas_of_mappings now mappings)) (gives_mapping before deltas mapping are rises)
     ∙ ap (λ others. mapping ∷ others) (decodes now mappings (deltas ++ delta ∷ []) good_after (after-push before deltas mapping are rises))
 
@@ -278,7 +279,7 @@ module _ (sources names : ℕ) where
   accepts before (mapping ∷ mappings) deltas good are small within =
       let now = before ++ mapping ∷ [] in
       let delta = delta_of_mapping before mapping in
-      let good_after = subst (λ o. AreFaultless o mappings) (sym (last-push None before mapping)) good.2 in
+      let good_after = subst (λ o. AreFaultless o mappings) (sym (last_or-push None before mapping)) good.2 in
       and_from _ _ (accepts_mapping before deltas mapping are small good.0 good.1 within.0)
       (accepts now mappings (deltas ++ delta ∷ []) good_after
       (after-push before deltas mapping are (lines_rise (last_or None before) mapping good.0)) (small-push before small mapping good.1) within.1)

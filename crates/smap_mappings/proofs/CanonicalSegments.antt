@@ -19,7 +19,8 @@ use Rattle.smap_mappings.proofs.FieldLaws.{digit_is_inside}
 use Rattle.smap_mappings.proofs.JoinLaws.{fields_of_join}
 use Rattle.smap_mappings.proofs.DeltaLaws.{all_append}
 use Rattle.smap_mappings.proofs.ShortestLaws.{shortest_spells, shortest_digits, shortest_is_nonempty}
-use Rattle.smap_mappings.proofs.BeforeLaws.{last-push, AreFaultless, faultless, line_before, lines_rise, AreSmall, none_are_small, small-push, fields_small}
+use Rattle.smap_mappings.proofs.BeforeLaws.{AreFaultless, faultless, line_before, lines_rise, AreSmall, none_are_small, small-push, fields_small}
+use Rattle.smap_mappings.specs.Laws.Lists.{last_or-push}
 
 -- the line and fields of the segment of a mapping that stands after these
 abbrev pub delta_of_mapping : List Mapping → Mapping → Delta
@@ -104,7 +105,7 @@ after_segment before mapping (next ∷ mappings) good =
     let now = before ++ mapping ∷ [] in
     let bytes = segment_bytes now next in
     let text = canonical_after (now ++ next ∷ []) mappings in
-    subst (λ o. AfterRun (separators o next ++ bytes ++ text)) (sym (last-push None before mapping))
+    subst (λ o. AfterRun (separators o next ++ bytes ++ text)) (sym (last_or-push None before mapping))
     (subst AfterRun (sym (append_assoc (separators (Some mapping) next) bytes text))
     (at_separators mapping next (bytes ++ text) (lines_rise (Some mapping) next good.0)))
 
@@ -158,7 +159,7 @@ deltas_after before (mapping ∷ mappings) place good small =
     let bytes = segment_bytes before mapping in
     let text = canonical_after now mappings in
     let over = over_separators earlier mapping place (bytes ++ text) (lines_rise earlier mapping good.0) in
-    let is_last = last-push None before mapping in
+    let is_last = last_or-push None before mapping in
     let line_is : mapping.line ≡ line_before (last_or None now) = ap line_before (sym is_last) in
     ap (λ rest. map delta_of (segments_from (line_before earlier) place rest)) (append_assoc (separators earlier mapping) bytes text)
     ∙ ap (map delta_of) over.1

@@ -1,12 +1,12 @@
 -- A text of n bytes has at most (n + 1) / 2 segments, and as many mappings as segments.
 use Rattle.std.proofs.Common.{◌≡◌, ℕ, ◌+◌, ◌*◌, ◌≤◌, suc, zero, Bool, List, [], ◌∷◌, ◌++◌, length, filter, refl, sym, ap, ◌∙◌, arith, ⊎_elim}
-use Rattle.std.proofs.Common.{length-append, add-one, take, Some}
+use Rattle.std.proofs.Common.{length-append, Some}
 use Rattle.std.specs.List.{slice_split, onto_first, slice_get}
 use Rattle.std.proofs.lemmas.Bool.{cases_Bool, cond-true, cond-false}
 use Rattle.std.proofs.lemmas.List.{length-map, take_all}
 use Rattle.smap_mappings.specs.Segments.{is_nonempty, is_comma, is_semicolon, parts_from, segment_on, segments_on, segments_of_lines, segments_from}
 use Rattle.smap_mappings.specs.Segments.{segments_of}
-use Rattle.smap_mappings.specs.Mappings.{Delta, delta_of, deltas_of, mappings_after, mappings_of}
+use Rattle.smap_mappings.specs.Mappings.{mappings_of}
 use Rattle.smap_mappings.specs.Counts.{segment_count}
 use Rattle.smap_mappings.specs.State.{IsNext}
 use Rattle.smap_mappings.proofs.Checking.{DecodesUpTo}
@@ -14,6 +14,8 @@ use Rattle.smap_mappings.specs.declared.cursor.Cursor.{Cursor}
 use Rattle.smap_mappings.specs.declared.cursor.TheConstants.Cursor.{START}
 use Rattle.smap_mappings.specs.declared.mapping.Mapping.{Mapping}
 use Rattle.smap_mappings.proofs.CheckLaws.{after_none}
+use Rattle.smap_mappings.specs.Laws.Counts.{length-mappings_of}
+use Rattle.smap_mappings.specs.Laws.Lists.{take_next}
 
 -- the bytes of all parts, with one more for each part
 spread : List (List ℕ) → ℕ
@@ -65,14 +67,6 @@ few_segments text = omega (arith, few_on_lines 0 0 (slice_split is_semicolon tex
 
 -- ---- as many mappings as segments
 
-length-mappings_after : (before deltas : List Delta) → length (mappings_after before deltas) ≡ length deltas
-length-mappings_after before [] = refl
-length-mappings_after before (delta ∷ deltas) = ap suc (length-mappings_after (before ++ delta ∷ []) deltas)
-
-pub length-mappings_of : (text : List ℕ) → length (mappings_of text) ≡ segment_count text
-unfolding mappings_of deltas_of
-length-mappings_of text = length-mappings_after [] (deltas_of text) ∙ length-map (segments_of text) delta_of
-
 past_end : {X : Type 0} (xs : List X) (j : ℕ) (x : X) → j ≡ length xs → slice_get xs j ≡ Some x → ⊥
 past_end [] j x all there = absurd (cc)
 past_end (y ∷ xs) zero x all there = omega arith
@@ -85,18 +79,12 @@ none_past text j mapping all there = past_end (mappings_of text) j mapping (all 
 pub decodes_start : (text : List ℕ) → DecodesUpTo text START []
 decodes_start text = record { j = 0; after = after_none text; list_is = refl }
 
-take_next : {X : Type 0} (j : ℕ) (xs : List X) (x : X) → slice_get xs j ≡ Some x → take (suc j) xs ≡ take j xs ++ x ∷ []
-take_next zero [] x is = absurd (cc)
-take_next zero (y ∷ xs) x is = let e : y ≡ x = cc in ap (λ z. z ∷ []) e
-take_next (suc j) [] x is = absurd (cc)
-take_next (suc j) (y ∷ xs) x is = ap (λ zs. y ∷ zs) (take_next j xs x is)
-
 pub decodes_more : (text : List ℕ) (cursor after : Cursor) (list list' : List Mapping) (mapping : Mapping)
     (decodes : DecodesUpTo text cursor list) → IsNext text decodes.j mapping after → list' ≡ list ++ mapping ∷ [] → DecodesUpTo text after list'
 decodes_more text cursor after list list' mapping decodes next pushed = record {
   j = decodes.j + 1;
   after = next.after;
-  list_is = pushed ∙ ap (λ l. l ++ mapping ∷ []) decodes.list_is ∙ sym (rw add-one (take_next decodes.j (mappings_of text) mapping next.mapping_is));
+  list_is = pushed ∙ ap (λ l. l ++ mapping ∷ []) decodes.list_is ∙ sym (take_next (mappings_of text) decodes.j mapping next.mapping_is);
 }
 
 pub decodes_all : (text : List ℕ) (cursor : Cursor) (list : List Mapping) (decodes : DecodesUpTo text cursor list)

@@ -12,7 +12,7 @@ use Rattle.smap_mappings.specs.Encode.{is_not_sorted, mapping_fault, list_fault_
 use Rattle.smap_mappings.specs.declared.canonical.EncodeRefusal.{EncodeRefusal}
 use Rattle.smap_mappings.specs.declared.canonical.EncodeRefusal.TheVariants.{NotSorted, OutOfRange, TooLong}
 use Rattle.smap_mappings.specs.declared.mapping.Mapping.{Mapping}
-use Rattle.smap_mappings.proofs.BeforeLaws.{last-push}
+use Rattle.smap_mappings.specs.Laws.Lists.{last_or-push}
 
 first_none : (first others : Option EncodeRefusal) → option_or first others ≡ None → first ≡ None
 first_none None others none = refl
@@ -56,7 +56,7 @@ module _ (list : List Mapping) (i : ℕ) (d : Mapping) (within : i < length list
       → list_fault_from i earlier (drop i list) ≡ list_fault_from (i + 1) (last_or None (take (i + 1) list)) (drop (i + 1) list)
   passed_here none =
       after ∙ ap (λ first. option_or first (list_fault_from (i + 1) (Some m) (drop (i + 1) list))) none
-      ∙ ap (λ last. list_fault_from (i + 1) last (drop (i + 1) list)) (sym (last-push None (take i list) m) ∙ ap (last_or None) one_more_taken)
+      ∙ ap (λ last. list_fault_from (i + 1) last (drop (i + 1) list)) (sym (last_or-push None (take i list) m) ∙ ap (last_or None) one_more_taken)
 
   pub none_here : list_fault_from i earlier (drop i list) ≡ None → mapping_fault i earlier m ≡ None
   none_here none = first_none (mapping_fault i earlier m) (list_fault_from (i + 1) (Some m) (drop (i + 1) list)) (sym after ∙ none)
@@ -83,7 +83,3 @@ reported list o none is =
     let P : Option ℕ → Type 0 = λ o. MatchResult (ok_or o TooLong) (λ _. encode_fault list ≡ None) (λ refusal. encode_fault list ≡ Some refusal) in
     subst P (sym is) (length_or_refusal (is_text_too_long list) (length (canonical_text list)) (encode_fault list)
     (ap (λ first. option_or first (cond (is_text_too_long list) (Some TooLong) None)) none))
-
-pub no_list_fault : (list : List Mapping) → encode_fault list ≡ None → list_fault list ≡ None
-unfolding encode_fault
-no_list_fault list none = first_none (list_fault list) (cond (is_text_too_long list) (Some TooLong) None) none

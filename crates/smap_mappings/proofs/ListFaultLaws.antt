@@ -1,47 +1,28 @@
 -- A list of mappings has no fault exactly where it is in order and no number of it is past the limit.
-use Rattle.std.proofs.Common.{◌≡◌, ℕ, ◌+◌, ◌<◌, ◌≤◌, Bool, true, false, cond, eqb, ltb, List, [], ◌∷◌, length, Option, Some, None, refl, arith}
-use Rattle.std.proofs.Common.{le-ltb, ltb-false, ne_eqb, ⊎_elim, inl, inr}
-use Rattle.std.specs.List.{All, AllByRecursion, list_any}
+use Rattle.std.proofs.Common.{◌≡◌, ℕ, ◌+◌, ◌≤◌, Bool, true, false, cond, List, [], ◌∷◌, length, Option, Some, None, refl}
+use Rattle.std.proofs.Common.{ltb-false}
+use Rattle.std.specs.List.{All, list_any}
 use Rattle.std.specs.Option.{option_or}
-use Rattle.std.proofs.lemmas.Bool.{eqb-false, or_from, or_parts, and_left, and_right, and_cases, cases_eq}
+use Rattle.std.proofs.lemmas.Bool.{or_from, or_parts}
 use Rattle.std.proofs.lemmas.List.Elements.{recursion_from_All}
 use Rattle.smap_mappings.specs.Limits.{limit, most_text_bytes}
-use Rattle.smap_mappings.specs.Order.{IsAtOrBefore, IsInOrder}
+use Rattle.smap_mappings.specs.Order.{IsInOrder}
 use Rattle.smap_mappings.specs.Within.{IsWithin}
-use Rattle.smap_mappings.specs.Range.{is_mapping_past_limit, stands_before}
+use Rattle.smap_mappings.specs.Range.{is_mapping_past_limit}
 use Rattle.smap_mappings.specs.Canonical.{canonical_text}
 use Rattle.smap_mappings.specs.Encode.{is_not_sorted, list_fault_from, list_fault, is_text_too_long, encode_fault}
 use Rattle.smap_mappings.specs.declared.canonical.EncodeRefusal.{EncodeRefusal}
 use Rattle.smap_mappings.specs.declared.canonical.EncodeRefusal.TheVariants.{TooLong}
 use Rattle.smap_mappings.specs.declared.mapping.Mapping.{Mapping}
-use Rattle.smap_mappings.proofs.BeforeLaws.{by_fields, AreFaultless, faultless}
-
--- ---- the order of two mappings
-
-not_before : (a b : Mapping) → IsAtOrBefore a b → stands_before b a ≡ false
-not_before a b order =
-    ⊎_elim
-    (λ (above : a.line < b.line). or_from _ _ (le-ltb b.line a.line (omega arith)) (and_left _ _ (ne_eqb b.line a.line (λ e. absurd (omega arith)))))
-    (λ (same : (a.line ≡ b.line) × (a.column ≤ b.column)). or_from _ _ (le-ltb b.line a.line (omega arith)) (and_right _ _ (le-ltb b.column a.column same.1)))
-    order
-
-at_or_before : (a b : Mapping) → stands_before b a ≡ false → IsAtOrBefore a b
-at_or_before a b not_sorted =
-    let parts = or_parts _ _ not_sorted in
-    let rises : a.line ≤ b.line = ltb-false b.line a.line parts.0 in
-    ⊎_elim
-    (λ other. let differs = eqb-false b.line a.line other in inl (omega arith))
-    (λ onward. ⊎_elim
-    (λ (same : a.line ≡ b.line). inr (same, ltb-false b.column a.column onward))
-    (λ (other : a.line ≡ b.line → ⊥). inl (omega arith))
-    (cases_eq a.line b.line))
-    (and_cases (eqb b.line a.line) (ltb b.column a.column) parts.1)
+use Rattle.smap_mappings.proofs.BeforeLaws.{AreFaultless, faultless}
+use Rattle.smap_mappings.specs.Laws.Order.{from_not_before, not_before}
+use Rattle.smap_mappings.specs.Laws.Range.{all_within_limit}
 
 -- ---- lists without a fault
 
 in_order_after : (mapping : Mapping) (mappings : List Mapping) → AreFaultless (Some mapping) mappings → IsInOrder (mapping ∷ mappings)
 in_order_after mapping [] good = tt
-in_order_after mapping (next ∷ mappings) good = (at_or_before mapping next good.0, in_order_after next mappings good.2)
+in_order_after mapping (next ∷ mappings) good = (not_before mapping next good.0, in_order_after next mappings good.2)
 
 in_order : (list : List Mapping) → AreFaultless None list → IsInOrder list
 in_order [] good = tt
@@ -64,7 +45,7 @@ good_after : (mapping : Mapping) (mappings : List Mapping) → IsInOrder (mappin
 good_after mapping [] order in_range = tt
 good_after mapping (next ∷ mappings) order in_range =
     let parts = or_parts _ _ in_range in
-    (not_before mapping next order.0, parts.0, good_after next mappings order.1 parts.1)
+    (from_not_before mapping next order.0, parts.0, good_after next mappings order.1 parts.1)
 
 good : (list : List Mapping) → IsInOrder list → list_any is_mapping_past_limit list ≡ false → AreFaultless None list
 good [] order in_range = tt
@@ -87,26 +68,8 @@ unfolding list_fault
 in_order_is_faultless list order in_range = no_fault_from 0 None list (good list order in_range)
 
 module _ (sources names : ℕ) where
-  -- what is within some counts is within the limit
-  pub within_limit : (mapping : Mapping) → IsWithin sources names mapping → is_mapping_past_limit mapping ≡ false
-  within_limit = by_fields (λ mapping. IsWithin sources names mapping → is_mapping_past_limit mapping ≡ false)
-      (λ line column within. or_from _ _ (or_from _ _ (le-ltb limit line within.line) (le-ltb limit column within.column)) refl)
-      (λ line column source original_line original_column within.
-      or_from _ _ (or_from _ _ (le-ltb limit line within.line) (le-ltb limit column within.column))
-      (or_from _ _ (or_from _ _ (or_from _ _ (le-ltb limit source within.origin.source.small)
-      (le-ltb limit original_line within.origin.line)) (le-ltb limit original_column within.origin.column)) refl))
-      (λ line column source original_line original_column name within.
-      or_from _ _ (or_from _ _ (le-ltb limit line within.line) (le-ltb limit column within.column))
-      (or_from _ _ (or_from _ _ (or_from _ _ (le-ltb limit source within.origin.source.small)
-      (le-ltb limit original_line within.origin.line)) (le-ltb limit original_column within.origin.column))
-      (le-ltb limit name within.origin.name.small)))
-
-  all_within_limit : (list : List Mapping) → AllByRecursion (IsWithin sources names) list → list_any is_mapping_past_limit list ≡ false
-  all_within_limit [] within = refl
-  all_within_limit (mapping ∷ mappings) within = or_from _ _ (within_limit mapping within.0) (all_within_limit mappings within.1)
-
   pub within_is_faultless : (list : List Mapping) → IsInOrder list → All (IsWithin sources names) list → list_fault list ≡ None
-  within_is_faultless list order within = in_order_is_faultless list order (all_within_limit list (recursion_from_All (IsWithin sources names) list within))
+  within_is_faultless list order within = in_order_is_faultless list order (all_within_limit sources names list (recursion_from_All (IsWithin sources names) list within))
 
 -- ---- a list that is encoded has no fault, and its text has room
 

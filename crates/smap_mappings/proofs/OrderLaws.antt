@@ -16,6 +16,7 @@ use Rattle.smap_mappings.specs.declared.cursor.Cursor.{Cursor}
 use Rattle.smap_mappings.specs.declared.mapping.Mapping.{Mapping}
 use Rattle.smap_mappings.proofs.DeltaLaws.{values-push}
 use Rattle.smap_mappings.proofs.Ranges.{in_range_natural, each_in_range}
+use Rattle.smap_mappings.specs.Laws.Lists.{some_same}
 
 -- the lines of the segments don't fall, and none is before this one
 abbrev pub LinesRise : ℕ → List Delta → Type 0
@@ -98,11 +99,8 @@ rises_at : (line : ℕ) (before deltas : List Delta) (j : ℕ) (m : Mapping) →
     → slice_get (mappings_after before deltas) j ≡ Some m → line ≤ m.line
 unfolding mapping_after
 rises_at line before [] j m rise there = absurd (cc)
-rises_at line before (delta ∷ deltas) zero m rise there = let same : delta.line ≡ m.line = some_line (mapping_after before delta) m there
+rises_at line before (delta ∷ deltas) zero m rise there = let same : delta.line ≡ m.line = ap (λ (m : Mapping). m.line) (some_same (mapping_after before delta) m there)
     in omega (arith, rise.0)
-  where
-    some_line : (a b : Mapping) → Some a ≡ Some b → a.line ≡ b.line
-    some_line a b same = let e : a ≡ b = cc in ap (λ (m : Mapping). m.line) e
 rises_at line before (delta ∷ deltas) (suc j) m rise there = rises_at line (before ++ delta ∷ []) deltas j m rise there
 
 rises_from : (line place : ℕ) (text : List ℕ) → LinesRise line (map delta_of (segments_from line place text))

@@ -41,7 +41,7 @@ ends_from byte value is below = rw is (lt-ltb value 32 below)
 
 -- ---- the digits of an unsigned value
 
-one_number-cons : (byte : ℕ) (bytes : List ℕ) → is_continuing byte ≡ true → is_one_number bytes ≡ true → is_one_number (byte ∷ bytes) ≡ true
+pub one_number-cons : (byte : ℕ) (bytes : List ℕ) → is_continuing byte ≡ true → is_one_number bytes ≡ true → is_one_number (byte ∷ bytes) ≡ true
 one_number-cons byte [] continues one = absurd (cc)
 one_number-cons byte (next ∷ bytes) continues one = and_from _ _ continues one
 

@@ -1,5 +1,5 @@
 -- A segment's bytes without a bad digit, whose last digit ends a number, are numbers one after another.
-use Rattle.std.proofs.Common.{◌≡◌, ℕ, ◌<◌, suc, Bool, true, false, not, ◌||◌, cond, eqb, List, [], ◌∷◌, length, take, drop, Option, Some, None, refl}
+use Rattle.std.proofs.Common.{◌≡◌, ℕ, ◌<◌, suc, true, false, not, ◌||◌, cond, eqb, List, [], ◌∷◌, length, take, drop, Option, Some, None, refl}
 use Rattle.std.proofs.Common.{sym, ap, subst, ◌∙◌, arith, one-add, take-append-drop, ⊎_elim, unwrap_or}
 use Rattle.std.specs.Prelude.{ℤ}
 use Rattle.std.specs.List.{onto_first, prefix_len, list_any, AllByRecursion}
@@ -11,10 +11,11 @@ use Rattle.smap_mappings.specs.Vlq.{is_too_large, is_negative_zero}
 use Rattle.smap_mappings.specs.Segment.{cuts_of, list_with_front, numbers_of, fields_of, has_known_length}
 use Rattle.smap_mappings.specs.Faults.{has_bad_digit, is_unended, numbers_fault, spelling_fault}
 use Rattle.smap_mappings.specs.Private.Spelling.{IsClean}
-use Rattle.smap_mappings.specs.declared.fault.FaultKind.{FaultKind}
 use Rattle.smap_mappings.specs.declared.fault.FaultKind.TheVariants.{BadDigit, Unended, TooLong, TooLarge, NegativeZero, FieldCount}
 use Rattle.smap_mappings.proofs.SpelledNumbers.{ends_stops, ends_is_digit, ends_from_stops}
 use Rattle.smap_mappings.proofs.FieldLaws.{cuts-one_number, first_cut, with_front_parts}
+use Rattle.smap_mappings.proofs.ShortestLaws.{one_number-cons}
+use Rattle.smap_mappings.proofs.ValueFaultLaws.{none_from_test}
 
 -- ---- the first number of clean bytes
 
@@ -69,11 +70,6 @@ clean_cuts bytes front =
 abbrev pub AllOne : List (List ℕ) → Type 0
 AllOne numbers = AllByRecursion (λ number. is_one_number number ≡ true) numbers
 
--- a digit before a number that is longer than nothing is a longer number
-longer_number : (b : ℕ) (number : List ℕ) → is_continuing b ≡ true → is_one_number number ≡ true → is_one_number (b ∷ number) ≡ true
-longer_number b [] on one = absurd (cc)
-longer_number b (c ∷ number) on one = and_from _ _ on one
-
 continues_from_not_ends : (b : ℕ) → is_digit b ≡ true → is_ending b ≡ false → is_continuing b ≡ true
 continues_from_not_ends b is not_last = ⊎_elim (λ on. on) (λ stops. absurd (both_ways _ not_last (ends_from_stops b is stops))) (cases_Bool (is_continuing b))
 
@@ -90,7 +86,7 @@ clean_all_one (b ∷ c ∷ bytes) clean =
     (λ no.
     let ones : AllOne (first.cut ∷ first.cuts) = subst AllOne first.is more in
     subst AllOne (sym (cond-false _ _ _ no ∙ ap (onto_first b) first.is))
-    (longer_number b first.cut (continues_from_not_ends b (is_digit_of_clean b (c ∷ bytes) clean) no) ones.0, ones.1))
+    (one_number-cons b first.cut (continues_from_not_ends b (is_digit_of_clean b (c ∷ bytes) clean) no) ones.0, ones.1))
     (cases_Bool (is_ending b))
 
 -- the digit before a number that is one with it
@@ -172,10 +168,6 @@ value_numbers (number ∷ numbers) ns is =
     )
 
 -- ---- a segment has no fault of its spelling where it has one, four or five fields, and only there
-
-none_from_test : (b : Bool) (kind : FaultKind) (o : Option FaultKind) → ◌≡◌ {A = Option FaultKind} (cond b (Some kind) o) None → (b ≡ false) × (o ≡ None)
-none_from_test true kind o is = absurd (cc)
-none_from_test false kind o is = (refl, is)
 
 same_length : {X Y : Type 0} (xs : List X) (ys : List Y) → length xs ≡ length ys → has_known_length xs ≡ has_known_length ys
 same_length xs ys is = ap (λ n. eqb n 1 || eqb n 4 || eqb n 5) is

@@ -24,6 +24,7 @@ use Rattle.smap_mappings.proofs.SegmentLaws.{segments_at_segment, segments_at_li
 use Rattle.smap_mappings.proofs.DeltaLaws.{values-push, values_on_new_line, next_element, all_push}
 use Rattle.smap_mappings.proofs.ValueFaultLaws.{delta_fault_is}
 use Rattle.smap_mappings.proofs.SpellingFaultLaws.{spelled_known, known_spelled}
+use Rattle.smap_mappings.specs.Laws.Lists.{some_same}
 
 -- ---- the segment at a state's place
 
@@ -81,10 +82,7 @@ on_line_of text j cursor mapping after within inside there =
     let is = mapping_at_place [] (deltas_of text) j _ seg.next in
     let same : Some mapping ≡ Some (mapping_after (take j (deltas_of text))
     (record { line = cursor.line; fields = known_fields text cursor.place })) = sym there ∙ is in
-    some_line mapping _ same
-  where
-    some_line : (a b : Mapping) → Some a ≡ Some b → a.line ≡ b.line
-    some_line a b same = let e : a ≡ b = cc in ap (λ (m : Mapping). m.line) e
+    ap (λ (m : Mapping). m.line) (some_same mapping _ same)
 
 origin_named : (column source line original_column : ℤ) (name : Option ℤ) (cursor : Cursor)
     → origin_in (column ∷ source ∷ line ∷ original_column ∷ name_fields name) (values_at cursor)

@@ -18,7 +18,7 @@ use Rattle.smap_mappings.specs.declared.segment.Segment.{Segment}
 use Rattle.smap_mappings.proofs.DeltaLaws.{values-push, column_of_none}
 use Rattle.smap_mappings.proofs.Ranges.{InRange, in_range_natural, each_in_range}
 
-none_from_test : (b : Bool) (kind : FaultKind) (o : Option FaultKind) → ◌≡◌ {A = Option FaultKind} (cond b (Some kind) o) None → (b ≡ false) × (o ≡ None)
+pub none_from_test : (b : Bool) (kind : FaultKind) (o : Option FaultKind) → ◌≡◌ {A = Option FaultKind} (cond b (Some kind) o) None → (b ≡ false) × (o ≡ None)
 none_from_test true kind o is = absurd (cc)
 none_from_test false kind o is = (refl, is)
 

@@ -10,7 +10,7 @@ use Rattle.std.proofs.lemmas.Str.{IsAscii-append}
 use Rattle.std.proofs.lemmas.Str.Ascii.{IsAscii-nil, IsAscii-from_all}
 use Rattle.std.proofs.lemmas.List.Elements.{All-from_recursion}
 use Rattle.smap_mappings.proofs.ShortestLaws.{shortest_is_ascii}
-use Rattle.smap_mappings.proofs.BeforeLaws.{unmapped, mapped, by_fields, last-push, origin_given, origin_kept, name_given, name_kept}
+use Rattle.smap_mappings.proofs.BeforeLaws.{unmapped, mapped, by_fields, origin_given, origin_kept, name_given, name_kept}
 use Rattle.smap_mappings.specs.Limits.{most_text_bytes}
 use Rattle.smap_mappings.specs.Canonical.{column_before, origin_before, name_before, name_fields, origin_fields, fields_after, separators}
 use Rattle.smap_mappings.specs.Canonical.{shortest_spelling, segment_bytes, canonical_after, canonical_text}
@@ -23,6 +23,7 @@ use Rattle.smap_mappings.specs.declared.segment.Segment.{Segment}
 use Rattle.smap_mappings.specs.declared.segment.OriginFields.{OriginFields}
 use Rattle.smap_mappings.specs.declared.mapping.Mapping.{Mapping}
 use Rattle.smap_mappings.specs.declared.mapping.Origin.{Origin}
+use Rattle.smap_mappings.specs.Laws.Lists.{last_or-push}
 
 -- ---- what is kept
 
@@ -40,7 +41,7 @@ name_push before = by_fields (λ m. name_before (before ++ m ∷ []) ≡ last_na
 
 pub last_values-push : (before : List Mapping) (m : Mapping) → last_values_of (before ++ m ∷ []) ≡ last_values_after (last_values_of before) m
 last_values-push before m = λ i. record {
-  mapping = last-push None before m i;
+  mapping = last_or-push None before m i;
   origin = origin_push before m i;
   name = name_push before m i;
 }

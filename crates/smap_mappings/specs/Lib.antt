@@ -11,6 +11,7 @@ pub mod Accepted
 pub mod Faults
 pub mod Counts
 pub mod Order
+pub mod Laws
 pub mod Within
 pub mod Range
 pub mod Canonical

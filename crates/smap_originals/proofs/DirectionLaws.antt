@@ -1,11 +1,13 @@
 -- What is found answers, and what has an original is found.
-use Rattle.std.proofs.Common.{◌≡◌, ℕ, ◌<◌, suc, zero, Bool, true, false, leb, List, [], ◌∷◌, ◌++◌, length, get_or, refl, sym, ap, subst, ◌∙◌, arith, ⊎_elim, inl, inr}
+use Rattle.std.proofs.Common.{◌≡◌, ℕ, ◌<◌, suc, zero, Bool, true, false, leb, List, [], ◌∷◌, ◌++◌, length, get_or, refl, sym, ap, subst, ◌∙◌, arith, ⊎_elim}
 use Rattle.std.specs.Prelude.{Option, None, Some, not, ◌==◌, filter}
 use Rattle.std.specs.List.{All, Contains, last_or}
 use Rattle.std.proofs.lemmas.Bool.{and_from, and_parts, both_ways, cases_Bool, cond-false, cond-true, eq-eqb, eqb-true, false_from_ne_true, le-leb, le-ltb, leb-true, not_from_false}
 use Rattle.std.proofs.lemmas.List.Elements.{All-cons, All-filter, All-nil, All-weaker, filter-append, filter_passes}
 use Rattle.std.proofs.lemmas.List.Folds.{list_any_none}
 use Rattle.smap_index.specs.Answer.{answer_at_or_before, answer_of_last, answer_with, is_on_line_at_or_before}
+use Rattle.smap_index.proofs.PositionLaws.{at_or_before}
+use Rattle.smap_mappings.specs.Laws.Lists.{last_or-push}
 use Rattle.smap_mappings.specs.Order.{IsAtOrBefore, IsInOrder}
 use Rattle.smap_mappings.specs.declared.mapping.Mapping.{Mapping}
 use Rattle.smap_mappings.specs.declared.mapping.Origin.{Origin}
@@ -62,21 +64,11 @@ found_itself direction list m o there origin =
 
 -- ---- what is found answers
 
-last_behind : {X : Type 0} (xs : List X) (o : Option X) (x : X) → last_or o (xs ++ x ∷ []) ≡ Some x
-last_behind [] o x = refl
-last_behind (y ∷ ys) o x = last_behind ys (Some y) x
-
-before_all : (a b c : Mapping) → IsAtOrBefore a b → IsAtOrBefore b c → IsAtOrBefore a c
-before_all a b c (inl less) (inl more) = inl (omega arith)
-before_all a b c (inl less) (inr same) = inl (omega (arith, same.0))
-before_all a b c (inr same) (inl more) = inl (omega (arith, same.0))
-before_all a b c (inr same) (inr also) = inr (same.0 ∙ also.0, omega (arith, same.1, also.1))
-
 all_behind : (m : Mapping) (xs : List Mapping) → IsInOrder (m ∷ xs) → All (IsAtOrBefore m) xs
 all_behind m [] order = All-nil (IsAtOrBefore m)
 all_behind m (x ∷ xs) order =
     All-cons (IsAtOrBefore m) x xs order.0
-    (All-weaker (IsAtOrBefore x) (IsAtOrBefore m) (λ y behind. before_all m x y order.0 behind) xs (all_behind x xs order.1))
+    (All-weaker (IsAtOrBefore x) (IsAtOrBefore m) (λ y behind. at_or_before m x y order.0 behind) xs (all_behind x xs order.1))
 
 order_from : (front back : List Mapping) (m : Mapping) → IsInOrder (front ++ m ∷ back) → IsInOrder (m ∷ back)
 order_from [] back m order = order
@@ -115,7 +107,7 @@ module _ (source line : ℕ) where
       cond-true (test m) (m ∷ filter test last.back) (filter test last.back) here ∙ ap (λ l. m ∷ l) (none_kept test last.back later) in
       let found : last_or None (filter test list) ≡ Some m =
       ap (λ l. last_or None (filter test l)) last.list_is ∙ ap (last_or None) (filter-append test last.front (m ∷ last.back))
-      ∙ ap (λ l. last_or None (filter test last.front ++ l)) kept ∙ last_behind (filter test last.front) None m in
+      ∙ ap (λ l. last_or None (filter test last.front ++ l)) kept ∙ last_or-push None (filter test last.front) m in
       subst (λ o. AnswersOn source line (answer_of_last o)) (sym found) (answers_with m.column m.origin is)
 
   pub all_answer : (direction : OriginalDirection) (list : List Mapping) (column : ℕ) → IsInOrder list

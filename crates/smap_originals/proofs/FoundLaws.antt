@@ -4,13 +4,12 @@ use Rattle.std.specs.Prelude.{◌==◌, filter}
 use Rattle.std.specs.List.{AllWithin, list_any, slice_get}
 use Rattle.std.proofs.lemmas.Bool.{and_from, and_parts, cases_lt, eq-eqb, eqb-true, false_from_ne_true, le-leb, leb-true, ltb-true}
 use Rattle.std.proofs.lemmas.List.Folds.{list_any_at, list_any_none}
-use Rattle.std.proofs.lemmas.Option.{slice_get_within}
+use Rattle.std.proofs.lemmas.Option.{get_or_from_slice_get, slice_get_within}
 use Rattle.smap_originals.specs.Originals.{on_line, order_of, original_order}
 use Rattle.smap_originals.specs.Private.Run.{AreFound, IsInOrder, IsSplitAt, is_candidate, is_nearer_candidate, is_original}
 use Rattle.smap_originals.specs.declared.asked.OriginalDirection.TheVariants.{AtOrBefore, AtOrAfter}
 use Rattle.smap_originals.specs.declared.place.GeneratedPlace.{GeneratedPlace}
 use Rattle.smap_originals.proofs.ListLaws.{middle_kept}
-use Rattle.smap_originals.proofs.OrderLaws.{read}
 
 -- ---- one place
 
@@ -75,7 +74,7 @@ module _ (places : List GeneratedPlace) (line column index : ℕ) (sound : IsInO
         let parts = and_parts ((get_or places k d).original_line == line) (leb (get_or places k d).original_column column) is in
         let same = eqb-true (get_or places k d).original_line line parts.0 in
         let within = slice_get_within places (index - 1) last there in
-        let last_is = ap original_order (read places (index - 1) last d there) in
+        let last_is = ap original_order (get_or_from_slice_get places (index - 1) last d there) in
         let below = split.0 (index - 1) d (omega arith) (omega arith) in
         ⊎_elim
         (λ front. let up = sound.ordered k (index - 1) d (omega arith) within in
@@ -93,7 +92,7 @@ module _ (places : List GeneratedPlace) (line column index : ℕ) (sound : IsInO
         false_from_ne_true (is_candidate AtOrAfter line column (get_or places k d)) (λ is.
         let high = candidate_after line column (get_or places k d) is in
         let within = slice_get_within places index next there in
-        let next_is = ap original_order (read places index next d there) in
+        let next_is = ap original_order (get_or_from_slice_get places index next d there) in
         let above = split.1 index d (omega arith) within in
         ⊎_elim
         (λ front. let low = split.0 k d (omega arith) front in omega (arith, low, high.1))

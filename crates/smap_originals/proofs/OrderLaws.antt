@@ -4,33 +4,28 @@ use Rattle.std.specs.Prelude.{MatchOption, None, Option}
 use Rattle.std.specs.List.{AllWithin, slice_get}
 use Rattle.std.proofs.lemmas.Bool.{cases_lt}
 use Rattle.std.specs.List.Sorted.{IsNonDecreasingBy}
-use Rattle.std.proofs.lemmas.Option.{slice_get-get_or, slice_get_within}
+use Rattle.std.proofs.lemmas.Option.{get_or_from_slice_get, slice_get_within}
 use Rattle.smap_originals.specs.Originals.{original_order}
 use Rattle.smap_originals.specs.declared.place.GeneratedPlace.{GeneratedPlace}
-
-pub read : {X : Type 0} (xs : List X) (i : ℕ) (x d : X) → slice_get xs i ≡ Some x → get_or xs i d ≡ x
-read xs i x d there =
-    let other = slice_get-get_or xs i d (slice_get_within xs i x there) in
-    cc
 
 module _ (places : List GeneratedPlace) (i order : ℕ) (place : GeneratedPlace) (ordered : IsNonDecreasingBy original_order places) (there : slice_get places i ≡ Some place) where
   -- all up to one that stands before a number do
   pub front_before : original_order place < order → AllWithin (λ p. original_order p < order) places 0 (i + 1)
   front_before before = λ k d low high.
       let up = ordered k i d (omega arith) (slice_get_within places i place there) in
-      omega (arith, up, ap original_order (read places i place d there))
+      omega (arith, up, ap original_order (get_or_from_slice_get places i place d there))
 
   -- and none from one on that does not
   pub back_not_before : order ≤ original_order place → AllWithin (λ p. order ≤ original_order p) places i (length places)
   back_not_before behind = λ k d low high.
       let up = ordered i k d low high in
-      omega (arith, up, ap original_order (read places i place d there))
+      omega (arith, up, ap original_order (get_or_from_slice_get places i place d there))
 
 -- ---- a run grows
 
 module _ (places : List GeneratedPlace) (i order : ℕ) (place : GeneratedPlace) (there : slice_get places i ≡ Some place) (here : original_order place ≡ order) where
   here_at : (k : ℕ) (d : GeneratedPlace) → k ≡ i → original_order (get_or places k d) ≡ order
-  here_at k d same = subst (λ n. original_order (get_or places n d) ≡ order) (sym same) (ap original_order (read places i place d there) ∙ here)
+  here_at k d same = subst (λ n. original_order (get_or places n d) ≡ order) (sym same) (ap original_order (get_or_from_slice_get places i place d there) ∙ here)
 
   pub longer_front : (end : ℕ) → AllWithin (λ p. original_order p ≡ order) places (i + 1) end → AllWithin (λ p. original_order p ≡ order) places i end
   longer_front end run = λ k d low high. ⊎_elim (λ less. here_at k d (omega arith)) (λ more. run k d more high) (cases_lt k (i + 1))

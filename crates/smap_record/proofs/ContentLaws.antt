@@ -1,5 +1,5 @@
 -- The contents of the sources.
-use Rattle.std.proofs.Common.{◌≡◌, List, [], ◌∷◌, map, Bool, true, false, if◌then◌else◌, Option, Some, None, Vec, Global, refl, ap, ◌∙◌}
+use Rattle.std.proofs.Common.{◌≡◌, List, [], ◌∷◌, map, Bool, true, false, if◌then◌else◌, Option, Some, None, Vec, Global, refl, sym, ap, ◌∙◌}
 use Rattle.std.specs.Prelude.{is_some, option_map, string_bytes}
 use Rattle.std.specs.List.{list_any}
 use Rattle.serde_json.specs.Data.{Data}
@@ -10,7 +10,7 @@ use Rattle.smap_record.specs.Written.{content_of_source, contents_value, has_con
 use Rattle.smap_record.specs.declared.entry.SourceEntry.{SourceEntry}
 use Rattle.smap_record.proofs.ValueLaws.{array_of}
 
-is_some-map : {A B : Type 0} (f : A → B) (o : Option A) → is_some o ≡ is_some (option_map f o)
+pub is_some-map : {A B : Type 0} (f : A → B) (o : Option A) → is_some (option_map f o) ≡ is_some o
 is_some-map f None = refl
 is_some-map f (Some x) = refl
 
@@ -21,7 +21,7 @@ has_text source = is_some source.content
 -- some source has its content, as it is stated
 pub any_content : (sources : List SourceEntry) → list_any has_text sources ≡ list_any has_content (map source_of sources)
 any_content [] = refl
-any_content (source ∷ sources) = rw (is_some-map string_bytes source.content, any_content sources) refl
+any_content (source ∷ sources) = rw (sym (is_some-map string_bytes source.content), any_content sources) refl
 
 -- what is written, by whether some source has its content
 abbrev written_where : List StatedSource → Bool → Option Data

@@ -1,14 +1,15 @@
 -- What a walk over the items of a list knows after each of them.
-use Rattle.std.proofs.Common.{◌≡◌, ℕ, ◌+◌, ◌<◌, ◌++◌, List, [], ◌∷◌, length, drop, slice_index_or, Option, Some, None, option_map, Vec, Global, refl}
-use Rattle.std.proofs.Common.{sym, ap, ◌∙◌, arith}
-use Rattle.std.specs.Prelude.{option_and_then}
+use Rattle.std.proofs.Common.{◌≡◌, ℕ, ◌+◌, ◌++◌, List, [], ◌∷◌, map, take, Option, Some, None, option_map, Vec, Global, refl}
+use Rattle.std.proofs.Common.{sym, ap, ap₂, ◌∙◌}
+use Rattle.std.specs.Prelude.{option_and_then, slice_get}
 use Rattle.std.specs.Vec.Iter.{into_iter_items, into_iter_len}
 use Rattle.std.specs.declared.vec.IntoIter.{IntoIter}
-use Rattle.std.proofs.lemmas.List.{append_assoc, append-nil, drop_more}
+use Rattle.std.proofs.lemmas.List.{append_assoc, append-nil, map-append, nil_from_length}
 use Rattle.serde_json.specs.Data.{Data}
 use Rattle.serde_json.specs.View.{view, items_view}
 use Rattle.serde_json.specs.declared.value.Value.{Value, Array}
 use Rattle.serde_json.proofs.Views.{view-Array}
+use Rattle.smap_mappings.specs.Laws.Lists.{take_next}
 use Rattle.smap_record.specs.Json.{readings, list_of}
 
 module _ {A : Type 0} (read : Data → Option A) where
@@ -47,18 +48,16 @@ module _ {A : Type 0} (read : Data → Option A) where
   pub none_yet : (value : Value) (items : Vec Value Global) → value ≡ Array items → after [] items.items ≡ list_of read (view value)
   none_yet value items is = same (readings read (items_view items.items)) ∙ sym (ap (λ v. list_of read (view v)) is ∙ ap (list_of read) (view-Array items))
 
--- the value at a place, and those after it
-pub next_value : (values : List Value) (i : ℕ) (value : Value) → i < length values → value ≡ slice_index_or values i value
-    → drop i values ≡ value ∷ drop (i + 1) values
-next_value values i value within is = drop_more values i value within ∙ ap (λ first. first ∷ drop (i + 1) values) (sym is)
-
-no_length : {A : Type 0} (xs : List A) → length xs ≡ 0 → xs ≡ []
-no_length [] h = refl
-no_length (x ∷ xs) h = absurd (omega (arith, h))
-
 -- a walk of which no item is left has none to come
 pub none_left : {A Z : Type 0} (it : IntoIter A Z) → into_iter_len it ≡ 0 → into_iter_items it ≡ []
-none_left it len = no_length _ (sym it.rest.ok.0 ∙ len)
+none_left it len = nil_from_length _ (sym it.rest.ok.0 ∙ len)
+
+-- the next of xs is seen as it should be
+pub map_next : {X Y Z : Type 0} (seen : Y → Z) (f : X → Z) (xs : List X) (ys : List Y) (i : ℕ) (x : X) (y : Y) → map seen ys ≡ map f (take i xs)
+    → slice_get xs i ≡ Some x → seen y ≡ f x → map seen (ys ++ y ∷ []) ≡ map f (take (i + 1) xs)
+map_next seen f xs ys i x y so_far there is =
+    map-append seen ys (y ∷ []) ∙ ap₂ (λ l z. l ++ z ∷ []) so_far is
+    ∙ sym (map-append f (take i xs) (x ∷ [])) ∙ ap (map f) (sym (take_next xs i x there))
 
 -- what was given so far and what is to come are the list, also after the next item
 pub walk_next : {A : Type 0} (before : List A) (item : A) (rest more all : List A) → rest ≡ item ∷ more → before ++ rest ≡ all

@@ -4,24 +4,21 @@ use Rattle.std.proofs.Common.{sym, ap, ◌∙◌, arith}
 use Rattle.std.specs.List.{position, position_or_len, after_first}
 use Rattle.std.specs.Str.{IsUtf8, is_utf8}
 use Rattle.std.proofs.lemmas.Bool.{cond-true, cond-false, cases_Bool}
+use Rattle.std.proofs.lemmas.Option.{cond_some}
 use Rattle.std.proofs.lemmas.Str.{IsUtf8-from_is_utf8, is_utf8-from_IsUtf8}
 use Rattle.serde_json.specs.Data.{Data}
 use Rattle.serde_json.specs.Read.{read}
 use Rattle.smap_record.specs.FileText.{read_utf8}
 use Rattle.std.proofs.lemmas.List.{length-drop, take_all, drop_all}
 
--- a choice of an index says which index, or that there is none
-chosen : (b : Bool) (i e : ℕ) → cond b (Some i) None ≡ Some e → (b ≡ true) × (i ≡ e)
-chosen true i e h = (refl, cc)
-chosen false i e h = absurd (cc)
-
-none_chosen : (b : Bool) (i : ℕ) → cond b (Some i) None ≡ None → b ≡ false
+-- where no index is chosen there is none
+pub none_chosen : (b : Bool) (i : ℕ) → cond b (Some i) None ≡ None → b ≡ false
 none_chosen true i h = absurd (cc)
 none_chosen false i h = refl
 
 pub after_first_is : (p : ℕ → Bool) (xs : List ℕ) (e : ℕ) → position p xs ≡ Some e → take (length xs - (e + 1)) (drop (e + 1) xs) ≡ after_first p xs
 after_first_is p xs e h =
-    let at = chosen (nat_lt (position_or_len p xs) (length xs)) (position_or_len p xs) e h in
+    let at = cond_some (nat_lt (position_or_len p xs) (length xs)) (position_or_len p xs) e h in
     take_all (length xs - (e + 1)) (drop (e + 1) xs) (omega (arith, length-drop (e + 1) xs)) ∙ ap (λ i. drop (i + 1) xs) (sym at.1)
 
 pub nothing_after : (p : ℕ → Bool) (xs : List ℕ) → position p xs ≡ None → [] ≡ after_first p xs

@@ -4,6 +4,7 @@ use Rattle.std.proofs.Common.{None, Vec, Global, refl, sym, ap, ◌∙◌, arith
 use Rattle.std.specs.List.{enumerate_from, list_any}
 use Rattle.std.proofs.lemmas.List.{append-nil, map-append, take_more, take_all, length-map, length-take-le}
 use Rattle.std.proofs.lemmas.List.Elements.{filter-append}
+use Rattle.std.proofs.lemmas.Bool.{or_parts}
 use Rattle.serde_json.specs.Data.{Data, number, unsigned}
 use Rattle.serde_json.specs.View.{view}
 use Rattle.serde_json.specs.declared.value.Value.{Value, Array}
@@ -12,7 +13,6 @@ use Rattle.smap_record.specs.Written.{ignored_indices, ignored_value, is_ignored
 use Rattle.smap_record.specs.declared.entry.SourceEntry.{SourceEntry}
 use Rattle.smap_record.proofs.EntryLaws.{enumerate_push}
 use Rattle.smap_record.proofs.ValueLaws.{array_of}
-use Rattle.smap_record.proofs.WithinLaws.{both_false}
 
 -- the indices of the ignored ones among these sources, which stand after this many
 abbrev pub indices_from : ℕ → List StatedSource → List ℕ
@@ -46,7 +46,7 @@ first_index n source sources false is = rw is refl
 none_from : (n : ℕ) (sources : List StatedSource) → list_any is_ignored_source sources ≡ false → indices_from n sources ≡ []
 none_from n [] none = refl
 none_from n (source ∷ sources) none =
-    let parts = both_false (is_ignored_source source) (list_any is_ignored_source sources) none in
+    let parts = or_parts (is_ignored_source source) (list_any is_ignored_source sources) none in
     first_index n source sources false parts.0 ∙ none_from (n + 1) sources parts.1
 
 not_none : (n : ℕ) (sources : List StatedSource) (ignored : Bool) → found_first n sources ignored ≡ [] → (ignored ≡ false) × (indices_from (n + 1) sources ≡ [])

@@ -1,36 +1,12 @@
 -- Sources that are renamed one after another.
-use Rattle.std.proofs.Common.{◌≡◌, ℕ, ◌+◌, ◌<◌, suc, List, [], ◌∷◌, ◌++◌, Option, Some, None, false, length, take, map, refl, ap, ap₂, sym, ◌∙◌, arith}
-use Rattle.std.specs.Prelude.{option_map, slice_get, unwrap_or}
-use Rattle.std.proofs.Math.Seq.{take-suc}
-use Rattle.std.proofs.lemmas.List.{map-append}
-use Rattle.std.proofs.lemmas.Option.{get_or_from_slice_get, slice_get-get_or, slice_get_within}
+use Rattle.std.proofs.Common.{◌≡◌, ℕ, List, [], ◌∷◌, ◌++◌, Option, Some, None, length, map, refl, ap, sym, ◌∙◌}
+use Rattle.std.specs.Prelude.{option_map, unwrap_or}
 use Rattle.smap_record.specs.NamedSources.{map_renamed, source_renamed}
 use Rattle.smap_record.specs.Private.Renamed.{text_of_name, text_of_source, with_text, with_text_at, with_texts}
 use Rattle.smap_record.specs.MapFile.{Map}
 use Rattle.smap_record.specs.Sources.{StatedSource, with_name_at}
 use Rattle.smap_resolve.specs.SourceName.{Name}
 use Rattle.smap_resolve.specs.SourceName.Name.{resolved, kept}
-
--- ---- a list that is read place by place
-
--- there is a source at each place
-pub none_past : (sources : List StatedSource) (i : ℕ) → slice_get sources i ≡ None → i < length sources → ⊥
-none_past sources i none inside =
-    let any : StatedSource = record { name = None; content = None; ignored = false } in
-    let some = sym none ∙ slice_get-get_or sources i any inside in cc
-
-taken_next : {X : Type 0} (xs : List X) (i : ℕ) (x : X) → slice_get xs i ≡ Some x → take (i + 1) xs ≡ take i xs ++ x ∷ []
-taken_next xs i x there =
-    let next : i + 1 ≡ suc i = omega arith in
-    ap (λ n. take n xs) next ∙ take-suc xs i x (slice_get_within xs i x there)
-    ∙ ap (λ y. take i xs ++ y ∷ []) (get_or_from_slice_get xs i x x there)
-
--- the next of xs gets its text
-pub text_next : {X Y Z : Type 0} (seen : Y → Z) (f : X → Z) (xs : List X) (ys : List Y) (i : ℕ) (x : X) (y : Y) → map seen ys ≡ map f (take i xs)
-    → slice_get xs i ≡ Some x → seen y ≡ f x → map seen (ys ++ y ∷ []) ≡ map f (take (i + 1) xs)
-text_next seen f xs ys i x y so_far there is =
-    map-append seen ys (y ∷ []) ∙ ap₂ (λ l z. l ++ z ∷ []) so_far is
-    ∙ sym (map-append f (take i xs) (x ∷ [])) ∙ ap (map f) (sym (taken_next xs i x there))
 
 -- ---- one source further
 

@@ -1,9 +1,9 @@
 -- The mappings of a map file, and its answers, keep to the limit and to its sources and names.
-use Rattle.std.proofs.Common.{◌≡◌, ℕ, ◌+◌, ◌≤◌, List, [], ◌∷◌, length, map, filter, string_bytes, Bool, true, false, ◌||◌, Option, Some, None, refl}
+use Rattle.std.proofs.Common.{◌≡◌, ℕ, ◌+◌, ◌≤◌, List, [], ◌∷◌, length, map, filter, string_bytes, Bool, false, ◌||◌, Option, Some, None}
 use Rattle.std.proofs.Common.{sym, ap, subst, ◌∙◌, arith, ltb-false}
 use Rattle.std.specs.Prelude.{IfSome, option_map}
 use Rattle.std.specs.List.{All, AllByRecursion, find, last_or, list_any}
-use Rattle.std.proofs.lemmas.Bool.{cond_both}
+use Rattle.std.proofs.lemmas.Bool.{cond_both, or_parts}
 use Rattle.std.proofs.lemmas.List.{length-map}
 use Rattle.std.proofs.lemmas.List.Elements.{All-nil, All-filter, All-weaker, All-append, All-from_recursion, recursion_from_All}
 use Rattle.std.proofs.lemmas.List.Folds.{list_any-append}
@@ -22,10 +22,6 @@ use Rattle.smap_record.specs.Sources.{source_of}
 use Rattle.smap_record.specs.declared.map_file.MapFile.TheInside.{Inside}
 
 -- ---- the mappings of a part
-
-pub both_false : (a b : Bool) → (a || b) ≡ false → (a ≡ false) × (b ≡ false)
-both_false true b is = absurd (cc)
-both_false false b is = (refl, is)
 
 -- a part is within more sources and names, too
 pub more_within : (sources names sources' names' : ℕ) (parts : List Part) → sources ≤ sources' → names ≤ names'
@@ -51,11 +47,11 @@ module _ (sources names : ℕ) (part : Part) (within : IsPartWithin sources name
       → is_origin_past_limit (Some (placed_origin part origin)) ≡ false → IsOriginWithin sources names (placed_origin part origin)
   origin_placed origin own small =
       let placed_one = placed_origin part origin in
-      let all = both_false (is_number_past_limit placed_one.source || is_number_past_limit placed_one.line || is_number_past_limit
+      let all = or_parts (is_number_past_limit placed_one.source || is_number_past_limit placed_one.line || is_number_past_limit
       placed_one.column) (is_name_past_limit placed_one.name) small in
-      let numbers = both_false (is_number_past_limit placed_one.source || is_number_past_limit placed_one.line)
+      let numbers = or_parts (is_number_past_limit placed_one.source || is_number_past_limit placed_one.line)
       (is_number_past_limit placed_one.column) all.0 in
-      let source = both_false (is_number_past_limit placed_one.source) (is_number_past_limit placed_one.line) numbers.0 in
+      let source = or_parts (is_number_past_limit placed_one.source) (is_number_past_limit placed_one.line) numbers.0 in
       record {
         source = record { named = omega (arith, own.source.named, within.sources_fit); small = omega (arith, ltb-false _ _ source.0) };
         line = own.line;
@@ -72,8 +68,8 @@ module _ (sources names : ℕ) (part : Part) (within : IsPartWithin sources name
       → is_mapping_past_limit (placed_mapping part mapping) ≡ false → IsWithin sources names (placed_mapping part mapping)
   mapping_placed mapping own small =
       let placed_one = placed_mapping part mapping in
-      let all = both_false (is_number_past_limit placed_one.line || is_number_past_limit placed_one.column) (is_origin_past_limit placed_one.origin) small in
-      let position = both_false (is_number_past_limit placed_one.line) (is_number_past_limit placed_one.column) all.0 in
+      let all = or_parts (is_number_past_limit placed_one.line || is_number_past_limit placed_one.column) (is_origin_past_limit placed_one.origin) small in
+      let position = or_parts (is_number_past_limit placed_one.line) (is_number_past_limit placed_one.column) all.0 in
       record {
         line = omega (arith, ltb-false _ _ position.0);
         column = omega (arith, ltb-false _ _ position.1);
@@ -84,7 +80,7 @@ module _ (sources names : ℕ) (part : Part) (within : IsPartWithin sources name
       → list_any is_mapping_past_limit (map (placed_mapping part) list) ≡ false → AllByRecursion (IsWithin sources names) (map (placed_mapping part) list)
   list_placed [] own small = tt
   list_placed (mapping ∷ list) own small =
-      let both = both_false (is_mapping_past_limit (placed_mapping part mapping)) (list_any is_mapping_past_limit (map (placed_mapping part) list)) small in
+      let both = or_parts (is_mapping_past_limit (placed_mapping part mapping)) (list_any is_mapping_past_limit (map (placed_mapping part) list)) small in
       (mapping_placed mapping own.0 both.0, list_placed list own.1 both.1)
 
   part_placed : list_any is_mapping_past_limit (placed part) ≡ false → All (IsWithin sources names) (placed part)
@@ -97,7 +93,7 @@ parts_placed : (sources names : ℕ) (parts : List Part) → AllByRecursion (IsP
     → list_any is_mapping_past_limit (joined parts) ≡ false → All (IsWithin sources names) (joined parts)
 parts_placed sources names [] within small = All-nil (IsWithin sources names)
 parts_placed sources names (part ∷ parts) within small =
-    let both = both_false (list_any is_mapping_past_limit (placed part)) (list_any is_mapping_past_limit (joined parts))
+    let both = or_parts (list_any is_mapping_past_limit (placed part)) (list_any is_mapping_past_limit (joined parts))
     (sym (list_any-append is_mapping_past_limit (placed part) (joined parts)) ∙ small) in
     All-append (IsWithin sources names) (placed part) (joined parts) (part_placed sources names part within.0 both.0)
     (parts_placed sources names parts within.1 both.1)

@@ -4,14 +4,14 @@ use Rattle.std.proofs.Common.{if◌then◌else◌, Option, Some, None, refl, sym
 use Rattle.std.specs.Prelude.{is_some, slice_get, unwrap_or}
 use Rattle.std.specs.List.{AllByRecursion, enumerate_from, list_any}
 use Rattle.std.specs.Option.{option_flatten}
-use Rattle.std.proofs.lemmas.Bool.{ne_eqb}
+use Rattle.std.proofs.lemmas.Bool.{ne_eqb, or_parts}
 use Rattle.std.proofs.lemmas.List.{append_assoc, length-map, length_push, map-id}
 use Rattle.std.proofs.lemmas.List.FromFn.{fill_by_all, length-enumerate_from}
+use Rattle.smap_mappings.specs.Laws.Lists.{slice_get-after}
 use Rattle.smap_record.specs.Ignored.{ignored_flags, is_ignored}
 use Rattle.smap_record.specs.Sources.{StatedSource, StatedSources, source_at, sources_stated}
 use Rattle.smap_record.specs.Written.{content_of_source, has_content, ignored_indices, is_ignored_source, text_of_source}
 use Rattle.smap_record.proofs.IndexLaws.{indices_from, first_index, found_first}
-use Rattle.smap_record.proofs.WithinLaws.{both_false}
 
 -- ---- the indices of the ignored ones
 
@@ -69,10 +69,6 @@ flags_are sources = sym (fill_by_all (is_ignored (ignored_indices sources)) (map
 
 -- ---- by place
 
-get_here : {A : Type 0} (before : List A) (x : A) (after : List A) → slice_get (before ++ x ∷ after) (length before) ≡ Some x
-get_here [] x after = refl
-get_here (y ∷ before) x after = get_here before x after
-
 module _ {A B T : Type 0} (out : Option A → B) where
   from_place : (before after : List A) (texts : List T) → length texts ≡ length after
       → map (λ (at : ℕ × T). out (slice_get (before ++ after) at.0)) (enumerate_from (length before) texts) ≡ map (λ x. out (Some x)) after
@@ -81,7 +77,7 @@ module _ {A B T : Type 0} (out : Option A → B) where
   from_place before (x ∷ after) [] many = absurd (omega (arith, many))
   from_place before (x ∷ after) (text ∷ texts) many =
       ap (λ found. out found ∷ map (λ (at : ℕ × T). out (slice_get (before ++ x ∷ after) at.0)) (enumerate_from (length before + 1) texts))
-      (get_here before x after)
+      (slice_get-after before x after)
       ∙ ap (λ others. out (Some x) ∷ others)
       (ap (λ all. map (λ (at : ℕ × T). out (slice_get all at.0)) (enumerate_from (length before + 1) texts)) (sym (append_assoc before (x ∷ []) after))
       ∙ ap (λ (n : ℕ). map (λ (at : ℕ × T). out (slice_get ((before ++ x ∷ []) ++ after) at.0)) (enumerate_from n texts)) (sym (length_push before x))
@@ -111,7 +107,7 @@ no_contents : (sources : List StatedSource) → list_any has_content sources ≡
     → map (λ (text : Option (List ℕ)). None) (map text_of_source sources) ≡ map content_of_source sources
 no_contents [] none = refl
 no_contents (source ∷ sources) none =
-    let parts = both_false (has_content source) (list_any has_content sources) none in
+    let parts = or_parts (has_content source) (list_any has_content sources) none in
     ap (λ content. content ∷ map (λ (text : Option (List ℕ)). None) (map text_of_source sources)) (none_there source.content parts.0)
     ∙ ap (λ others. content_of_source source ∷ others) (no_contents sources parts.1)
 

@@ -2,6 +2,7 @@
 use Rattle.std.specs.Prelude.{◌≡◌, ℕ, ◌+◌, ◌||◌, ◌&&◌, Bool, true, false, not, List, [], ◌∷◌, take, Option, Some, None, is_some, if◌then◌else◌}
 use Rattle.std.specs.List.{list_any, prefix_len}
 use Rattle.std.proofs.Common.{arith, refl, subst, suc, sym, ap, ◌∙◌}
+use Rattle.std.proofs.lemmas.Bool.{or_parts}
 use Rattle.smap_locations.specs.ListLine.{is_folder}
 use Rattle.smap_locations.specs.Locations.{LocationsSeen, is_whole, key_for, or_else, path_for, path_in_folders}
 use Rattle.smap_locations.specs.ByText.{value_under}
@@ -35,10 +36,6 @@ either_twice (Some path) other = refl
 
 -- ---- patterns
 
-none_of : (a b : Bool) → (a || b) ≡ false → (a ≡ false) × (b ≡ false)
-none_of true b is = cc
-none_of false b is = (refl, is)
-
 no_value : {T : Type 0} (found : Option T) → is_some found ≡ false → found ≡ None
 no_value None is = refl
 no_value (Some value) is = cc
@@ -62,7 +59,7 @@ module _ (url short : List ℕ) where
       → deciding short short best patterns ≡ deciding url short best patterns
   same_deciding best [] none = refl
   same_deciding best (pattern ∷ patterns) none =
-      let parts = none_of (needs_query url short pattern) (list_any (needs_query url short) patterns) none in
+      let parts = or_parts (needs_query url short pattern) (list_any (needs_query url short) patterns) none in
       let same : better short short best pattern ≡ better url short best pattern =
       ap (λ has. if is_better best pattern && has then Some pattern else best) (same_has pattern parts.0) in
       ap (λ best. deciding short short best patterns) same ∙ same_deciding (better url short best pattern) patterns parts.1
@@ -79,7 +76,7 @@ path_of_key locations url = go (is_whole locations url) refl
         let under = value_under short locations.files in
         let rest = path_in_folders locations.folders short in
         let last = path_by_patterns locations.patterns url short in
-        let parts = none_of (is_some (value_under url locations.files)) (list_any (needs_query url short) locations.patterns) is in
+        let parts = or_parts (is_some (value_under url locations.files)) (list_any (needs_query url short) locations.patterns) is in
         ap (λ text. or_else under (or_else (value_under text locations.files)
         (or_else (path_in_folders locations.folders text) (path_by_patterns locations.patterns short text)))) (cut_twice is_before_query url)
         ∙ ap (λ found. or_else under (or_else under (or_else rest (path_of short found)))) (same_deciding url short None locations.patterns parts.1)

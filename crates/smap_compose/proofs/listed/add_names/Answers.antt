@@ -2,7 +2,8 @@ use Rattle.std.specs.Borrow.{Bor}
 use Rattle.std.proofs.Common.{◌<◌, ◌∷◌, [], ℕ, List, length, map, sym, ap, ◌∙◌, arith, Vec, Global}
 use Rattle.std.proofs.lemmas.List.{map-append}
 use Rattle.smap_compose.specs.Private.Listing.{lent_text}
-use Rattle.smap_compose.proofs.ListLaws.{none_past, copied_next}
+use Rattle.smap_mappings.specs.Laws.Lists.{none_past}
+use Rattle.smap_compose.proofs.ListLaws.{copied_next}
 use Rattle.smap_compose.proofs.listed.add_names.Goals as goal
 use Rattle.smap_compose.proofs.listed.add_names.Goals.{in-Some+in_ok-push, in_default}
 

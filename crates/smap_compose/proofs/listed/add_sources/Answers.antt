@@ -1,12 +1,13 @@
 use Rattle.std.proofs.Common.{◌<◌, ◌++◌, ◌∷◌, [], length, map, option_map, sym, ap, ◌∙◌, arith, Vec, Global}
 use Rattle.std.specs.Prelude.{option_copied}
 use Rattle.std.proofs.lemmas.List.{map-append}
+use Rattle.smap_mappings.specs.Laws.Lists.{none_past}
 use Rattle.smap_resolve.specs.SourceName.{name_of}
 use Rattle.smap_record.specs.Sources.{source_of}
 use Rattle.smap_compose.specs.declared.listing.LentSource.{LentSource}
 use Rattle.smap_compose.specs.Composition.{source_from}
 use Rattle.smap_compose.specs.Private.Listing.{lent_source}
-use Rattle.smap_compose.proofs.ListLaws.{none_past, mapped_next}
+use Rattle.smap_compose.proofs.ListLaws.{mapped_next}
 use Rattle.smap_compose.proofs.listed.add_sources.Goals as goal
 use Rattle.smap_compose.proofs.listed.add_sources.Goals.{in-Some+in_ok-lent_source+in_ok-push, in_default}
 

@@ -1,9 +1,8 @@
 use Rattle.std.proofs.Common.{◌≡◌, ◌+◌, ◌++◌, length, map, flat_map, sym, ap, ◌∙◌}
-use Rattle.std.proofs.lemmas.List.{append-nil}
+use Rattle.std.proofs.lemmas.List.{append-nil, drop_all}
 use Rattle.smap_compose.specs.Composition.{names_within}
 use Rattle.smap_compose.specs.Inners.{stated_inners}
 use Rattle.smap_compose.specs.Private.Listing.{lent_text}
-use Rattle.smap_compose.proofs.ListLaws.{drop_past}
 use Rattle.smap_compose.proofs.ListedLaws.{entries_counted, names_counted}
 use Rattle.smap_compose.proofs.listed.all_names.Goals as goal
 
@@ -14,7 +13,7 @@ returns-clause-counted c =
     let made = map lent_text c.loop-inner.names.items in
     let are : made ≡ outer ++ flat_map names_within (stated_inners inners) =
     sym (append-nil made)
-    ∙ ap (λ l. made ++ flat_map names_within (stated_inners l)) (sym (drop_past inners c.loop-inner.inner-index c.loop-inner-test.false))
+    ∙ ap (λ l. made ++ flat_map names_within (stated_inners l)) (sym (drop_all c.loop-inner.inner-index inners c.loop-inner-test.false))
     ∙ c.loop-inner.invariant.names in
     entries_counted lent_text c.loop-inner.names.items outer (flat_map names_within (stated_inners inners)) are
     ∙ ap (λ n. length outer + n) (names_counted (stated_inners inners))

@@ -1,11 +1,11 @@
 use Rattle.std.proofs.Common.{◌≤◌, ◌<◌, ◌+◌, ◌++◌, None, drop, length, map, option_map, sym, ap, ◌∙◌, arith, Vec, Global}
-use Rattle.std.proofs.lemmas.List.{append-nil, append_assoc, length-map}
+use Rattle.std.proofs.lemmas.List.{append-nil, append_assoc, drop_all, length-map}
+use Rattle.smap_mappings.specs.Laws.Lists.{none_past}
 use Rattle.smap_record.specs.Sources.{source_of}
 use Rattle.smap_compose.specs.declared.listing.LentSource.{LentSource}
 use Rattle.smap_compose.specs.Composition.{source_from, sources_below, sources_within}
 use Rattle.smap_compose.specs.Inners.{stated_inners}
 use Rattle.smap_compose.specs.Private.Listing.{lent_source}
-use Rattle.smap_compose.proofs.ListLaws.{drop_past, none_past}
 use Rattle.smap_compose.proofs.ListedLaws.{called_alike, entries_counted, none_within, one_within, sources_counted}
 use Rattle.smap_compose.proofs.PlacedLaws.{sources_from}
 use Rattle.smap_compose.proofs.listed.all_sources.Goals as goal
@@ -52,7 +52,7 @@ returns-clause-sources c =
     let inners = c.args.inners.now in
     let made = map lent_source c.loop-i.sources.items in
     sym (append-nil made) ∙ ap (λ l. made ++ l) (sym (none_within (drop c.loop-i.i outer)))
-    ∙ ap (λ l. made ++ sources_within (drop c.loop-i.i outer) (stated_inners l)) (sym (drop_past inners c.loop-i.i c.loop-i-test.false))
+    ∙ ap (λ l. made ++ sources_within (drop c.loop-i.i outer) (stated_inners l)) (sym (drop_all c.loop-i.i inners c.loop-i-test.false))
     ∙ c.loop-i.invariant.sources
 
 pub returns-clause-counted : goal.returns-clause-counted

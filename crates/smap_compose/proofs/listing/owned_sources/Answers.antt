@@ -1,9 +1,9 @@
 use Rattle.std.proofs.Common.{◌++◌, ◌∷◌, [], map, sym, ap, ◌∙◌}
 use Rattle.std.proofs.lemmas.List.{map-append}
 use Rattle.smap_record.specs.Sources.{source_of}
+use Rattle.smap_record.proofs.EachLaws.{walk_end, walk_next}
 use Rattle.smap_compose.specs.LeftOut.{content_where}
 use Rattle.smap_compose.specs.Private.Listing.{lent_source}
-use Rattle.smap_compose.proofs.ListLaws.{walk_end, walk_next}
 use Rattle.smap_compose.proofs.listing.owned_sources.Goals as goal
 
 pub loop-source-preserved : goal.loop-source-preserved

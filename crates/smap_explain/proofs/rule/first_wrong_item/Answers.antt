@@ -3,8 +3,8 @@ use Rattle.std.specs.Prelude.{position}
 use Rattle.std.proofs.lemmas.Iterator.{YieldsList-from_slice}
 use Rattle.std.proofs.lemmas.Iterator.Search.{position_from_yields_List}
 use Rattle.serde_json.specs.View.{view}
+use Rattle.smap_record.proofs.IndexMapLaws.{position-map}
 use Rattle.smap_explain.specs.Rule.{is_wrong_item}
-use Rattle.smap_explain.proofs.PositionLaws.{position-map}
 use Rattle.smap_explain.proofs.rule.first_wrong_item.Goals as goal
 
 pub returns : goal.returns

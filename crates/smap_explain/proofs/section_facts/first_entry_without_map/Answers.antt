@@ -3,8 +3,8 @@ use Rattle.std.specs.Prelude.{position}
 use Rattle.std.proofs.lemmas.Iterator.{YieldsList-from_slice}
 use Rattle.std.proofs.lemmas.Iterator.Search.{position_from_yields_List}
 use Rattle.serde_json.specs.View.{view}
+use Rattle.smap_record.proofs.IndexMapLaws.{position-map}
 use Rattle.smap_explain.specs.KeyFacts.{has_no_map}
-use Rattle.smap_explain.proofs.PositionLaws.{position-map}
 use Rattle.smap_explain.proofs.section_facts.first_entry_without_map.Goals as goal
 
 pub returns : goal.returns

@@ -5,6 +5,7 @@ use Rattle.std.specs.Str.Iter.{chars_rest}
 use Rattle.std.proofs.lemmas.List.{length-append, length-replicate}
 use Rattle.std.proofs.lemmas.Str.{chars-nil, chars_past_char}
 use Rattle.smap_index.specs.Parts.{joined}
+use Rattle.smap_index.proofs.PositionLaws.{at_or_before}
 use Rattle.smap_mappings.specs.Order.{IsAtOrBefore, IsInOrder}
 use Rattle.smap_mappings.specs.Range.{position_at}
 use Rattle.smap_mappings.specs.Within.{IsWithin}
@@ -12,7 +13,7 @@ use Rattle.smap_fit.specs.Lines.{code_of}
 use Rattle.smap_fit.specs.Owners.{column_after, line_after, owned_bytes}
 use Rattle.smap_fit.specs.Private.Counts.{counts_after, unmapped_after}
 use Rattle.smap_fit.specs.Private.Left.{with_next}
-use Rattle.smap_fit.proofs.OwnerLaws.{not_before, starts_alike, starts_in_order, starts_within}
+use Rattle.smap_fit.proofs.OwnerLaws.{starts_alike, starts_in_order, starts_within}
 use Rattle.smap_fit.proofs.ByteLaws.{behind, column_within, each_after, line_within, none_after, none_long, no_bytes, same_bytes}
 use Rattle.smap_fit.proofs.CountedLaws.{length_after, none_counted, sum_after, sum_of_none}
 use Rattle.smap_fit.proofs.shares.bytes_by_source.Goals as goal
@@ -81,7 +82,7 @@ loop-character-preserved c =
     record {
       text = subst IsUtf8 c.as_str.ensures c.as_str.utf8;
       ordered = c.owner_of-owner.ensures.ordered;
-      last = not_before c.owner_of-owner.new.self.last (position_at c.loop-character.line c.loop-character.column) (position_at c.place_after.result.0 c.place_after.result.1)
+      last = at_or_before c.owner_of-owner.new.self.last (position_at c.loop-character.line c.loop-character.column) (position_at c.place_after.result.0 c.place_after.result.1)
           c.owner_of-owner.ensures.last
           (subst (IsAtOrBefore (position_at c.loop-character.line c.loop-character.column)) (sym moved)
           (behind c.loop-character.line c.loop-character.column c.in-Some.character following));

@@ -4,9 +4,10 @@ use Rattle.std.specs.List.{position_from}
 use Rattle.std.specs.Option.{option_or}
 use Rattle.smap_index.specs.Faults.{is_part_past_limit, overlap_fault, range_fault}
 use Rattle.smap_index.specs.Private.Walk.{IsTextInOrder, is_overlapping_next}
-use Rattle.smap_index.proofs.FaultLaws.{drop_at, first_or, none_so_far, copied_get, overlap_step}
+use Rattle.smap_index.proofs.FaultLaws.{first_or, none_so_far, copied_get, overlap_step}
 use Rattle.smap_index.proofs.PartLaws.{marks_next, All_next}
 use Rattle.smap_index.proofs.mark.mark_parts.Goals as goal
+use Rattle.smap_mappings.specs.Laws.Lists.{drop_at}
 
 pub loop-i-init : goal.loop-i-init
 unfolding overlap_fault range_fault

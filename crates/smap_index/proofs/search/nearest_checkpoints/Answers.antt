@@ -2,10 +2,10 @@ use Rattle.std.proofs.Common.{sym, ap, refl, ◌∙◌, arith, None}
 use Rattle.smap_index.specs.Checkpoint.{mapping_of}
 use Rattle.smap_index.specs.Private.Search.{mappings_at, is_up_to}
 use Rattle.smap_index.proofs.Halving.{one_more}
-use Rattle.smap_index.proofs.ListLaws.{last_taken}
 use Rattle.smap_index.proofs.SearchLaws.{in_front, ends_front, read_mapping}
 use Rattle.smap_index.proofs.StretchLaws.{last_found, last_missing, next_found, next_missing}
 use Rattle.smap_index.proofs.search.nearest_checkpoints.Goals as goal
+use Rattle.smap_mappings.specs.Laws.Lists.{last_taken}
 
 pub loop-low-init : goal.loop-low-init
 loop-low-init c = record {

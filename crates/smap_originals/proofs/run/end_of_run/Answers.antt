@@ -1,6 +1,7 @@
 use Rattle.std.proofs.Common.{◌+◌, ◌-◌, ◌<◌, length, ap, ◌∙◌, arith}
+use Rattle.std.proofs.lemmas.Option.{get_or_from_slice_get}
 use Rattle.smap_originals.specs.Originals.{original_order}
-use Rattle.smap_originals.proofs.OrderLaws.{back_not_before, longer_back, read}
+use Rattle.smap_originals.proofs.OrderLaws.{back_not_before, longer_back}
 use Rattle.smap_originals.proofs.run.end_of_run.Goals as goal
 
 pub returns-then-behind-order-clause-behind : goal.returns-then-behind-order-clause-behind
@@ -10,7 +11,7 @@ returns-then-behind-order-clause-behind c = λ k d low high.
     let inside : end < length c.args.places.now = omega (arith, c.len-most.ensures.count) in
     let last = c.loop-end.invariant.run (end - 1) c.at.result.now (omega (arith, c.loop-end.invariant.begun)) (omega (arith, c.loop-end.invariant.begun)) in
     let up = c.requires.ordered.ordered (end - 1) end c.at.result.now (omega arith) inside in
-    let here = ap original_order (read c.args.places.now end c.at.result.now c.at.result.now there) in
+    let here = ap original_order (get_or_from_slice_get c.args.places.now end c.at.result.now c.at.result.now there) in
     let more = back_not_before c.args.places.now end (c.args.order + 1) c.at.result.now c.requires.ordered.ordered there
     (omega (arith, last, up, here, c.original_order-behind.ensures, c.if-behind-order.true)) k d low high in
     omega (arith, more)

@@ -1,10 +1,10 @@
 use Rattle.std.proofs.Common.{◌≡◌, sym, ap, subst, ◌∙◌, arith}
-use Rattle.std.proofs.lemmas.Option.{slice_get_within}
+use Rattle.std.proofs.lemmas.Option.{get_or_from_slice_get, slice_get_within}
 use Rattle.smap_originals.specs.Originals.{order_of, original_order}
 use Rattle.smap_originals.specs.Private.Run.{AreFound, IsSplitAt}
 use Rattle.smap_originals.specs.declared.asked.OriginalDirection.TheVariants.{AtOrAfter}
 use Rattle.smap_originals.proofs.FoundLaws.{found_from, none_from_end, none_from_line}
-use Rattle.smap_originals.proofs.OrderLaws.{no_next, read}
+use Rattle.smap_originals.proofs.OrderLaws.{no_next}
 use Rattle.smap_originals.proofs.run.run_from.Goals as goal
 
 pub end_of_run-end-requires-clause-room : goal.end_of_run-end-requires-clause-room
@@ -18,7 +18,7 @@ returns-in-Some-clause-found c =
     let split = subst (λ n. IsSplitAt n c.args.places.now c.split_at-split.result.index) c.order_of.ensures c.split_at-split.ensures.split in
     let there = sym c.split_at-split.ensures.next ∙ c.in-Some.is in
     let inside = slice_get_within places index next there in
-    let seen = read places index next next there in
+    let seen = get_or_from_slice_get places index next next there in
     let small = c.requires.ordered.in_range index next inside in
     let above = split.1 index next (omega arith) inside in
     let same : c.original_order.result ≡ order_of c.args.line next.original_column = omega (arith, c.original_order.ensures, c.if-next-line.true) in
@@ -38,7 +38,7 @@ returns-in-Some-2-clause-found c =
     let next = c.in-Some.next in
     let split = subst (λ n. IsSplitAt n c.args.places.now c.split_at-split.result.index) c.order_of.ensures c.split_at-split.ensures.split in
     let there = sym c.split_at-split.ensures.next ∙ c.in-Some.is in
-    let seen = read places index next next there in
+    let seen = get_or_from_slice_get places index next next there in
     let small = c.requires.ordered.in_range index next (slice_get_within places index next there) in
     none_from_line places c.args.line c.args.column index c.requires.ordered next split there
     (omega (arith, small, ap (λ p. p.original_column) seen)) (omega (arith, c.ranges.column)) c.if-next-line.false

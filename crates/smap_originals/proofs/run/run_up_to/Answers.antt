@@ -1,9 +1,10 @@
 use Rattle.std.proofs.Common.{◌≡◌, ◌+◌, ◌-◌, get_or, sym, ap, subst, ◌∙◌, arith}
+use Rattle.std.proofs.lemmas.Option.{get_or_from_slice_get}
 use Rattle.smap_originals.specs.Originals.{order_of, original_order}
 use Rattle.smap_originals.specs.Private.Run.{AreFound, IsSplitAt}
 use Rattle.smap_originals.specs.declared.asked.OriginalDirection.TheVariants.{AtOrBefore}
 use Rattle.smap_originals.proofs.FoundLaws.{found_up_to, none_up_to_line, none_up_to_start}
-use Rattle.smap_originals.proofs.OrderLaws.{last_there, no_last, read}
+use Rattle.smap_originals.proofs.OrderLaws.{last_there, no_last}
 use Rattle.smap_originals.proofs.run.run_up_to.Goals as goal
 
 pub first_of_run-first-requires-clause-order : goal.first_of_run-first-requires-clause-order
@@ -12,7 +13,7 @@ first_of_run-first-requires-clause-order c = λ k d low high.
     let there = last_there c.args.places.now index _ c.in-Some.last c.split_at-split.ensures.last c.in-Some.is in
     let same : k ≡ index - 1 = omega arith in
     subst (λ n. original_order (get_or c.args.places.now n d) ≡ c.original_order.result) (sym same)
-    (ap original_order (read c.args.places.now (index - 1) c.in-Some.last d there.1) ∙ sym c.original_order.ensures)
+    (ap original_order (get_or_from_slice_get c.args.places.now (index - 1) c.in-Some.last d there.1) ∙ sym c.original_order.ensures)
 
 pub first_of_run-first-requires-clause-room : goal.first_of_run-first-requires-clause-room
 first_of_run-first-requires-clause-room c = omega (arith, c.split_at-split.ensures.at_most, c.requires.room)
@@ -24,7 +25,7 @@ returns-in-Some-clause-found c =
     let last = c.in-Some.last in
     let split = subst (λ n. IsSplitAt (n + 1) c.args.places.now c.split_at-split.result.index) c.order_of.ensures c.split_at-split.ensures.split in
     let there = last_there places index _ last c.split_at-split.ensures.last c.in-Some.is in
-    let seen = read places (index - 1) last last there.1 in
+    let seen = get_or_from_slice_get places (index - 1) last last there.1 in
     let small = c.requires.ordered.in_range (index - 1) last (omega (arith, there.0, c.split_at-split.ensures.within)) in
     let below = split.0 (index - 1) last (omega arith) (omega (arith, there.0)) in
     let same : c.original_order.result ≡ order_of c.args.line last.original_column = omega (arith, c.original_order.ensures, c.if-last-line.true) in
@@ -44,7 +45,7 @@ returns-in-Some-2-clause-found c =
     let last = c.in-Some.last in
     let split = subst (λ n. IsSplitAt (n + 1) c.args.places.now c.split_at-split.result.index) c.order_of.ensures c.split_at-split.ensures.split in
     let there = last_there places index _ last c.split_at-split.ensures.last c.in-Some.is in
-    let seen = read places (index - 1) last last there.1 in
+    let seen = get_or_from_slice_get places (index - 1) last last there.1 in
     let small = c.requires.ordered.in_range (index - 1) last (omega (arith, there.0, c.split_at-split.ensures.within)) in
     none_up_to_line places c.args.line c.args.column index c.requires.ordered last split there.0 there.1
     (omega (arith, small, ap (λ p. p.original_column) seen)) (omega (arith, c.ranges.column)) c.if-last-line.false

@@ -1,8 +1,9 @@
 use Rattle.std.proofs.Common.{[], ◌∷◌, ◌++◌, ◌+◌, Some, drop, length, option_map, set, true, sym, ap, ◌∙◌, arith}
 use Rattle.std.proofs.lemmas.List.{drop_all}
+use Rattle.smap_mappings.specs.Laws.Lists.{drop_at}
 use Rattle.smap_record.specs.Ignored.{ignored_flags}
 use Rattle.smap_record.specs.Json.{number_below}
-use Rattle.smap_record.proofs.EachLaws.{after, one_more, not_one, no_more, none_yet, next_value}
+use Rattle.smap_record.proofs.EachLaws.{after, one_more, not_one, no_more, none_yet}
 use Rattle.smap_record.proofs.IgnoredLaws.{one_flag, below_limit, length-ignored_flags}
 use Rattle.smap_record.proofs.ignored.ignored_flags.Goals as goal
 
@@ -21,7 +22,7 @@ returns-in_default-index_below c =
     let values = drop (c.loop-item.item-index + 1) c.deref-item-items.result.now in
     ap (option_map (ignored_flags c.args.sources))
     (sym (sym c.loop-item.invariant.1
-    ∙ ap (after read indices) (next_value c.deref-item-items.result.now c.loop-item.item-index c.item-item.result
+    ∙ ap (after read indices) (drop_at c.deref-item-items.result.now c.loop-item.item-index c.item-item.result
     (omega (arith, c.loop-item-test.true)) c.item-item.is)
     ∙ not_one read indices c.item-item.result values (sym c.in_default-index_below.ensures)))
 
@@ -32,7 +33,7 @@ loop-item-preserved c =
     let values = drop (c.loop-item.item-index + 1) c.deref-item-items.result.now in (
       indices ++ c.in-Some.index ∷ [],
       one_more read indices c.item-item.result values c.in-Some.index (sym c.in-Some.ensures)
-          ∙ ap (after read indices) (sym (next_value c.deref-item-items.result.now c.loop-item.item-index c.item-item.result
+          ∙ ap (after read indices) (sym (drop_at c.deref-item-items.result.now c.loop-item.item-index c.item-item.result
           (omega (arith, c.loop-item-test.true)) c.item-item.is))
           ∙ c.loop-item.invariant.1,
       ap (λ flags. set flags c.in-Some.index true) c.loop-item.invariant.2

@@ -1,9 +1,10 @@
 use Rattle.std.proofs.Common.{◌≡◌, ◌<◌, ap, arith, length, map, option_map, string_bytes, sym, ◌∙◌, String, Vec, Global}
 use Rattle.std.specs.Prelude.{Option}
 use Rattle.std.proofs.lemmas.List.{length-map, take_all}
+use Rattle.smap_mappings.specs.Laws.Lists.{none_past}
 use Rattle.smap_record.specs.Sources.{source_of}
 use Rattle.smap_record.specs.Private.Renamed.{name_at, text_of_source}
-use Rattle.smap_record.proofs.RenamedLaws.{none_past, text_next}
+use Rattle.smap_record.proofs.EachLaws.{map_next}
 use Rattle.smap_record.proofs.named_sources.new_names.Goals as goal
 use Rattle.smap_record.proofs.named_sources.new_names.Goals.{in-Some+in_ok-new_name+in_ok-push, in_default-source}
 
@@ -15,7 +16,7 @@ loop-i-preserved c =
       | in-Some+in_ok-new_name+in_ok-push w ↦
           ap (λ (v : Vec (Option (String Global)) Global). map (option_map string_bytes) v.items) w.names-is
           ∙ ap (map (option_map string_bytes)) w.in_ok-push.ensures.items
-          ∙ text_next (option_map string_bytes) (text_of_source (name_at c.args.how c.args.place.now)) sources c.loop-i.names.items c.loop-i.i
+          ∙ map_next (option_map string_bytes) (text_of_source (name_at c.args.how c.args.place.now)) sources c.loop-i.names.items c.loop-i.i
           (source_of w.in-Some.source.now) w.in_ok-new_name.field-0 c.loop-i.invariant (sym w.in-Some.ensures) w.in_ok-new_name.ensures
       | in_default-source w ↦ absurd (none_past sources c.loop-i.i (sym w.in_default-source.ensures) inside)
     ]

@@ -1,9 +1,11 @@
 use Rattle.std.proofs.Common.{◌≡◌, ◌∷◌, ap, sym, subst, ◌∙◌}
 use Rattle.std.specs.Prelude.{All}
+use Rattle.smap_mappings.specs.Laws.Order.{not_before}
 use Rattle.smap_mappings.specs.Order.{IsInOrder}
+use Rattle.smap_mappings.specs.Range.{position_at}
 use Rattle.smap_mappings.specs.Within.{IsWithin}
 use Rattle.smap_fit.specs.Private.Left.{OwnsAlike, with_next}
-use Rattle.smap_fit.proofs.OwnerLaws.{alike_on, not_after, nothing_left, passes, rest_within, stepped}
+use Rattle.smap_fit.proofs.OwnerLaws.{alike_on, nothing_left, passes, rest_within, stepped}
 use Rattle.smap_fit.proofs.owners.Owners.pass.Goals as goal
 
 pub loop-self-preserved : goal.loop-self-preserved
@@ -14,7 +16,7 @@ loop-self-preserved c =
     let order = subst IsInOrder whole so_far.ordered in
     let left : c.in-Some.next ∷ with_next c.next-self.result c.next-self.new.self ≡ c.in-Some.next ∷ c.loop-self.self.rest =
     ap (λ l. c.in-Some.next ∷ l) (stepped c.next-self.result c.loop-self.self.rest c.next-self.new.self c.next-self.ensures.steps) in
-    let before = not_after c.in-Some.next c.args.line c.args.column (sym c.is_after.ensures ∙ c.if-is_after.false) in
+    let before = not_before c.in-Some.next (position_at c.args.line c.args.column) (sym c.is_after.ensures ∙ c.if-is_after.false) in
     record {
       ordered = subst IsInOrder (sym left) order.1;
       last = before;

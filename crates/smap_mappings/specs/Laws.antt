@@ -1,0 +1,4 @@
+pub mod Lists
+pub mod Order
+pub mod Range
+pub mod Counts
