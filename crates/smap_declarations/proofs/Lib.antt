@@ -1,6 +1,7 @@
 pub mod BracketLaws
 pub mod DecidingLaws
 pub mod EntryLaws
+pub mod KeyLaws
 mod Examples
 pub mod LastLaws
 pub mod NamingLaws

@@ -5,3 +5,4 @@ pub mod Entries
 pub mod Order
 pub mod Waiting
 pub mod Passing
+pub mod Keys

@@ -11,6 +11,7 @@ ghost use Rattle.smap_declarations.specs.declared.refusal.DeclarationsRefusal.Th
 
 use crate::frames::printed;
 use crate::given::Given;
+use crate::key::key_of;
 use crate::name_list::NameList;
 use crate::naming::{Found, found_in};
 use crate::order::{is_up_to, sort};
@@ -43,7 +44,7 @@ impl Model for Declarations {
 
 impl Declarations {
     /// Lists those of a generated text, with what its map gives them, in one pass. There are at most as many as a quarter of
-    /// the text's bytes; each takes 32 bytes, and its name as many as it has. While the text is read, 40 bytes are taken for
+    /// the text's bytes; each takes 40 bytes, and its name as many as it has. While the text is read, 40 bytes are taken for
     /// each in their place, 16 more until its body has ended, and a byte for each round bracket. After a refusal nothing is
     /// kept.
     pub fn of_text(
@@ -133,12 +134,14 @@ impl Declarations {
         ensures decoded { meter.new.segments ≡ meter.old.segments }
         ensures onward { meter.old.comparisons ≤ meter.new.comparisons }
     {
+        let wanted = key_of(name);
         let mut low = 0;
         let mut high = self.list.len();
         while low < high {
             let middle = low + (high - low) / 2;
             meter.count_comparison();
-            if is_up_to(&self.list.at(middle), name, place) {
+            let (found, key) = self.list.keyed_at(middle);
+            if is_up_to(&found, key, name, wanted, place) {
                 low = middle + 1;
             } else {
                 high = middle;

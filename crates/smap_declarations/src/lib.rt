@@ -17,6 +17,7 @@ mod declarations;
 mod frames;
 mod functions;
 mod given;
+mod key;
 mod kind;
 mod name_list;
 mod naming;

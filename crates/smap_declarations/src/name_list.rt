@@ -3,17 +3,20 @@ ghost use Rattle.std.specs.Prelude.{◌≡◌, ◌∷◌, ◌++◌, ◌+◌, ◌
 ghost use Rattle.std.specs.Option.{ForSome};
 ghost use Rattle.smap_declarations.specs.Private.Entries.{Grows, IsWithin, StandsAt, name_at};
 ghost use Rattle.smap_declarations.specs.Private.Found.{named};
+ghost use Rattle.smap_declarations.specs.Private.Keys.{IsKey};
 
 use crate::given::Given;
+use crate::key::key_of;
 use crate::naming::Found;
 use crate::walk::DeclarationPlace;
 use std::alloc::{AllocError, Global};
 use std::marker::Model;
 
-// What is told of a name: where its bytes stand in the buffer, its place in the text, where its
-// body ends, and what the map gives it.
+// What is told of a name: its key, where its bytes stand in the buffer, its place in the text, where its body ends, and what
+// the map gives it.
 #[derive(Clone, Copy)]
 pub struct Entry {
+    pub key: u64,
     pub start: u32,
     pub length: u32,
     pub place: DeclarationPlace,
@@ -22,7 +25,7 @@ pub struct Entry {
 }
 
 // There may be one for each four bytes of a text, so their size decides what a list takes.
-const _: () = prove!(size_of::<Entry>() == 32);
+const _: () = prove!(size_of::<Entry>() == 40);
 
 // A name that stands several times in a row has its bytes once.
 #[derive(Drop)]
@@ -34,13 +37,13 @@ pub struct NameList {
 impl Model for NameList {
     ghost use Rattle.std.specs.Prelude.{List};
     ghost use Rattle.smap_declarations.specs.Declarations.{Named};
-    ghost use Rattle.smap_declarations.specs.Private.Entries.{AreWithin, entries_named};
+    ghost use Rattle.smap_declarations.specs.Private.Entries.{AreEntries, entries_named};
 
     ghost Value = { List Named };
 
     ghost view = { λ list. entries_named list.names.items list.entries.items };
 
-    ghost invariant = { λ list. AreWithin list.names.items list.entries.items };
+    ghost invariant = { λ list. AreEntries list.names.items list.entries.items };
 }
 
 impl NameList {
@@ -68,13 +71,24 @@ impl NameList {
         requires { i < length self.now }
         ensures { slice_get self.now i ≡ Some (named result) }
     {
+        self.keyed_at(i).0
+    }
+
+    // The same, and the name's key.
+    #[inline(always)]
+    pub fn keyed_at(&self, i: usize) -> (Found<'_>, u64)
+        requires { i < length self.now }
+        ensures found { slice_get self.now i ≡ Some (named result.0) }
+        ensures key { IsKey result.0.name.now result.1 }
+    {
         let entry = &self.entries[i];
-        Found {
+        let found = Found {
             name: name_at(&self.names, entry.start, entry.length),
             place: entry.place,
             until: entry.until,
             given: entry.given,
-        }
+        };
+        (found, entry.key)
     }
 
     // Adds a name at the end. A text has far fewer bytes than a number of 32 bits counts, so that only want of memory is
@@ -85,6 +99,7 @@ impl NameList {
         let last = self.entries.last().copied();
         let (start, length) = stand(&mut self.names, last, found.name)?;
         self.entries.push(Entry {
+            key: key_of(found.name),
             start,
             length,
             place: found.place,

@@ -29,7 +29,7 @@ module _ {V : Type 0} (next : ℕ) (entries : List (ℕ × Named V)) (text : Lis
   in_first_place = ap (λ o. option_map_or (λ e. e ∷ left) o entries) found.entry_is
 
   -- nothing else is under the text
-  none_left : value_under text (numbers_of left) ≡ None
+  pub none_left : value_under text (numbers_of left) ≡ None
   none_left = found.numbers text ∙ ap (λ b. cond b None (value_under text (numbers_of entries))) (same_text text)
 
   once_in_front : IsOnce next ((number, found.named) ∷ left)

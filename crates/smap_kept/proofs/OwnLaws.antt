@@ -1,6 +1,6 @@
 -- The URLs that stand for themselves, after one was added.
 use Rattle.std.proofs.Common.{◌≡◌, ℕ, ◌+◌, ◌-◌, ◌<◌, ◌≤◌, ◌||◌, ◌&&◌, Bool, true, false, cond, not, List, ◌∷◌, Option, Some, None, get_or, get_or-take, is_some, length, refl, sym, ap, arith, leb-true, length-take, take, take_all, ◌∙◌}
-use Rattle.std.proofs.lemmas.Bool.{false≢true, ltb-false, ltb-true}
+use Rattle.std.proofs.lemmas.Bool.{false≢true, ltb-false, ltb-true, or_parts}
 use Rattle.std.proofs.lemmas.List.Folds.{length-prefix_len}
 use Rattle.std.proofs.lemmas.List.Sums.{prefix_len_passes, prefix_len_stops}
 use Rattle.std.specs.List.{prefix_len}
@@ -46,10 +46,6 @@ cut_is_whole url = go (has_query cut) refl
 none_is : {T : Type 0} (found : Option T) → is_some found ≡ false → found ≡ None
 none_is None is = refl
 none_is (Some value) is = cc
-
-neither : (a b : Bool) → (a || b) ≡ false → (a ≡ false) × (b ≡ false)
-neither true b is = cc
-neither false b is = (refl, is)
 
 also_here : (all : Bool) (found : Option (Counted (Unit {0}))) (b : Bool) → (all || is_some found) ≡ true → (all || is_some (cond b (Some mark) found)) ≡ true
 also_here true found b is = refl
@@ -110,13 +106,13 @@ module _ (url : List ℕ) (own : OwnSeen) where
       go false here is room = refl
       go true true is room = refl
       go true false is true = ap (λ b. record own { urls = cond b own.urls ((url, mark) ∷ without url own.urls) }) (same_text url)
-      go true false is false = ap (λ b. record own { are_all = b }) (sym (neither own.are_all _ is).0)
+      go true false is false = ap (λ b. record own { are_all = b }) (sym (or_parts own.are_all _ is).0)
 
   -- where there is room for one more, nothing is dropped for it
   pub put_beside : is_own own url ≡ false → has_room_beside own url ≡ true → kept_within own.most ((url, mark) ∷ without url own.urls) ≡ (url, mark) ∷ own.urls
   put_beside is room =
       let left = own.most - entry_bytes (url, mark) in
-      let none = none_is (value_under url own.urls) (neither own.are_all (is_some (value_under url own.urls)) is).1 in
+      let none = none_is (value_under url own.urls) (or_parts own.are_all (is_some (value_under url own.urls)) is).1 in
       let within = leb-true (entry_bytes (url, mark) + bytes_of own.urls) own.most room in
       ap (λ l. (url, mark) ∷ fitting left l) (all_stay url own.urls none)
       ∙ ap (λ l. (url, mark) ∷ l) (all_fit left own.urls (omega (arith, within)))

@@ -1,5 +1,5 @@
 //! Values under texts within a bound.
-ghost use Rattle.std.specs.Prelude.{◌≡◌, ◌∷◌, ◌++◌, ◌+◌, ◌-◌, [], drop, is_some, length, nat_le, option_copied, take, IfErr, IfOk, OnErr, OnOk, true};
+ghost use Rattle.std.specs.Prelude.{◌≡◌, ◌∷◌, ◌++◌, ◌+◌, ◌-◌, [], None, drop, is_some, length, nat_le, option_copied, take, IfErr, IfOk, OnErr, OnOk, true};
 ghost use Rattle.std.specs.Option.{option_map_or};
 ghost use Rattle.smap_locations.specs.ByText.{value_under};
 ghost use Rattle.smap_kept.specs.InOrder.{used, without};
@@ -125,8 +125,10 @@ impl<V: Drop> Bounded<V> {
     }
 
     /// Takes out what is under a text.
-    pub(crate) fn remove(&mut self, text: &[u8])
-        ensures { self.new ≡ record self.old { entries = without text.now self.old.entries } }
+    pub fn remove(&mut self, text: &[u8])
+        ensures rest { self.new
+            ≡ record self.old { entries = without text.now self.old.entries } }
+        ensures gone { value_under text.now self.new.entries ≡ None }
     {
         let before = self.entries.remove(text);
         self.bytes -= bytes_before(text, before);

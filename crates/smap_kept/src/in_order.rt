@@ -1,5 +1,5 @@
 //! Values under texts, in the order of their last use.
-ghost use Rattle.std.specs.Prelude.{◌≡◌, ◌++◌, ◌∷◌, [], is_some, length, nat_eq, option_copied, option_map, IfErr, IfOk, OnErr, OnOk};
+ghost use Rattle.std.specs.Prelude.{◌≡◌, ◌++◌, ◌∷◌, [], None, is_some, length, nat_eq, option_copied, option_map, IfErr, IfOk, OnErr, OnOk};
 ghost use Rattle.std.specs.Option.{IfNone, option_to_list};
 ghost use Rattle.std.specs.Map.{lookup, remove_entry};
 ghost use Rattle.lru.specs.LruCache.{lru_cache};
@@ -160,6 +160,7 @@ impl<V: Drop> InOrder<V> {
     pub(crate) fn remove(&mut self, text: &[u8]) -> Option<V>
         ensures value { result ≡ value_under text.now self.old }
         ensures rest { self.new ≡ without text.now self.old }
+        ensures gone { value_under text.now self.new ≡ None }
     {
         let number = self.numbers.remove(text)?;
         take(&mut self.entries, number)

@@ -2,4 +2,3 @@ pub mod Kept
 pub mod Stored
 pub mod Named
 pub mod UrlMaps
-pub mod NamedOf

@@ -10,5 +10,4 @@ pub mod Named
 pub mod Laws
 pub mod UrlTable
 pub mod UrlMaps
-pub mod NamedOf
 pub mod PatternSeen

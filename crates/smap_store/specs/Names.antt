@@ -86,6 +86,18 @@ part_with key came part = record part {
 abbrev pub with_names : ProgramSeen → NamesCame → NamesCache → NamesCache
 with_names program came names = with_part program.kind (part_with program.key came (part_of program.kind names)) names
 
--- what came is remembered, or there was not enough memory
+-- what is remembered of it is taken out
+abbrev pub part_without : (key : List ℕ) → NamesPart → NamesPart
+part_without key part = record part { entries = without key part.entries }
+
+abbrev pub names_without : ProgramSeen → NamesCache → NamesCache
+names_without program names = with_part program.kind (part_without program.key (part_of program.kind names)) names
+
+-- there was not enough memory, and nothing is remembered of a program
+pub record ForgetsNames (old : NamesCache) (program : ProgramSeen) (new : NamesCache) : Type 0 where
+  pub rest : new ≡ record (names_without program old) { shortages = one_more old.shortages }
+  pub gone : known_names program new ≡ None
+
+-- what came is remembered, or nothing is
 abbrev pub RemembersNames : (old : NamesCache) → ProgramSeen → NamesCame → (new : NamesCache) → Type 0
-RemembersNames old program came new = (new ≡ with_names program came old) ⊎ (new ≡ record old { shortages = one_more old.shortages })
+RemembersNames old program came new = (new ≡ with_names program came old) ⊎ ForgetsNames old program new

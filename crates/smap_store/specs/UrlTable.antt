@@ -10,8 +10,8 @@ use Rattle.smap_locations.specs.Locations.{LocationsSeen, pattern_for}
 use Rattle.smap_locations.specs.Paths.{without_query}
 use Rattle.smap_record.specs.Record.{MapRecord}
 use Rattle.smap_store.specs.Fileless.{asks_no_file}
-use Rattle.smap_store.specs.NamedOf.{NamedByUrl}
 use Rattle.smap_trace.specs.FunctionNames.{FunctionNames, names_beside}
+use Rattle.smap_trace.specs.MapsOf.{NamedByUrl}
 use Rattle.smap_trace.specs.Table.{is_bad_url}
 use Rattle.smap_trace.specs.declared.refusal.TableRefusal.{TableRefusal}
 use Rattle.smap_trace.specs.declared.refusal.TableRefusal.TheVariants.{BadUrl, Twice}

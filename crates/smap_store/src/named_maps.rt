@@ -66,8 +66,7 @@ impl<L: MapLoader, N: NamesLoader> Maps for NamedMaps<'_, '_, '_, L, N> {
         (program_in (stored_seen maps.maps)) N.MayName maps.names.now maps.namer.now };
 
     fn find(&mut self, url: &[u8]) -> bool {
-        let program = self.maps.program_of(url);
-        let was_held = self.maps.holds(url);
+        let (program, was_held) = self.maps.program_of(url);
         let may_differ = self.maps.find(url);
         let was_kept = self.names.touch(program);
         if !(was_held && was_kept) {
@@ -92,8 +91,7 @@ impl<L: MapLoader, N: NamesLoader> Maps for NamedMaps<'_, '_, '_, L, N> {
         line: u32,
         column: u32,
     ) -> Option<&'a [u8]> {
-        let map = self.maps.map_for(url);
-        let program = self.maps.program_of(url);
+        let (program, map) = self.maps.program_with_map(url);
         let declared = self.names.get(program);
         name_declared_beside(alloc, map, declared, function, line, column)
     }

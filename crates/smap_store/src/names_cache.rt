@@ -1,6 +1,6 @@
 //! What is kept of the declarations of generated programs.
-ghost use Rattle.std.specs.Prelude.{◌≡◌, option_map, IfOk};
-ghost use Rattle.smap_store.specs.Names.{RemembersNames, bytes_in, declared_in, has_names, kept_names, names_at_first, names_came, names_used};
+ghost use Rattle.std.specs.Prelude.{◌≡◌, None, option_map, IfOk};
+ghost use Rattle.smap_store.specs.Names.{RemembersNames, bytes_in, declared_in, has_names, kept_names, known_names, names_at_first, names_came, names_used, names_without};
 ghost use Rattle.smap_store.specs.Program.{program_seen};
 
 use crate::names_loader::LoadedNames;
@@ -10,9 +10,9 @@ use smap_kept::Bounded;
 use std::alloc::{AllocError, Global};
 
 /// The declarations that are remembered of generated programs, or that one has none, each beside its map: those of the maps
-/// of a table under their URLs, and those of the maps of files under the texts under which these are kept. They count for the
-/// bytes of their generated file and of that text, and 128 more; each sum is within half of a bound, or one stands alone.
-/// Where there is no room for one more, what was longest not asked for is dropped.
+/// of a table under their URLs, and those of the maps of files under the texts under which these are kept. They count for
+/// the bytes of their generated file and of that text, and 128 more; each sum is within half of a bound, or one stands
+/// alone. Where there is no room for one more, what was longest not asked for is dropped.
 #[derive(Drop)]
 pub struct NamesCache {
     pub of_table: Bounded<Option<Declarations>>,
@@ -61,7 +61,8 @@ impl NamesCache {
         }
     }
 
-    // Remembers what came for a program, or counts that there was not enough memory for it.
+    // Remembers what came for a program. Where there is not enough memory, that is counted, and nothing is remembered of it:
+    // what was may be of an older map.
     pub(crate) fn remember(
         &mut self,
         alloc: Global,
@@ -77,7 +78,19 @@ impl NamesCache {
             MapKind::File => self.of_files.put(alloc, program.key, declared, bytes),
         };
         if put.is_err() {
+            self.forget(program);
             self.shortages = self.shortages.saturating_add(1);
+        }
+    }
+
+    // Takes out what is remembered of a program.
+    fn forget(&mut self, program: Program<'_>)
+        ensures rest { self.new ≡ names_without (program_seen program.entry) self.old }
+        ensures gone { known_names (program_seen program.entry) self.new ≡ None }
+    {
+        match program.kind {
+            MapKind::Table => self.of_table.remove(program.key),
+            MapKind::File => self.of_files.remove(program.key),
         }
     }
 }

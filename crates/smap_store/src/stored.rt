@@ -5,8 +5,9 @@ ghost use Rattle.smap_store.specs.Fileless.{known_of};
 ghost use Rattle.smap_store.specs.Loaded.{came_seen};
 ghost use Rattle.smap_store.specs.Named.{holds_map};
 ghost use Rattle.smap_store.specs.Program.{program_in, program_seen};
-ghost use Rattle.smap_store.specs.Stored.{Asks, Comes, outcome_at};
+ghost use Rattle.smap_store.specs.Stored.{Asks, Comes, found_in, outcome_at};
 ghost use Rattle.smap_store.specs.StoredMaps.{IsSameStore, stored_seen};
+ghost use Rattle.smap_store.specs.declared.program.MapKind.TheVariants as kinds;
 
 use crate::cache::MapCache;
 use crate::fileless::asks_no_file;
@@ -44,26 +45,36 @@ impl<L: MapLoader> StoredMaps<'_, '_, L> {
         None
     }
 
-    // Whether the map of a URL is at hand: nothing is read when it is looked for.
-    pub(crate) fn holds(&self, url: &[u8]) -> bool
-        ensures { result ≡ holds_map (stored_seen self.now) url.now }
+    // The program of a URL, and whether its map is at hand: nothing is read when it is looked for. One look into the table
+    // tells both.
+    pub(crate) fn program_of<'u>(&self, url: &'u [u8]) -> (Program<'u>, bool)
+        ensures program { program_seen result.0 ≡ program_in (stored_seen self.now) url.now }
+        ensures held { result.1 ≡ holds_map (stored_seen self.now) url.now }
     {
-        self.known(url).is_some() || self.cache.recall(self.locations.key_for(url)).is_some()
+        if self.exact.map_for(url).is_some() {
+            return (in_table(url), true);
+        }
+        let key = self.locations.key_for(url);
+        let is_held = asks_no_file(self.locations, url) || self.cache.recall(key).is_some();
+        (in_file(key), is_held)
     }
 
-    // The program of a URL.
-    pub(crate) fn program_of<'u>(&self, url: &'u [u8]) -> Program<'u>
-        ensures { program_seen result ≡ program_in (stored_seen self.now) url.now }
+    // The program of a URL, and the map that was found for it, where it has one. The URL is looked up in the table once.
+    pub(crate) fn program_with_map<'u>(&self, url: &'u [u8]) -> (Program<'u>, Option<&ReadyMap>)
+        ensures program { program_seen result.0 ≡ program_in (stored_seen self.now) url.now }
+        ensures map { option_map (λ map. map.now.stated) result.1
+            ≡ found_in (stored_seen self.now) url.now }
     {
-        match self.exact.map_for(url) {
-            Some(_) => Program {
-                kind: MapKind::Table,
-                key: url,
-            },
-            None => Program {
-                kind: MapKind::File,
-                key: self.locations.key_for(url),
-            },
+        if let Some(map) = self.exact.map_for(url) {
+            return (in_table(url), Some(map));
+        }
+        let key = self.locations.key_for(url);
+        if asks_no_file(self.locations, url) {
+            return (in_file(key), None);
+        }
+        match self.cache.recall(key) {
+            Some(found) => (in_file(key), found.ok()),
+            None => (in_file(key), None),
         }
     }
 
@@ -92,6 +103,26 @@ impl<L: MapLoader> StoredMaps<'_, '_, L> {
         };
         let loaded = load_from(self.alloc, self.loader, url, path);
         self.cache.remember(self.alloc, url, loaded);
+    }
+}
+
+// The program whose map the table has under a URL.
+fn in_table(url: &[u8]) -> Program<'_>
+    ensures { program_seen result ≡ record { kind = kinds.Table; key = url.now } }
+{
+    Program {
+        kind: MapKind::Table,
+        key: url,
+    }
+}
+
+// The program whose map is that of a file, which is kept under this text.
+fn in_file(key: &[u8]) -> Program<'_>
+    ensures { program_seen result ≡ record { kind = kinds.File; key = key.now } }
+{
+    Program {
+        kind: MapKind::File,
+        key,
     }
 }
 

@@ -4,8 +4,8 @@ use smap_record::ReadyMap;
 use smap_trace::{Maps, name_declared_beside};
 use std::alloc::Global;
 
-/// The maps of a table, and what its declarations name. With `cut` a URL under which it has none has the one under it without its query and its fragment,
-/// before those of patterns.
+/// The maps of a table, and what its declarations name. With `cut` a URL under which it has none has the one under it
+/// without its query and its fragment, before those of patterns.
 #[derive(Clone, Copy)]
 pub struct UrlMaps<'t> {
     pub table: &'t UrlTable,
@@ -51,9 +51,10 @@ impl Maps for UrlMaps<'_> {
         line: u32,
         column: u32,
     ) -> Option<&'a [u8]> {
+        // First: a table without names has none at once.
+        let declared = self.table.names_under(url, self.cut)?;
         let map = self.map_for(url);
-        let declared = self.table.names_under(url, self.cut);
-        name_declared_beside(alloc, map, declared, function, line, column)
+        name_declared_beside(alloc, map, Some(declared), function, line, column)
     }
 
     ghost some = { λ maps url. (map_under maps.cut maps.table.now url, refl) };

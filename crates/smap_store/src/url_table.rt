@@ -16,8 +16,8 @@ use smap_trace::{Table, TableRefusal, is_bad_url};
 use std::alloc::{AllocError, Global};
 use std::marker::Model;
 
-/// Maps, each under a URL, or under `*` and the text of a pattern, which is that of a file; and beside each the declarations of
-/// its program, or none.
+/// Maps, each under a URL, or under `*` and the text of a pattern, which is that of a file; and beside each the
+/// declarations of its program, or none.
 #[derive(Drop)]
 pub struct UrlTable {
     exact: Table,
@@ -195,8 +195,8 @@ impl UrlTable {
         }
     }
 
-    /// Puts declarations, which others may hold, too, beside the map under a URL or under `*` and the text of its pattern: those
-    /// of its program. Where memory runs out, nothing is changed.
+    /// Puts declarations, which others may hold, too, beside the map under a URL or under `*` and the text of its pattern:
+    /// those of its program. Where memory runs out, nothing is changed.
     pub fn add_names(
         &mut self,
         alloc: Global,
@@ -249,8 +249,8 @@ impl UrlTable {
         }
     }
 
-    /// The declarations beside the map of a URL, where there are some: beside the one that `map_under` gives. The call takes no
-    /// memory.
+    /// The declarations beside the map of a URL, where there are some: beside the one that `map_under` gives. The call
+    /// takes no memory.
     pub fn names_under(&self, url: &[u8], cut: bool) -> Option<&Declarations>
         ensures { option_map (λ names. names.now) result ≡ declared_under cut self.now url.now }
     {

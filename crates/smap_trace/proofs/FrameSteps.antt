@@ -10,6 +10,7 @@ use Rattle.std.proofs.lemmas.List.{take_at, drop_at, take-take, take_rest, lengt
 use Rattle.std.proofs.lemmas.Slice.Eq.{starts_is}
 use Rattle.std.proofs.lemmas.Bool.Decides.{Decides-eqb}
 use Rattle.smap_lines.specs.Bytes.{is_blank}
+use Rattle.smap_record.proofs.ContentLaws.{is_some-map}
 use Rattle.smap_trace.specs.Cuts.{cut_at_call, cut_at_first_byte, without_last}
 use Rattle.smap_lines.specs.Lines.{has_line_end}
 use Rattle.smap_trace.specs.Frame.{has_cr_within, is_line, is_one_line}
@@ -167,10 +168,6 @@ none_if : {X : Type 0} (o : Option X) → is_some o ≡ false → o ≡ None
 none_if None is = refl
 none_if (Some x) is = cc
 
-is_some_map : {X Y : Type 0} (f : X → Y) (o : Option X) → is_some (option_map f o) ≡ is_some o
-is_some_map f None = refl
-is_some_map f (Some x) = refl
-
 pub found_call : {X : Type 0} (f : X → List ℕ) (o : Option X) (blanks end : ℕ) (line : List ℕ) (found : Bool) → end ≤ length line →
     found ≡ starts_with nat_eq (rest_from blanks (take end line)) (97 ∷ 116 ∷ 32 ∷ []) → found ≡ true → blanks + 3 ≤ end →
     option_map f o ≡ without_last 41 (rest_from (blanks + 3) (take end line)) → is_some o ≡ true → blanks ≡ prefix_len is_blank (take end line) →
@@ -178,7 +175,7 @@ pub found_call : {X : Type 0} (f : X → List ℕ) (o : Option X) (blanks end : 
     ≡ frame_after (prefix_len is_blank (take end line)) (take end line) (drop end line)
 found_call f o blanks end line found inside is holds fits ends some counted =
     let there : is_some (without_last 41 (slice_range line (blanks + 3) end)) ≡ true =
-    ap (λ l. is_some (without_last 41 l)) (sym (seen_text (blanks + 3) end line fits)) ∙ ap is_some (sym ends) ∙ is_some_map f o ∙ some in
+    ap (λ l. is_some (without_last 41 l)) (sym (seen_text (blanks + 3) end line fits)) ∙ ap is_some (sym ends) ∙ is_some-map f o ∙ some in
     call_form blanks line end (begins blanks end line found is holds) fits inside (some_if _ there)
     ∙ ap (λ n. frame_after n (take end line) (drop end line)) counted
 
@@ -189,7 +186,7 @@ pub found_plain : {X : Type 0} (f : X → List ℕ) (o : Option X) (blanks end :
     ≡ frame_after (prefix_len is_blank (take end line)) (take end line) (drop end line)
 found_plain f o blanks end line found is holds fits ends none counted =
     let gone : is_some (without_last 41 (slice_range line (blanks + 3) end)) ≡ false =
-    ap (λ l. is_some (without_last 41 l)) (sym (seen_text (blanks + 3) end line fits)) ∙ ap is_some (sym ends) ∙ is_some_map f o ∙ none in
+    ap (λ l. is_some (without_last 41 l)) (sym (seen_text (blanks + 3) end line fits)) ∙ ap is_some (sym ends) ∙ is_some-map f o ∙ none in
     plain_form blanks line end (begins blanks end line found is holds) fits (none_if _ gone) ∙ ap (λ n. frame_after n (take end line) (drop end line)) counted
 
 -- ---- the location in the line

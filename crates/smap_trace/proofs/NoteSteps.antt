@@ -3,16 +3,10 @@ use Rattle.std.specs.Prelude.{◌≡◌, ◌≤◌, ◌<◌, ◌+◌, ◌||◌, 
 use Rattle.std.specs.List.{list_any, position_or_len}
 use Rattle.std.specs.Prelude.{position}
 use Rattle.std.proofs.Common.{ap, arith, get_or, refl, set, subst, suc, sym, ◌∙◌}
+use Rattle.std.proofs.lemmas.Option.{cond_some}
+use Rattle.smap_record.proofs.FileTextLaws.{none_chosen}
 use Rattle.smap_trace.specs.UrlNotes.{NamingSeen, UrlNoteSeen}
 use Rattle.smap_trace.specs.Private.Noting.{first_note, is_of, noting, with_naming, with_one}
-
-from_some : (b : Bool) (n k : ℕ) → cond b (Some n) None ≡ Some k → (b ≡ true) × (n ≡ k)
-from_some true n k is = (refl, cc)
-from_some false n k is = absurd (cc)
-
-from_none : (b : Bool) (n : ℕ) → cond b (Some n) None ≡ None → b ≡ false
-from_none true n is = absurd (cc)
-from_none false n is = refl
 
 one_lower : (m n : ℕ) → nat_lt m n ≡ nat_lt (1 + m) (suc n)
 one_lower m n = grind arith
@@ -53,14 +47,14 @@ module _ {X : Type 0} (see : X → UrlNoteSeen) (naming : NamingSeen) where
 
   -- where there is a note of the URL, at this index
   pub noted_one : (xs : List X) (k : ℕ) → position test xs ≡ Some k → list_any (is_of naming.url) (map see xs) ≡ true
-  noted_one xs k is = any_at xs ∙ (from_some _ _ k is).0
+  noted_one xs k is = any_at xs ∙ (cond_some _ _ k is).0
 
   -- and where there is none
   pub noted_none : (xs : List X) → position test xs ≡ None → list_any (is_of naming.url) (map see xs) ≡ false
-  noted_none xs is = any_at xs ∙ from_none _ _ is
+  noted_none xs is = any_at xs ∙ none_chosen _ _ is
 
   pub index_is : (xs : List X) (k : ℕ) → position test xs ≡ Some k → k ≡ position_or_len test xs
-  index_is xs k is = sym (from_some _ _ k is).1
+  index_is xs k is = sym (cond_some _ _ k is).1
 
 -- memory ran out before, or this was noted
 pub when_enough : (short : Bool) (P : Type 0) → P → MatchBool short ⊤ ((short ≡ false) × P)

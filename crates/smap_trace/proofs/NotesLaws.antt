@@ -9,6 +9,7 @@ use Rattle.std.proofs.lemmas.List.Elements.{filter-append}
 use Rattle.std.proofs.lemmas.List.Folds.{list_any-append}
 use Rattle.std.proofs.lemmas.List.Sums.{fold-append}
 use Rattle.std.proofs.lemmas.Slice.Eq.{bytes_eq-Decides}
+use Rattle.std.proofs.lemmas.Bool.{or_parts}
 use Rattle.smap_trace.specs.Noted.{AreNotesOf}
 use Rattle.smap_trace.specs.UrlNotes.{NamingSeen, NotesSeen, UrlNoteSeen, as_counted, first_unmapped, first_urls, names, note_of, note_with, noted, with_url}
 use Rattle.smap_trace.specs.Private.Noting.{IsNoted, first_note, is_of, noting, place_where, with_naming, with_one}
@@ -80,10 +81,6 @@ module _ (naming : NamingSeen) (url : List ℕ) where
   note_other : (namings : List NamingSeen) → bytes_eq naming.url url ≡ false → note_of (namings ++ naming ∷ []) url ≡ note_of namings url
   note_other namings is = ap (note_with url) (own_more namings false is ∙ append-nil (filter (names url) namings))
 
-none_of : (a b : Bool) → (a || b) ≡ false → (a ≡ false) × (b ≡ false)
-none_of false b is = (refl, is)
-none_of true b is = absurd (cc)
-
 -- ---- the notes of several, with one naming more
 
 -- none stands twice
@@ -104,7 +101,7 @@ module _ (naming : NamingSeen) (namings : List NamingSeen) where
 
   same_others : (urls : List (List ℕ)) → list_any (bytes_eq naming.url) urls ≡ false → Now urls ≡ More urls
   same_others [] none = refl
-  same_others (url ∷ urls) none = let p = none_of (bytes_eq naming.url url) _ none in
+  same_others (url ∷ urls) none = let p = or_parts (bytes_eq naming.url url) _ none in
       λ i. sym (note_other naming url namings p.0) i ∷ same_others urls p.1 i
 
   one_at : (url : List ℕ) (urls : List (List ℕ)) (is : Bool) → bytes_eq naming.url url ≡ is → AllDiffer (url ∷ urls)
@@ -128,7 +125,7 @@ module _ (url : List ℕ) where
   differ_more : (urls : List (List ℕ)) → AllDiffer urls → list_any (bytes_eq url) urls ≡ false → AllDiffer (urls ++ url ∷ [])
   differ_more [] differ none = (refl, tt)
   differ_more (first ∷ urls) differ none =
-      let p = none_of (bytes_eq url first) _ none in
+      let p = or_parts (bytes_eq url first) _ none in
       (any_more first urls ∙ (λ i. differ.0 i || (other_bytes url first p.0 i || false)), differ_more urls differ.1 p.1)
 
   with_differ_at : (urls : List (List ℕ)) (any full : Bool) → list_any (bytes_eq url) urls ≡ any → AllDiffer urls → AllDiffer (cond (any || full) urls (urls ++ url ∷ []))

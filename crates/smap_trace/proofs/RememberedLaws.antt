@@ -88,10 +88,6 @@ module _ {X : Type 0} where
   get_more (z ∷ xs) zero x y at = at
   get_more (z ∷ xs) (suc i) x y at = get_more xs i x y at
 
-  pub get_last : (xs : List X) (x : X) → slice_get (xs ++ x ∷ []) (length xs) ≡ Some x
-  get_last [] x = refl
-  get_last (y ∷ xs) x = get_last xs x
-
 module _ {X : Type 0} (test : X → Bool) where
   all_at : (xs : List X) (i : ℕ) (x : X) → list_all test xs ≡ true → slice_get xs i ≡ Some x → test x ≡ true
   all_at [] i x all at = absurd (cc)

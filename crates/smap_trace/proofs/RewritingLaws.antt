@@ -5,6 +5,7 @@ use Rattle.std.proofs.Common.{ap, arith, refl, subst, sym, ◌∙◌}
 use Rattle.std.proofs.lemmas.List.{append-nil}
 use Rattle.smap_lines.specs.Edited.{StepsLines, is_short}
 use Rattle.smap_lines.specs.Editing.{DevicesSeen, EditsInto}
+use Rattle.smap_lines.specs.Laws.Step.{with_steps}
 use Rattle.smap_lines.specs.Lines.{Line, line_text, lines_with_ends}
 use Rattle.smap_lines.specs.declared.counts.LineCounts.{LineCounts}
 use Rattle.smap_record.specs.Record.{MapRecord}
@@ -46,21 +47,8 @@ module _ {E F : Type 0} (Steps : E → Line → List ℕ → E → Type 0) (More
   pub edits_go : (most : ℕ) (before after : DevicesSeen) (old new : E) (with_it : F) (counts : LineCounts) → Are old with_it
       → EditsInto Steps most before after old new counts → (last : F) × EditsInto More most before after with_it last counts × Are new last
   edits_go most before after old new with_it counts are done =
-      let all = lines_go (lines_with_ends done.bytes) old with_it done.written new are done.steps.each in (
-        all.0,
-        record {
-          bytes = done.bytes;
-          written = done.written;
-          read = done.read;
-          ended = done.ended;
-          fits = done.fits;
-          taken = done.taken;
-          steps = record { each = all.1 };
-          counted = done.counted;
-          long = done.long;
-        },
-        all.2,
-      )
+      let all = lines_go (lines_with_ends done.bytes) old with_it done.written new are done.steps.each in
+      (all.0, with_steps More with_it all.0 done all.1, all.2)
 
 -- ---- how many are passed
 

@@ -57,8 +57,8 @@ pub fn rewrite<R: ByteSource, W: ByteSink>(
 /// The same over maps that are looked for when a frame names them, and that may know the written names of functions: with an
 /// original a frame gets that of its function, where this is one name. Where that is asked, it is noted what became of the
 /// first 100 different URLs that frames name, and what its lines of up to 65,536 bytes are as a text; and the places that
-/// are passed over in such lines are counted, as far as a number. The caller gives devices that have not failed, and notes without any. What the counter
-/// counts stays the same. The output is not flushed.
+/// are passed over in such lines are counted, as far as a number. The caller gives devices that have not failed, and notes
+/// without any. What the counter counts stays the same. The output is not flushed.
 pub fn rewrite_over<R: ByteSource, W: ByteSink, M: Maps, P: PlaceCounter>(
     alloc: Global,
     input: &mut R,

@@ -2,6 +2,7 @@
 use Rattle.std.specs.Prelude.{◌≡◌, ℕ, ◌+◌, ◌≤◌, ◌++◌, List, drop, length, map, take}
 use Rattle.std.specs.List.{All}
 use Rattle.smap_declarations.specs.Declarations.{Named}
+use Rattle.smap_declarations.specs.Private.Keys.{IsKey}
 use Rattle.smap_declarations.specs.declared.name_list.Entry.{Entry}
 
 -- so many bytes from this place on
@@ -20,6 +21,13 @@ IsWithin names entry = entry.start + entry.length ≤ length names
 
 abbrev pub AreWithin : (names : List ℕ) → List Entry → Type 0
 AreWithin names entries = All (IsWithin names) entries
+
+-- an entry has the key of its name
+abbrev pub HasKey : (names : List ℕ) → Entry → Type 0
+HasKey names entry = IsKey (name_at names entry.start entry.length) entry.key
+
+abbrev pub AreEntries : (names : List ℕ) → List Entry → Type 0
+AreEntries names entries = AreWithin names entries × All (HasKey names) entries
 
 -- the buffer has some bytes more at its end, or none
 abbrev pub Grows : (old new : List ℕ) → Type 0

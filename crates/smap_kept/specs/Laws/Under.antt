@@ -37,6 +37,18 @@ module _ {X : Type 0} where
       go (Some value) is = at value is (bytes_eq other text) refl
 
 module _ {T : Type 0} where
+  -- what is left after one was taken out was there
+  pub known_without : (text : List ℕ) (entries : List (List ℕ × Counted T)) (other : List ℕ) (value : T) → known_under text (without text entries) ≡ None
+      → known_under other (without text entries) ≡ Some value → known_under other entries ≡ Some value
+  known_without text entries other value gone has = go (bytes_eq other text) refl
+    where
+      go : (b : Bool) → bytes_eq other text ≡ b → known_under other entries ≡ Some value
+      go true same =
+          let none : known_under other (without text entries) ≡ None =
+          subst (λ t. known_under t (without text entries) ≡ None) (sym ((bytes_eq-Decides other text).0 same)) gone in
+          cc
+      go false apart = ap (option_map (λ it. it.value)) (sym (other_without other text entries apart)) ∙ has
+
   pub found_fitting : (text : List ℕ) (room : ℕ) (entries : List (List ℕ × Counted T)) (one : Counted T) → value_under text (fitting room entries) ≡ Some one
       → value_under text entries ≡ Some one
   found_fitting text room [] one is = is

@@ -3,13 +3,13 @@
 use Rattle.std.specs.Prelude.{◌≡◌, ◌⊎◌, ◌&&◌, ℕ, Bool, true, false, List, Option, Some, None, option_map}
 use Rattle.std.proofs.Common.{ap, inl, inr, refl, subst, sym, ◌∙◌}
 use Rattle.smap_declarations.specs.Declarations.{Named}
-use Rattle.smap_kept.specs.Laws.Under.{known_put, same_used}
+use Rattle.smap_kept.specs.Laws.Under.{known_put, known_without, same_used}
 use Rattle.smap_record.specs.Record.{MapRecord}
 use Rattle.smap_store.specs.Cache.{one_more}
 use Rattle.smap_store.specs.Laws.Stored.{given_in, same_in, some_in}
 use Rattle.smap_store.specs.Loaded.{Came, record_in}
 use Rattle.smap_store.specs.Named.{FindsNamed, GivesNamed, MayKeep, NamedSeen, NamesMay, NamesOf, NamesStep, UsesNames, holds_map, names_in}
-use Rattle.smap_store.specs.Names.{NamesCame, RemembersNames, bytes_in, declared_in, has_names, kept_names, kept_of, known_names, names_used, part_of, part_used, part_with, with_part}
+use Rattle.smap_store.specs.Names.{NamesCame, RemembersNames, bytes_in, declared_in, has_names, kept_names, kept_of, known_names, names_used, part_of, part_used, part_with, part_without, with_part}
 use Rattle.smap_store.specs.Program.{ProgramSeen, program_in, program_of}
 use Rattle.smap_store.specs.Stored.{FindsIn, GivesIn, LoadsMay, LoadsStep, found_in}
 use Rattle.smap_store.specs.declared.names_cache.NamesCache.{NamesCache}
@@ -17,7 +17,7 @@ use Rattle.smap_store.specs.declared.program.MapKind.{MapKind}
 use Rattle.smap_store.specs.declared.program.MapKind.TheVariants.{Table, File}
 use Rattle.smap_trace.specs.FunctionNames.{FunctionNames, names_beside}
 
--- ---- what is remembered of a program, where another is used or put
+-- ---- what is remembered of a program, where another is used, put or forgotten
 
 abbrev known_at : MapKind → (key : List ℕ) → NamesCache → Option (Option (List Named))
 known_at kind key names = known_names (record { kind = kind; key = key }) names
@@ -29,10 +29,14 @@ used_at Table File key other names = refl
 used_at File Table key other names = refl
 used_at File File key other names = ap (option_map (λ it. it.value)) (same_used other key names.of_files.entries)
 
-short_at : (kind : MapKind) (key : List ℕ) (names : NamesCache) (shortages : ℕ)
-    → known_at kind key (record names { shortages = shortages }) ≡ known_at kind key names
-short_at Table key names shortages = refl
-short_at File key names shortages = refl
+forgotten_at : (kind other_kind : MapKind) (key other : List ℕ) (names : NamesCache) (shortages : ℕ) (kept : Option (List Named))
+    → known_at kind key (record (with_part kind (part_without key (part_of kind names)) names) { shortages = shortages }) ≡ None
+    → known_at other_kind other (record (with_part kind (part_without key (part_of kind names)) names) { shortages = shortages }) ≡ Some kept
+    → known_at other_kind other names ≡ Some kept
+forgotten_at Table Table key other names shortages kept gone has = known_without key names.of_table.entries other kept gone has
+forgotten_at Table File key other names shortages kept gone has = has
+forgotten_at File Table key other names shortages kept gone has = has
+forgotten_at File File key other names shortages kept gone has = known_without key names.of_files.entries other kept gone has
 
 of_kind : {P Q R : Type 0} (kind : MapKind) → (P × Q) ⊎ R → ((kind ≡ kind) × P × Q) ⊎ R
 of_kind kind (inl now) = inl (refl, now.0, now.1)
@@ -60,9 +64,12 @@ module _ {N : Type 0} (MayName : NamesMay N) (Names : NamesStep N)
   remembered_before : (names : NamesCache) (namer namer_after : N) (program other : ProgramSeen) (stated : MapRecord) (came : NamesCame) (after : NamesCache)
       (kept : Option (List Named)) → Names namer program stated came namer_after → RemembersNames (names_used program names) program came after
       → known_names other after ≡ Some kept → MayKeep MayName names namer other kept
-  remembered_before names namer namer_after program other stated came after kept gave (inr short) has =
-      let same = short_at other.kind other.key (names_used program names) (one_more (names_used program names).shortages) in
-      inr (inl (used_before names program other kept (sym (ap (λ n. known_names other n) short ∙ same) ∙ has)))
+  remembered_before names namer namer_after program other stated came after kept gave (inr forgets) has =
+      let used = names_used program names in
+      let was : known_names other used ≡ Some kept =
+      forgotten_at program.kind other.kind program.key other.key used (one_more used.shortages) kept
+      (sym (ap (λ n. known_names program n) forgets.rest) ∙ forgets.gone) (sym (ap (λ n. known_names other n) forgets.rest) ∙ has) in
+      inr (inl (used_before names program other kept was))
   remembered_before names namer namer_after program other stated came after kept gave (inl is) has =
       go (put_at program.kind other.kind program.key other.key came (names_used program names) kept (sym (ap (λ n. known_names other n) is) ∙ has))
     where

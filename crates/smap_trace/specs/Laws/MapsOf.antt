@@ -1,25 +1,28 @@
--- Laws of what a trace becomes over the maps that a function gives: over those of a table it is what these make of it; and
--- rewriting over maps that are looked for line by line comes to it, if each that is found is the function's.
+-- Laws of what a trace becomes over the maps and the names that a function gives: over the maps of a table it is what these make
+-- of it; and rewriting over maps that are looked for line by line comes to it, if what is found is the function's; and so does a
+-- front.
 use Rattle.std.specs.Prelude.{◌≡◌, ◌+◌, ◌&&◌, ℕ, Bool, true, false, not, List, [], ◌∷◌, Option, Some, None, MatchBool, ⊤}
 use Rattle.std.specs.Prelude.{cond, filter, fold, is_some, length}
 use Rattle.std.proofs.Common.{ap, arith, refl, subst, sym, ◌∙◌}
 use Rattle.std.proofs.lemmas.Bool.{cond-false}
 use Rattle.smap_io.specs.Device.{Takes}
-use Rattle.smap_lines.specs.Edited.{StepsLines, after_line, after_text, edited, is_short}
+use Rattle.smap_lines.specs.Edited.{IsEdited, StepsLines, after_line, after_text, edited, is_short}
 use Rattle.smap_lines.specs.Editing.{DevicesSeen, EditsInto}
 use Rattle.smap_lines.specs.Limits.{most_text_bytes}
 use Rattle.smap_lines.specs.Lines.{Line, has_line_end, line_text, lines_with_ends}
-use Rattle.smap_lines.specs.Laws.OneText.{OnlyStep, steps_are}
-use Rattle.smap_lines.specs.Laws.Step.{edits_seen}
+use Rattle.smap_lines.specs.Laws.OneText.{Only, OnlyStep, edited_is, steps_are}
+use Rattle.smap_lines.specs.Laws.Step.{edited_wider, edits_seen}
 use Rattle.smap_lines.specs.declared.counts.LineCounts.{LineCounts}
 use Rattle.smap_record.specs.Record.{MapRecord}
 use Rattle.smap_trace.specs.Frame.{FrameParts, has_cr_within, is_line}
 use Rattle.smap_trace.specs.FrameOf.{frame_of}
+use Rattle.smap_trace.specs.FunctionNames.{FunctionNames, named}
 use Rattle.smap_trace.specs.Hiding.{HidingSeen, only_ignored}
-use Rattle.smap_trace.specs.MapsOf.{MapsByUrl, RewritesBy, counts_by, fate_by, is_hidden_by, is_mapped_by, line_by, rewritten_by}
-use Rattle.smap_trace.specs.Rewriting.{RewriteAsked, Rewrites, RewritesOver, TraceNow, TraceStep, trace_start}
-use Rattle.smap_trace.specs.Rewritten.{Fate, FateStep, counts_of, fate, fate_at, fate_of, is_frame_line, is_hidden, is_mapped, line_after, original_in}
-use Rattle.smap_trace.specs.Rewritten.{rewritten, rewritten_line}
+use Rattle.smap_trace.specs.MapsOf.{MapsByUrl, NamedByUrl, RewritesBy, RewritesNamedBy, counts_by, counts_named, fate_by, fate_named, is_hidden_named}
+use Rattle.smap_trace.specs.MapsOf.{is_mapped_named, line_by, line_named, nameless, rewritten_by, rewritten_named}
+use Rattle.smap_trace.specs.Rewriting.{BecomesNamed, NamedTraceStep, RewriteAsked, Rewrites, RewritesNamed, RewritesOver, TraceNow, trace_start}
+use Rattle.smap_trace.specs.Rewritten.{Fate, NamedMeet, NamedStep, counts_of, fate, fate_at, fate_of, is_frame_line, is_hidden, is_mapped, line_after}
+use Rattle.smap_trace.specs.Rewritten.{original_in, rewritten, rewritten_line}
 use Rattle.smap_trace.specs.TextNote.{no_text_noted}
 use Rattle.smap_trace.specs.UrlNotes.{NotesSeen}
 use Rattle.smap_locations.specs.ByText.{value_under}
@@ -46,7 +49,7 @@ module _ (table : List (List ℕ × MapRecord)) (hide : Bool) where
 
   -- and as much is counted
   pub counts_by_table : (text : List ℕ) → counts_by in_table (only_ignored hide) text ≡ counts_of text table hide
-  unfolding counts_by counts_of fate
+  unfolding counts_named counts_of fate
   counts_by_table text = λ i. record {
     lines = length (lines_with_ends text);
     frames = length (filter is_frame_line (lines_with_ends text));
@@ -90,11 +93,11 @@ CountsNow = TraceNow ⊤
 abbrev counts_now : {M : Type 0} → TraceNow M → CountsNow
 counts_now now = record { maps = tt; frames = now.frames; mapped = now.mapped; hidden = now.hidden; passed = 0; namings = []; text = no_text_noted }
 
-module _ (maps : MapsByUrl) (hide : HidingSeen) where
+module _ (known : NamedByUrl) (hide : HidingSeen) where
   -- after a line
   abbrev after_counts : CountsNow → Line → CountsNow
   after_counts now line =
-      let met = fate_by maps hide (frame_of line.bytes) in
+      let met = fate_named known hide (frame_of line.bytes) in
       record now {
         frames = now.frames + cond (is_frame_line line) 1 0;
         mapped = now.mapped + cond (is_mapped met) 1 0;
@@ -105,23 +108,23 @@ module _ (maps : MapsByUrl) (hide : HidingSeen) where
   abbrev Counted : CountsNow → List Line → CountsNow → Type 0
   Counted now lines new =
       (new.frames ≡ now.frames + length (filter is_frame_line lines))
-      × (new.mapped ≡ now.mapped + length (filter (is_mapped_by maps hide) lines))
-      × (new.hidden ≡ now.hidden + length (filter (is_hidden_by maps hide) lines))
+      × (new.mapped ≡ now.mapped + length (filter (is_mapped_named known hide) lines))
+      × (new.hidden ≡ now.hidden + length (filter (is_hidden_named known hide) lines))
 
   -- and these of one
   abbrev Adds : CountsNow → Line → CountsNow → Type 0
   Adds now line new =
       (new.frames ≡ now.frames + cond (is_frame_line line) 1 0)
-      × (new.mapped ≡ now.mapped + cond (is_mapped_by maps hide line) 1 0)
-      × (new.hidden ≡ now.hidden + cond (is_hidden_by maps hide line) 1 0)
+      × (new.mapped ≡ now.mapped + cond (is_mapped_named known hide line) 1 0)
+      × (new.hidden ≡ now.hidden + cond (is_hidden_named known hide line) 1 0)
 
   adds_at : (now : CountsNow) (line : Line) (short : Bool) → is_short line ≡ short → Adds now line (cond short (after_counts now line) now)
   adds_at now line true short = (refl, refl, refl)
   adds_at now line false long =
       let none = long_is_none line long in
       let frames : ◌≡◌ {A = ℕ} (cond (is_frame_line line) 1 0) 0 = ap (λ o. cond (is_some o) 1 0) none in
-      let mapped : ◌≡◌ {A = ℕ} (cond (is_mapped_by maps hide line) 1 0) 0 = ap (λ o. cond (is_mapped (fate_by maps hide o)) 1 0) none in
-      let hiding : ◌≡◌ {A = ℕ} (cond (is_hidden_by maps hide line) 1 0) 0 = ap (λ o. cond (is_hidden (fate_by maps hide o)) 1 0) none in
+      let mapped : ◌≡◌ {A = ℕ} (cond (is_mapped_named known hide line) 1 0) 0 = ap (λ o. cond (is_mapped (fate_named known hide o)) 1 0) none in
+      let hiding : ◌≡◌ {A = ℕ} (cond (is_hidden_named known hide line) 1 0) 0 = ap (λ o. cond (is_hidden (fate_named known hide o)) 1 0) none in
       (omega (arith, frames), omega (arith, mapped), omega (arith, hiding))
 
   counted_over : (now : CountsNow) (lines : List Line) → Counted now lines (fold (after_line after_counts) now lines)
@@ -130,8 +133,8 @@ module _ (maps : MapsByUrl) (hide : HidingSeen) where
       let adds = adds_at now line (is_short line) refl in
       let more = counted_over (after_line after_counts now line) lines in (
         omega (arith, adds.0, more.0, one_more (is_frame_line line) line (filter is_frame_line lines)),
-        omega (arith, adds.1, more.1, one_more (is_mapped_by maps hide line) line (filter (is_mapped_by maps hide) lines)),
-        omega (arith, adds.2, more.2, one_more (is_hidden_by maps hide line) line (filter (is_hidden_by maps hide) lines)),
+        omega (arith, adds.1, more.1, one_more (is_mapped_named known hide line) line (filter (is_mapped_named known hide) lines)),
+        omega (arith, adds.2, more.2, one_more (is_hidden_named known hide line) line (filter (is_hidden_named known hide) lines)),
       )
 
 -- ---- over maps that are looked for line by line
@@ -176,35 +179,39 @@ module _ {E : Type 0} (Steps : E → Line → List ℕ → E → Type 0) (Good :
       )
 
 -- `Good` says of the maps that no trouble came to them so far, and `Kept` that what they remember is right
-module _ {M : Type 0} (Finds : M → (url : List ℕ) → M → Type 0) (found : M → (url : List ℕ) → Option MapRecord) (maps : MapsByUrl)
-    (Good Kept : M → Type 0)
+module _ {M : Type 0} (Finds : M → (url : List ℕ) → M → Type 0) (found : M → (url : List ℕ) → Option MapRecord)
+    (names : M → (url : List ℕ) → Option FunctionNames) (known : NamedByUrl) (Good Kept : M → Type 0)
     (good_back : (old new : M) (url : List ℕ) → Finds old url new → Good new → Good old)
-    (finds_right : (old new : M) (url : List ℕ) → Finds old url new → Good new → Kept old → (found new url ≡ maps url) × Kept new)
+    (finds_right : (old new : M) (url : List ℕ) → Finds old url new → Good new → Kept old
+    → (found new url ≡ known.maps url) × (names new url ≡ known.names url) × Kept new)
     (asked : RewriteAsked) where
-  fate_back : (old new : M) (parts : Option FrameParts) (met : Fate) → FateStep Finds found asked.hide old parts met new → Good new → Good old
+  -- a step makes this text, and counts so
+  abbrev Steps : (old : TraceNow M) → Line → (text : List ℕ) → (new : TraceNow M) → Type 0
+  Steps = NamedTraceStep Finds found names asked
+
+  fate_back : (old new : M) (parts : Option FrameParts) (met : Fate) → NamedStep Finds found names asked.hide old parts met new → Good new → Good old
   fate_back old new None met step good = subst Good step.1 good
   fate_back old new (Some parts) met step good = good_back old new parts.url step.0 good
 
-  step_back : (old : TraceNow M) (line : Line) (text : List ℕ) (new : TraceNow M) → TraceStep Finds found asked old line text new → Good new.maps
-      → Good old.maps
+  step_back : (old : TraceNow M) (line : Line) (text : List ℕ) (new : TraceNow M) → Steps old line text new → Good new.maps → Good old.maps
   step_back old line text new step good = fate_back old.maps new.maps (frame_of line.bytes) step.met step.step good
 
-  fate_is : (old new : M) (parts : Option FrameParts) (met : Fate) → FateStep Finds found asked.hide old parts met new → Good new → Kept old
-      → (met ≡ fate_by maps asked.hide parts) × Kept new
+  fate_is : (old new : M) (parts : Option FrameParts) (met : Fate) → NamedStep Finds found names asked.hide old parts met new → Good new → Kept old
+      → (met ≡ fate_named known asked.hide parts) × Kept new
   fate_is old new None met step good kept = (step.0, subst Kept (sym step.1) kept)
   fate_is old new (Some parts) met step good kept =
       let one = finds_right old new parts.url step.0 good kept in
-      (step.1 ∙ ap (λ f. fate_at asked.hide parts (original_in parts f)) one.0, one.1)
+      (step.1 ∙ (λ i. fate_at asked.hide (named (one.1 i) parts) (original_in parts (one.0 i))), one.2)
 
-  -- a step then makes this text, and counts so
+  -- one after which no trouble had come
   abbrev TraceGood : (old : TraceNow M) → Line → (text : List ℕ) → (new : TraceNow M) → Type 0
-  TraceGood = GoodStep (TraceStep Finds found asked) (λ now. Good now.maps) step_back
+  TraceGood = GoodStep Steps (λ now. Good now.maps) step_back
 
-  abbrev Only : (old : CountsNow) → Line → (text : List ℕ) → (new : CountsNow) → Type 0
-  Only = OnlyStep (λ now line. line_by maps asked.hide line) (after_counts maps asked.hide)
+  abbrev OnlySo : (old : CountsNow) → Line → (text : List ℕ) → (new : CountsNow) → Type 0
+  OnlySo = OnlyStep (λ now line. line_named known asked.hide line) (after_counts known asked.hide)
 
   step_is : (old : TraceNow M) (line : Line) (text : List ℕ) (new : TraceNow M) → Kept old.maps → TraceGood old line text new
-      → Only (counts_now old) line text (counts_now new) × Kept new.maps
+      → OnlySo (counts_now old) line text (counts_now new) × Kept new.maps
   step_is old line text new kept step =
       let met = fate_is old.maps new.maps (frame_of line.bytes) step.0.met step.0.step step.1 kept in (
         (
@@ -222,28 +229,31 @@ module _ {M : Type 0} (Finds : M → (url : List ℕ) → M → Type 0) (found :
         met.1,
       )
 
-  only_is : (old : CountsNow) (line : Line) (text : List ℕ) (new : CountsNow) → ⊤ → Only old line text new
-      → (text ≡ line_by maps asked.hide line) × (new ≡ after_counts maps asked.hide old line) × ⊤
+  only_is : (old : CountsNow) (line : Line) (text : List ℕ) (new : CountsNow) → ⊤ → OnlySo old line text new
+      → (text ≡ line_named known asked.hide line) × (new ≡ after_counts known asked.hide old line) × ⊤
   only_is old line text new is only = (only.0, only.1, tt)
 
   -- rewriting over maps to which no trouble came, where what they remembered at first was right
-  pub rewrites_by : (before after : DevicesSeen) (old new : M) (counts : RewriteCounts) (notes : NotesSeen)
-      → RewritesOver Finds found asked before after old new counts notes → Good new → Kept old → RewritesBy maps asked.hide asked.most before after counts
-  unfolding after_text counts_by
-  rewrites_by before after old new counts notes all good kept =
+  pub rewrites_named_by : (before after : DevicesSeen) (old new : M) (counts : RewriteCounts) (notes : NotesSeen)
+      → RewritesNamed Finds found names asked before after old new counts notes → Good new → Kept old
+      → RewritesNamedBy known asked.hide asked.most before after counts
+  unfolding after_text counts_named
+  rewrites_named_by before after old new counts notes all good kept =
       let lines : LineCounts = record { lines = counts.summary.lines; long = counts.long } in
-      let sure = edits_back (TraceStep Finds found asked) (λ now. Good now.maps) step_back asked.most before after (trace_start old) all.last lines all.edits
+      let sure = edits_back Steps (λ now. Good now.maps) step_back asked.most before after (trace_start old) all.last lines all.edits
       (subst Good (sym all.maps) good) in
-      let seen = edits_seen TraceGood Only counts_now (λ now. Kept now.maps) step_is asked.most before after (trace_start old) all.last lines kept sure.0 in
+      let seen = edits_seen TraceGood OnlySo counts_now (λ now. Kept now.maps) step_is asked.most before after (trace_start old) all.last lines kept sure.0 in
       let done = seen.0 in
-      let is = steps_are Only (line_by maps asked.hide) (after_counts maps asked.hide) (λ now. ⊤) only_is (trace_start tt) done.bytes done.written
+      let is = steps_are OnlySo (line_named known asked.hide) (after_counts known asked.hide) (λ now. ⊤) only_is (trace_start tt) done.bytes done.written
       (counts_now all.last) tt done.steps in
-      let counted : Counted maps asked.hide (trace_start tt) (lines_with_ends done.bytes) (counts_now all.last) =
-      subst (λ n. Counted maps asked.hide (trace_start tt) (lines_with_ends done.bytes) n) (sym is.1)
-      (counted_over maps asked.hide (trace_start tt) (lines_with_ends done.bytes)) in
+      let counted : Counted known asked.hide (trace_start tt) (lines_with_ends done.bytes) (counts_now all.last) =
+      subst (λ n. Counted known asked.hide (trace_start tt) (lines_with_ends done.bytes) n) (sym is.1)
+      (counted_over known asked.hide (trace_start tt) (lines_with_ends done.bytes)) in
       let frames : counts.summary.frames ≡ length (filter is_frame_line (lines_with_ends done.bytes)) = omega (arith, all.frames, counted.0) in
-      let mapped : counts.summary.mapped ≡ length (filter (is_mapped_by maps asked.hide) (lines_with_ends done.bytes)) = omega (arith, all.mapped, counted.1) in
-      let hiding : counts.summary.hidden ≡ length (filter (is_hidden_by maps asked.hide) (lines_with_ends done.bytes)) = omega (arith, all.hiding, counted.2) in
+      let mapped : counts.summary.mapped ≡ length (filter (is_mapped_named known asked.hide) (lines_with_ends done.bytes)) =
+      omega (arith, all.mapped, counted.1) in
+      let hiding : counts.summary.hidden ≡ length (filter (is_hidden_named known asked.hide) (lines_with_ends done.bytes)) =
+      omega (arith, all.hiding, counted.2) in
       record {
         bytes = done.bytes;
         edits = record {
@@ -256,3 +266,36 @@ module _ {M : Type 0} (Finds : M → (url : List ℕ) → M → Type 0) (found :
         counted = λ i. record { lines = done.counted i; frames = frames i; mapped = mapped i; hidden = hiding i };
         long = done.long;
       }
+
+-- the same, where nothing is known of the functions' names
+module _ {M : Type 0} (Finds : M → (url : List ℕ) → M → Type 0) (found : M → (url : List ℕ) → Option MapRecord) (maps : MapsByUrl)
+    (Good Kept : M → Type 0)
+    (good_back : (old new : M) (url : List ℕ) → Finds old url new → Good new → Good old)
+    (finds_right : (old new : M) (url : List ℕ) → Finds old url new → Good new → Kept old → (found new url ≡ maps url) × Kept new)
+    (asked : RewriteAsked) where
+  pub rewrites_by : (before after : DevicesSeen) (old new : M) (counts : RewriteCounts) (notes : NotesSeen)
+      → RewritesOver Finds found asked before after old new counts notes → Good new → Kept old → RewritesBy maps asked.hide asked.most before after counts
+  rewrites_by =
+      rewrites_named_by Finds found (λ now url. None) (nameless maps) Good Kept good_back
+      (λ old new url finds good kept. let one = finds_right old new url finds good kept in (one.0, refl, one.1)) asked
+
+-- ---- what lines may become
+
+module _ (Gives : (url : List ℕ) → Option MapRecord → Type 0) (GivesNames : (url : List ℕ) → Option MapRecord → Option FunctionNames → Type 0)
+    (known : NamedByUrl) (hide : HidingSeen)
+    (given : (url : List ℕ) (stated : Option MapRecord) (names : Option FunctionNames) → GivesNames url stated names
+    → (stated ≡ known.maps url) × (names ≡ known.names url)) where
+  may_meet : (parts : Option FrameParts) (met : Fate) → NamedMeet Gives GivesNames true hide parts met → met ≡ fate_named known hide parts
+  may_meet None met may = may
+  may_meet (Some parts) met may =
+      let is = given parts.url may.0 may.1 may.2 in
+      may.3 ∙ (λ i. fate_at hide (named (is.1 i) parts) (original_in parts (is.0 i)))
+
+  becomes_named : (line : Line) (text : List ℕ) → BecomesNamed Gives GivesNames true hide line text → text ≡ line_named known hide line
+  becomes_named line text may = may.2 ∙ ap (line_after line) (may_meet (frame_of line.bytes) may.0 may.1)
+
+  -- over maps and names that are the function's it is what these make of them
+  pub front_named_by : (bytes text : List ℕ) → IsEdited (BecomesNamed Gives GivesNames true hide) bytes text → text ≡ rewritten_named known hide bytes
+  front_named_by bytes text is =
+      edited_is (line_named known hide) bytes text
+      (edited_wider (BecomesNamed Gives GivesNames true hide) (Only (line_named known hide)) becomes_named bytes text is)

@@ -19,8 +19,8 @@ loop-low-preserved-then-is_up_to c =
     record {
       ends = omega arith;
       inside = c.loop-low.invariant.inside;
-      below = in_front c.args.name.now c.args.place c.args.self.now (subst IsInOrder c.self.view_is c.self.invariant) middle (named c.at.result)
-          (ap (λ (l : List Named). slice_get l middle) (sym c.self.view_is) ∙ c.at.ensures)
+      below = in_front c.args.name.now c.args.place c.args.self.now (subst IsInOrder c.self.view_is c.self.invariant) middle (named c.keyed_at-key.result.0)
+          (ap (λ (l : List Named). slice_get l middle) (sym c.self.view_is) ∙ c.keyed_at-key.ensures.found)
           (omega (arith, c.loop-low.invariant.inside)) (sym c.is_up_to.ensures ∙ c.if-is_up_to.true);
       above = c.loop-low.invariant.above;
       onward = omega (arith, counted, c.loop-low.invariant.onward);
@@ -36,8 +36,8 @@ loop-low-preserved c =
       ends = omega arith;
       inside = omega (arith, c.loop-low.invariant.inside);
       below = c.loop-low.invariant.below;
-      above = behind c.args.name.now c.args.place c.args.self.now (subst IsInOrder c.self.view_is c.self.invariant) middle (named c.at.result)
-          (ap (λ (l : List Named). slice_get l middle) (sym c.self.view_is) ∙ c.at.ensures)
+      above = behind c.args.name.now c.args.place c.args.self.now (subst IsInOrder c.self.view_is c.self.invariant) middle (named c.keyed_at-key.result.0)
+          (ap (λ (l : List Named). slice_get l middle) (sym c.self.view_is) ∙ c.keyed_at-key.ensures.found)
           (omega (arith, c.loop-low.invariant.inside)) (sym c.is_up_to.ensures ∙ c.if-is_up_to.false);
       onward = omega (arith, counted, c.loop-low.invariant.onward);
       few = λ b below. one_more _ _ _ b _ _ (omega arith) (omega arith) counted (c.loop-low.invariant.few b below);

@@ -1,8 +1,10 @@
-use Rattle.std.proofs.Common.{◌≡◌, None, ap, arith, length, cond, option_map, sym, subst, ◌∙◌}
+use Rattle.std.proofs.Common.{◌≡◌, None, ap, arith, length, cond, nat_eq, option_map, sym, subst, ◌∙◌}
 use Rattle.std.specs.Str.{bytes_eq}
+use Rattle.std.specs.Map.{remove_entry}
 use Rattle.smap_locations.specs.ByText.{value_under}
 use Rattle.smap_kept.specs.InOrder.{without}
 use Rattle.smap_kept.specs.Private.Numbered.{IsOnce, in_order, numbers_of}
+use Rattle.smap_kept.proofs.Moves.{none_left}
 use Rattle.smap_kept.proofs.Numbers.{Found, all_stay, found, no_value}
 use Rattle.smap_kept.proofs.TextKeys.{after_change}
 use Rattle.smap_kept.proofs.in_order.InOrder.remove.Goals as goal
@@ -19,6 +21,9 @@ returns-in_err-number-clause-value g c = c.from_residual.ensures ∙ sym (has_no
 
 pub returns-in_err-number-clause-rest : goal.returns-in_err-number-clause-rest
 returns-in_err-number-clause-rest g c = c.self.view_is ∙ sym (all_stay c.args.text.now c.args.self.now (has_none g c))
+
+pub returns-in_err-number-clause-gone : goal.returns-in_err-number-clause-gone
+returns-in_err-number-clause-gone g c = ap (value_under c.args.text.now) c.self.view_is ∙ has_none g c
 
 module _ (g : _) (c : goal.After-take g) where
   is_found : Found c.args.text.now c.in_ok-number.number c.self.inside.next c.self.inside.entries.entries
@@ -48,3 +53,11 @@ returns-clause-value g c =
 pub returns-clause-rest : goal.returns-clause-rest
 returns-clause-rest g c =
     ap (λ it. in_order it.entries) c.take.ensures.rest ∙ (is_found g c).rest ∙ ap (without c.args.text.now) c.self.view_is
+
+pub returns-clause-gone : goal.returns-clause-gone
+returns-clause-gone g c =
+    let text = c.args.text.now in
+    let all = c.self.inside.entries.entries in
+    let number = c.in_ok-number.number in
+    ap (λ it. value_under text (in_order it.entries)) c.take.ensures.rest
+    ∙ no_value text (remove_entry (nat_eq number) all) (none_left c.self.inside.next all text number (is_found g c))
