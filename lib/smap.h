@@ -294,8 +294,9 @@ uint32_t smap_generated_on_line(const smap_originals *originals, uint32_t source
 void smap_originals_free(smap_originals *originals);
 
 /* Reads which names the generated file of a map declares, of which functions in frames get those of their sources. The text is not kept,
- * and the map may be freed before: 32 bytes for each function or class that has a name, and that name. Returns 1 where the text is not
- * UTF-8 (`NotUtf8`) or has more than 67,108,864 bytes (M1), or the map can't be that of it, as smap_fit says (A4). */
+ * and the map may be freed before: 40 bytes for each function or class that has a name, also as a property, and that name. Returns 1
+ * where the text is not UTF-8 (`NotUtf8`) or has more than 67,108,864 bytes (M1), or the map can't be that of it, as smap_fit says
+ * (A4). */
 uint32_t smap_names_new(smap_map *map, const uint8_t *generated, size_t length, smap_names *names, smap_code *refusal);
 
 /* Lends the name that a frame's function has in its source: `function` is what the frame prints, and `line` and `column` its generated
@@ -307,8 +308,8 @@ uint32_t smap_name_of(const smap_names *names, const uint8_t *function, size_t l
 /* Makes `other` another handle of the same names. Each is freed by itself, in any order. */
 uint32_t smap_names_share(smap_names *names, smap_names *other);
 
-/* Says for how many bytes of memory the names count: 48 for each function or class that has a name. Their map counts for itself. Returns
- * 0. */
+/* Says for how many bytes of memory the names count: 48 for each function or class that has a name, also as a property. Their map counts
+ * for itself. Returns 0. */
 uint32_t smap_names_size(const smap_names *names, uint64_t *size);
 
 /* Frees names of functions, and leaves their handle empty. */
@@ -447,9 +448,10 @@ uint32_t smap_rewrite(smap_table *table, const uint8_t *trace, size_t length, bo
                       smap_bytes *bytes, smap_trace_count *counts);
 
 /* Rewrites a text: each place URL:line:column, wherever it stands in a line, whose URL has a map in the table and which has an
- * original gets it in its stead, and every other byte stays, names of functions too. Returns 1 where the text has more than
- * 1,073,741,824 bytes, where more would come out, and where the table has a map under `*` alone. `counts` is set where it returns 0:
- * `frames` are the places, and none is hidden. The bytes are freed by smap_bytes_free. */
+ * original gets it in its stead, and, where it is that of a frame which is a whole line or the line of a string, its function the name
+ * as in smap_rewrite; every other byte stays. Returns 1 where the text has more than 1,073,741,824 bytes, where more would come out,
+ * and where the table has a map under `*` alone. `counts` is set where it returns 0: `frames` are the places, and none is hidden. The
+ * bytes are freed by smap_bytes_free. */
 uint32_t smap_rewrite_anywhere(smap_table *table, const uint8_t *text, size_t length, smap_bytes *bytes,
                                smap_trace_count *counts);
 

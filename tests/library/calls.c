@@ -823,8 +823,10 @@ static void named_frames(void) {
     handed_out(&bytes, "    at async main (a.ts:1:1)\nmain@a.ts:1:1\n    at Object.f (a.ts:1:1)\n    at f (a.ts:1:1)\n");
     done(smap_rewrite(&table, BYTES(trace), false, &bytes, &count), "a trace whose URLs are not cut");
     handed_out(&bytes, "    at async f (/u?q:1:14)\nmain@a.ts:1:1\n    at Object.f (a.ts:1:1)\n    at f (a.ts:1:1)\n");
-    done(smap_rewrite_anywhere(&table, BYTES(trace), &bytes, &count), "places keep names");
-    handed_out(&bytes, "    at async f (a.ts:1:1)\nf@a.ts:1:1\n    at Object.f (a.ts:1:1)\n    at f (a.ts:1:1)\n");
+    /* The first URL is that of the table up to its query: its place is not that of the frame. */
+    done(smap_rewrite_anywhere(&table, BYTES(trace), &bytes, &count), "places with names");
+    insist(counted(&count, 4, 4, 4), "what places count");
+    handed_out(&bytes, "    at async f (a.ts:1:1)\nmain@a.ts:1:1\n    at Object.f (a.ts:1:1)\n    at f (a.ts:1:1)\n");
     /* Piece by piece the store is asked for what the table has not. */
     smap_store store = {0};
     done(smap_store_new(1000, &store), "a store");
@@ -859,6 +861,70 @@ static void named_frames(void) {
     smap_store_free(&store);
 }
 
+/* Another map has the same generated file, whose function it calls `start`. */
+static const char start_map[] = "{\"version\":3,\"sources\":[\"b.ts\"],\"names\":[\"start\"],\"mappings\":\"SAAAA\"}";
+
+static void named_map(const char *text, smap_map *map, smap_names *names) {
+    smap_code why = 9;
+    *map = read_map(text);
+    done(smap_names_new(map, BYTES(main_file), names, &why), "names of a map");
+}
+
+/* Gives a text of places byte by byte; the store has the map of /x, and the names, once that is wanted, and nothing is put for its
+ * function before. */
+static void named_byte_by_byte(smap_table *table, smap_names *names, const char *text, const char *before, const char *becomes) {
+    smap_store store = {0};
+    smap_rewriting_options options = frames_within(200);
+    smap_rewrite_refusal refusal = {9, 9};
+    smap_rewriting rewriting = {0};
+    int times = 0;
+    options.anywhere = true;
+    done(smap_store_new(1000, &store), "a store");
+    done(smap_rewriting_new(&options, &rewriting), "a rewriting");
+    for (const char *byte = text; *byte; byte++) {
+        done(smap_rewriting_give(&rewriting, (const uint8_t *)byte, 1), "a byte");
+        while (smap_rewriting_run(&rewriting, table, &store, 0, &refusal) == SMAP_WANTED) {
+            times++;
+            rewriting_lends(&rewriting, before);
+            done(smap_store_put_named(&store, BYTES("/x"), names, 7), "the map of /x and its names");
+        }
+    }
+    insist(times == 1, "it is wanted once");
+    done(smap_rewriting_end(&rewriting), "the end");
+    done(smap_rewriting_run(&rewriting, table, &store, 0, &refusal), "the rest");
+    rewriting_lends(&rewriting, becomes);
+    smap_rewriting_free(&rewriting);
+    smap_store_free(&store);
+}
+
+/* A frame's place takes its function's name with it, that of its own map, also in a string; a place that is no frame's, or that has no
+ * original, does not. */
+static void named_places(void) {
+    static const char text[] = "    at new f (/u:1:14)\n[\"    at f (/v:1:14)\\n\"]\nin f (/u:1:14)\n    at f (/u:1:2)\n";
+    static const char named[] = "    at new main (a.ts:1:1)\n[\"    at start (b.ts:1:1)\\n\"]\nin f (a.ts:1:1)\n    at f (/u:1:2)\n";
+    smap_map map = {0}, other = {0};
+    smap_names names = {0}, others = {0};
+    smap_table table = {0};
+    smap_code why = 9;
+    named_map(main_map, &map, &names);
+    named_map(start_map, &other, &others);
+    done(smap_table_new(&table), "a table");
+    done(smap_table_add(&table, BYTES("/u"), &map, &why), "a map under a URL");
+    done(smap_table_add(&table, BYTES("/v"), &other, &why), "another map");
+    done(smap_table_add_names(&table, BYTES("/u"), &names), "names beside it");
+    done(smap_table_add_names(&table, BYTES("/v"), &others), "names beside the other");
+    smap_bytes bytes = {0};
+    smap_trace_count count = {9, 9, 9, 9};
+    done(smap_rewrite_anywhere(&table, BYTES(text), &bytes, &count), "places at once");
+    insist(counted(&count, 4, 4, 3), "their counts");
+    handed_out(&bytes, named);
+    named_byte_by_byte(&table, &others, "    at async f (/x:1:14)\nf@/u:1:14\n", "    at async ", "    at async start (b.ts:1:1)\nmain@a.ts:1:1\n");
+    named_byte_by_byte(&table, &names, "x\n[\"f@/x:1:14\\n\", \"f@/v:1:14\"]\n", "x\n[\"", "x\n[\"main@a.ts:1:1\\n\", \"start@b.ts:1:1\"]\n");
+    smap_names_free(&names);
+    smap_names_free(&others);
+    smap_table_free(&table);
+}
+
 static void locations(void) {
     smap_bytes path = {0};
     done(smap_is_location(BYTES("js/a.js")), "a location");
@@ -880,6 +946,7 @@ int main(void) {
     locations();
     long_names();
     named_frames();
+    named_places();
     mappings();
     next_columns();
     originals();

@@ -63,18 +63,24 @@ for (const generated of [null, 7, ['a'], undefined]) refuses('TypeError', () => 
 const TRACE = 'x\n    at async fe (/js/u.js:1:15)\nfe@/js/u.js?v:1:15\n    at Object.fe (/js/u.js:1:15)\n    at fe (/js/u.js:2:9)\n    at b (/js/u.js:1:36)\n';
 const NAMED = 'x\n    at async main (a.ts:1:1)\nmain@a.ts:1:1\n    at Object.fe (a.ts:1:1)\n    at fe (/js/u.js:2:9)\n    at b (a.ts:1:1)\n';
 const BARE = NAMED.replace(/main/g, 'fe');
+// With `anywhere` a frame's place names its function, too: but one whose URL is that of a table only up to its query is not the frame's.
+const CUT = NAMED.replace('main@', 'fe@');
 const read = (generated) => {
   const map = new smap.TraceMap(MAP);
   return generated === undefined ? map : map.withGenerated(generated);
 };
-for (const [url, generated, wanted] of [['/js/u.js', TEXT, NAMED], ['*u.js', TEXT, NAMED], ['/js/u.js', undefined, BARE], ['*u.js', undefined, BARE]]) {
+for (const [url, generated, wanted, placed] of [
+  ['/js/u.js', TEXT, NAMED, CUT], ['*u.js', TEXT, NAMED, NAMED], ['/js/u.js', undefined, BARE, BARE], ['*u.js', undefined, BARE, BARE]]) {
   const table = new smap.Table({ [url]: read(generated) });
   same(String(smap.rewrite(table, TRACE)), wanted);
-  same(String(smap.rewrite(table, TRACE, { anywhere: true })), BARE);
+  same(String(smap.rewrite(table, TRACE, { anywhere: true })), placed);
   same(table.counts, { lines: 6, places: 5, mapped: 4 });
 }
 const maps = new smap.Maps({ load: (url) => (url === '/js/u.js' ? read(TEXT) : null), maxBytes: 1 << 20 });
 same(String(smap.rewrite(maps, TRACE)), NAMED);
+same(String(smap.rewrite(maps, TRACE, { anywhere: true })), NAMED);
+same(String(smap.rewrite(maps, '["    at fe (/js/u.js:1:15)\\n"] fe (/js/u.js:1:15)\n', { anywhere: true })),
+  '["    at main (a.ts:1:1)\\n"] fe (a.ts:1:1)\n');
 same(named(maps.get('/js/u.js')), ['main', 'main', 'main', 'b']);
 const whole = maps.nbytes;
 same(smap.generatedPositionFor(maps.get('/js/u.js'), { source: 'a.ts', line: 1, column: 0 }).line, 1);
@@ -82,6 +88,7 @@ same(maps.nbytes > whole, true);
 same(String(smap.rewrite(maps, TRACE)), NAMED);
 maps.add('/js/u.js', MAP);
 same(String(smap.rewrite(maps, TRACE)), BARE);
+same(String(smap.rewrite(maps, TRACE, { anywhere: true })), BARE);
 const bare = maps.nbytes;
 maps.add('/js/u.js', MAP, { generated: TEXT });
 same(maps.nbytes > bare, true);

@@ -86,17 +86,22 @@ TRACE = (b"x\n    at async fe (/js/u.js:1:15)\nfe@/js/u.js?v:1:15\n    at Object
 NAMED = (b"x\n    at async main (a.ts:1:1)\nmain@a.ts:1:1\n    at Object.fe (a.ts:1:1)\n    at fe (/js/u.js:2:9)\n"
          b"    at b (a.ts:1:1)\n")
 BARE = NAMED.replace(b"main", b"fe")
+# With `anywhere` a frame's place names its function, too: but one whose URL is that of a table only up to its query is not the frame's.
+CUT = NAMED.replace(b"main@", b"fe@")
 
-for url in ("/js/u.js", "*u.js"):
+for url, placed in (("/js/u.js", CUT), ("*u.js", NAMED)):
     for given, wanted in (((MAP, TEXT), NAMED), ((SourceMap(MAP), TEXT.encode()), NAMED), (SourceMap(MAP).with_generated(TEXT), NAMED), (MAP, BARE)):
         with Rewriter({url: given}) as rewriter:
             same(rewriter.rewrite(TRACE), wanted)
-            same(rewriter.rewrite(TRACE, anywhere=True), BARE)
+            same(rewriter.rewrite(TRACE, anywhere=True), BARE if wanted is BARE else placed)
             same(rewriter.counts, {"lines": 6, "places": 5, "mapped": 4})
 alone = SourceMap(MAP)
 for load in (lambda url: (MAP, TEXT), lambda url: (alone, TEXT), lambda url: SourceMap(MAP).with_generated(TEXT)):
     maps = Maps(load, max_bytes=1 << 20)
     same(maps.rewrite(TRACE), NAMED)
+    same(maps.rewrite(TRACE, anywhere=True), NAMED)
+    same(maps.rewrite(b'["    at fe (/js/u.js:1:15)\\n"] fe (/js/u.js:1:15)\n', anywhere=True),
+         b'["    at main (a.ts:1:1)\\n"] fe (a.ts:1:1)\n')
     same(named(maps.get("/js/u.js")), ["main", "main", "main", "b"])
     whole = maps.nbytes
     maps.get("/js/u.js").generated(0, 0, 0)
@@ -104,6 +109,7 @@ for load in (lambda url: (MAP, TEXT), lambda url: (alone, TEXT), lambda url: Sou
     same(maps.rewrite(TRACE), NAMED)
     maps.add("/js/u.js", MAP)
     same(maps.rewrite(TRACE), BARE)
+    same(maps.rewrite(TRACE, anywhere=True), BARE)
     bare = maps.nbytes
     maps.add("/js/u.js", MAP, generated=TEXT)
     same(maps.nbytes > bare, True)

@@ -27,6 +27,8 @@ pub mod FramePlacesLaws
 pub mod FrameTextLaws
 pub mod NamedTextLaws
 pub mod NamedFrameLaws
+pub mod FunctionBegins
+pub mod FunctionStates
 pub mod NamedStates
 pub mod FrameFileLaws
 pub mod FramePlacesExamples

@@ -29,7 +29,7 @@ use Rattle.smap_anywhere.proofs.TextPartsLaws.{parts_whole}
 -- ---- a function before a place
 
 -- what a function is, if there is one
-within_is : (size : ℕ) (cut : Option HeadCut) (function : FrameFunction) → function_within size cut ≡ Some function
+pub within_is : (size : ℕ) (cut : Option HeadCut) (function : FrameFunction) → function_within size cut ≡ Some function
     → (one : HeadCut) × (cut ≡ Some one) × (function.name ≡ one.name) × (function.behind ≡ one.behind)
 within_is size None function is = absurd (cc)
 within_is size (Some cut) function is = go (nat_le (length cut.name + length cut.behind) size) is
@@ -60,7 +60,7 @@ last_of text from to front back order within is =
     ∙ ap (drop (length front)) is
     ∙ drop-append_seam front back
 
-name_some : (name : List ℕ) → is_name name ≡ true → 0 < length name
+pub name_some : (name : List ℕ) → is_name name ≡ true → 0 < length name
 name_some [] is = absurd (cc)
 name_some (byte ∷ name) is = omega arith
 
@@ -124,7 +124,7 @@ cut_range text from mid to first second =
           ∙ ap (take (to - mid)) (drop-drop (mid - from) from text) ∙ ap (λ k. take (to - mid) (drop k text)) here,
     )
 
-join_range : (text : List ℕ) (from mid to : ℕ) → from ≤ mid → mid ≤ to → slice_range text from mid ++ slice_range text mid to ≡ slice_range text from to
+pub join_range : (text : List ℕ) (from mid to : ℕ) → from ≤ mid → mid ≤ to → slice_range text from mid ++ slice_range text mid to ≡ slice_range text from to
 join_range text from mid to first second =
     let cut = cut_range text from mid to first second in
     (λ i. sym cut.0 i ++ sym cut.1 i) ∙ take-append-drop (mid - from) (slice_range text from to)
@@ -164,7 +164,7 @@ own_bytes (found place text) =
     bytes_alone [] = refl
     bytes_alone (byte ∷ bytes) = ap (λ l. byte ∷ l) (bytes_alone bytes)
 
-all_bytes : (parts : List Part) → flat_map part_bytes (flat_map own_parts parts) ≡ flat_map part_bytes parts
+pub all_bytes : (parts : List Part) → flat_map part_bytes (flat_map own_parts parts) ≡ flat_map part_bytes parts
 all_bytes [] = refl
 all_bytes (part ∷ parts) =
     flat_map-append part_bytes (own_parts part) (flat_map own_parts parts) ∙ (λ i. own_bytes part i ++ all_bytes parts i)
@@ -175,7 +175,7 @@ module _ (known : UrlsKnown) (within : (line : List ℕ) → IsFrameUrlWithin kn
       let few : length (line_of text) ≤ length text = omega (arith, length-take (line_bytes text) text) in
       spans_in_more 0 (length (line_of text)) (length text) (spans_of known text) few (spans_in_order known (line_of text) within)
 
-  cut_own : (cut : Cut) → flat_map own_parts (named_cut_parts known cut) ≡ cut_parts known cut
+  pub cut_own : (cut : Cut) → flat_map own_parts (named_cut_parts known cut) ≡ cut_parts known cut
   unfolding chunk_parts
   cut_own (stays byte) = refl
   cut_own (chunk text) = spans_own text 0 (spans_of known text) (chunk_order text)

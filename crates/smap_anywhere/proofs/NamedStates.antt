@@ -1,9 +1,8 @@
 -- Parts of a text in a string of JSON with the written names of functions: the string stays one.
-use Rattle.std.proofs.Common.{◌≡◌, ◌≢◌, ◌==◌, ◌&&◌, ◌||◌, ◌++◌, ◌≤◌, ℕ, true, false, List, [], ◌∷◌, Option, Some, None, IfSome, ap, arith, drop, length, map, option_map, refl, subst, sym, take, ◌∙◌}
+use Rattle.std.proofs.Common.{◌≡◌, ◌≢◌, ◌&&◌, ◌++◌, ◌≤◌, ℕ, true, false, List, [], ◌∷◌, Option, Some, None, IfSome, ap, arith, drop, map, option_map, refl, subst, sym, take, ◌∙◌}
 use Rattle.std.specs.Prelude.{is_some, not, unwrap_or}
-use Rattle.std.specs.Char.{is_ascii_hexdigit}
 use Rattle.std.specs.List.{All, flat_map, list_all}
-use Rattle.std.proofs.lemmas.Bool.{and_parts, or_parts}
+use Rattle.std.proofs.lemmas.Bool.{and_parts}
 use Rattle.std.proofs.lemmas.Bool.Decides.{nat_tests}
 use Rattle.std.proofs.lemmas.Grind.{flat_map-append}
 use Rattle.std.proofs.lemmas.List.{take-append-drop}
@@ -15,16 +14,17 @@ use Rattle.smap_pairs.specs.Json.{InString, all_may_stand, is_between, is_string
 use Rattle.smap_pairs.specs.Json.InString.{between}
 use Rattle.smap_pairs.specs.Known.{UrlsKnown}
 use Rattle.smap_pairs.specs.StringPlaces.{AreForStrings}
-use Rattle.smap_pairs.proofs.JsonLaws.{both_may_stand, past_both, past_plain, past_quotation_mark}
+use Rattle.smap_pairs.proofs.JsonLaws.{both_may_stand, past_both}
 use Rattle.smap_trace.specs.FunctionNames.{FunctionNames, written_name}
-use Rattle.smap_anywhere.specs.JsonParts.{AnyNames, AreClear, may_be_in_escape}
+use Rattle.smap_anywhere.specs.JsonParts.{AnyNames, AreFramesKnown}
 use Rattle.smap_anywhere.specs.NamedParts.{by_names, function_bytes, function_named, function_text, named_parts_in}
 use Rattle.smap_anywhere.specs.Parts.{FrameFunction, Part, PlaceUrl, found, other, part_bytes}
 use Rattle.smap_anywhere.specs.PartSteps.{MayBecomeBy}
 use Rattle.smap_anywhere.specs.Replaced.{replacement}
 use Rattle.smap_anywhere.proofs.NamedLaws.{own_bytes, own_parts, parts_own}
 use Rattle.smap_anywhere.proofs.NamedTextLaws.{BeginsWith, HasFunction, parts_have}
-use Rattle.smap_anywhere.proofs.PartStates.{Stand, Stays, stand_first, stand_second, stays_both}
+use Rattle.smap_anywhere.proofs.FunctionStates.{IsClear, functions_clear}
+use Rattle.smap_anywhere.proofs.PartStates.{Each, IsPlaced, Stand, Stays, each_first, each_inside, each_second, stays_both}
 use Rattle.smap_anywhere.proofs.PrintedLaws.{ArePlain, plain_between, plain_stay, replacement_plain}
 use Rattle.smap_anywhere.proofs.StringParts.{others_are, parts_stand, within_all}
 
@@ -46,13 +46,6 @@ name_plain : (name : List ℕ) → is_name name ≡ true → ArePlain name
 name_plain name is = words_plain name (and_parts (not (is_empty name)) (list_all is_word_byte name) is).1
 
 -- ---- a function
-
--- a byte that may be of no escape stands between two characters
-clear_between : (state : InString) (byte : ℕ) → may_be_in_escape byte ≡ false → past state byte ≡ between
-clear_between state byte clear =
-    let first = or_parts (byte == 92) (byte == 117 || is_ascii_hexdigit byte) clear in
-    let second = or_parts (byte == 117) (is_ascii_hexdigit byte) first.1 in
-    past_plain state byte first.0 second.0 second.1
 
 -- what is put for it stays between two characters, where it began so
 function_stays : (function : FrameFunction) (bytes : List ℕ) (written : Option (List ℕ)) → IfSome written (λ name. is_name name ≡ true)
@@ -116,34 +109,34 @@ module _ (state : InString) (place : PlaceUrl) (text : List ℕ) (names : Option
 
 -- ---- parts
 
-named_stay : (state : InString) (last : ℕ) (parts : List Part) → (may_be_in_escape last ≡ false → state ≡ between) → Stand state (flat_map own_parts parts)
-    → All HasFunction parts → AreClear last parts → all_may_stand state (flat_map part_bytes parts) ≡ true → (became : List ℕ)
-    → MayBecomeBy by_names AnyNames parts became → Stays state (flat_map part_bytes parts) became
-named_stay state last [] is stand have clear stands became may = (ap (all_may_stand state) may, ap (past_all state) may)
-named_stay state last (other byte ∷ parts) is stand have clear stands became may =
+named_stay : (state : InString) (parts : List Part) → Stand state (flat_map own_parts parts) → All HasFunction parts → Each IsClear state parts
+    → all_may_stand state (flat_map part_bytes parts) ≡ true → (became : List ℕ) → MayBecomeBy by_names AnyNames parts became
+    → Stays state (flat_map part_bytes parts) became
+named_stay state [] stand have clear stands became may = (ap (all_may_stand state) may, ap (past_all state) may)
+named_stay state (other byte ∷ parts) stand have clear stands became may =
     let both = and_parts (may_stand state byte) (all_may_stand (past state byte) (flat_map part_bytes parts)) stands in
     let here : all_may_stand state (byte ∷ []) ≡ true = ap (λ b. b && true) both.0 in
     stays_both state (byte ∷ []) (flat_map part_bytes parts) may.0 may.1 became
     (ap (all_may_stand state) may.2 ∙ here, ap (past_all state) may.2)
-    (named_stay (past state byte) byte parts (clear_between state byte) stand (All-tail HasFunction (other byte) parts have) clear both.1 may.1 may.3) may.4
-named_stay state last (found place text ∷ parts) is stand have clear stands became may =
+    (named_stay (past state byte) parts stand (All-tail HasFunction (other byte) parts have) clear both.1 may.1 may.3) may.4
+named_stay state (found place text ∷ parts) stand have clear stands became may =
     let n = function_bytes place.function in
     let lead : List ℕ = take n text in
     let own : List ℕ = drop n text in
     let both = and_parts (all_may_stand state text) (all_may_stand (past_all state text) (flat_map part_bytes parts))
     (sym (both_may_stand state text (flat_map part_bytes parts)) ∙ stands) in
-    let here = stand_first state (own_parts (found place text)) (flat_map own_parts parts) stand in
-    let at_place = stand_second state (map other lead) (found (record place { function = None }) own ∷ []) here in
+    let here = each_first IsPlaced state (own_parts (found place text)) (flat_map own_parts parts) stand in
+    let at_place = (each_second IsPlaced state (map other lead) (found (record place { function = None }) own ∷ []) here).0 in
     let mid : past_all state (flat_map part_bytes (map other lead)) ≡ past_all state lead = ap (past_all state) (others_are lead) in
     let begin = subst (λ s. all_may_stand s own ≡ true → s ≡ between) mid at_place.0 in
     let end : past_all (past_all state lead) own ≡ between = ap (λ s. past_all s own) (sym mid) ∙ at_place.1 in
     let later = subst (λ s. Stand s (flat_map own_parts parts)) (ap (past_all state) (own_bytes (found place text)))
-    (stand_second state (own_parts (found place text)) (flat_map own_parts parts) stand) in
+    (each_second IsPlaced state (own_parts (found place text)) (flat_map own_parts parts) stand) in
     let one = part_stays state place text may.2.0.1 may.2.1 place.function (All-head HasFunction (found place text) parts have)
-    (λ some. is (clear.0 some)) both.0 (replacement may.2.0.0 place) (λ t same. replacement_plain may.2.0.0 place t same) begin end in
+    clear.0 both.0 (replacement may.2.0.0 place) (λ t same. replacement_plain may.2.0.0 place t same) begin end in
     stays_both state text (flat_map part_bytes parts) may.0 may.1 became
     (subst (Stays state text) (sym may.2.2) one)
-    (named_stay (past_all state text) 48 parts (λ none. absurd (cc)) later (All-tail HasFunction (found place text) parts have) clear.1 both.1 may.1 may.3) may.4
+    (named_stay (past_all state text) parts later (All-tail HasFunction (found place text) parts have) clear.1 both.1 may.1 may.3) may.4
 
 -- ---- between two quotation marks that are in no place
 
@@ -156,21 +149,21 @@ all_back : {X : Type 0} (P : X → Type 0) (first second : List X) → All P (fi
 all_back P [] second all = all
 all_back P (one ∷ first) second all = all_back P first second (All-tail P one (first ++ second) all)
 
-pub named_inside : (known : UrlsKnown) → AreForStrings known → (text became : List ℕ) (before inside behind : List Part)
+pub named_inside : (known : UrlsKnown) → AreForStrings known → AreFramesKnown known → (text became : List ℕ) (before inside behind : List Part)
     → named_parts_in known text ≡ before ++ other 34 ∷ (inside ++ other 34 ∷ behind) → is_string_inside (flat_map part_bytes inside) ≡ true
-    → AreClear 34 inside → MayBecomeBy by_names AnyNames inside became → is_string_inside became ≡ true
-named_inside known strings text became before inside behind joined is clear may =
+    → MayBecomeBy by_names AnyNames inside became → is_string_inside became ≡ true
+named_inside known strings frames text became before inside behind joined is may =
     let within = within_all known strings in
     let rest : List Part = inside ++ other 34 ∷ behind in
-    let all = subst (Stand between) (sym (parts_own known within text) ∙ ap (flat_map own_parts) joined ∙ flat_map-append own_parts before (other 34 ∷ rest))
-    (parts_stand known strings text) in
-    let state = past_all between (flat_map part_bytes (flat_map own_parts before)) in
-    let later : Stand (past state 34) (flat_map own_parts rest) = stand_second between (flat_map own_parts before) (other 34 ∷ flat_map own_parts rest) all in
-    let stand = stand_first between (flat_map own_parts inside) (flat_map own_parts (other 34 ∷ behind))
-    (subst (Stand between) (flat_map-append own_parts inside (other 34 ∷ behind))
-    (subst (λ s. Stand s (flat_map own_parts rest)) (past_quotation_mark state) later)) in
+    let own : flat_map own_parts (before ++ other 34 ∷ rest)
+    ≡ flat_map own_parts before ++ other 34 ∷ (flat_map own_parts inside ++ other 34 ∷ flat_map own_parts behind) =
+    flat_map-append own_parts before (other 34 ∷ rest)
+    ∙ ap (λ l. flat_map own_parts before ++ other 34 ∷ l) (flat_map-append own_parts inside (other 34 ∷ behind)) in
+    let stand = each_inside IsPlaced (flat_map own_parts before) (flat_map own_parts inside) (flat_map own_parts behind)
+    (subst (Stand between) (sym (parts_own known within text) ∙ ap (flat_map own_parts) joined ∙ own) (parts_stand known strings text)) in
+    let clear = each_inside IsClear before inside behind (subst (Each IsClear between) joined (functions_clear known strings frames text)) in
     let have = all_front HasFunction inside (other 34 ∷ behind) (All-tail HasFunction (other 34) rest
     (all_back HasFunction before (other 34 ∷ rest) (subst (All HasFunction) joined (parts_have known within text)))) in
     let parts = and_parts (all_may_stand between (flat_map part_bytes inside)) (is_between (past_all between (flat_map part_bytes inside))) is in
-    let stays = named_stay between 34 inside (λ _. refl) stand have clear parts.0 became may in
+    let stays = named_stay between inside stand have clear parts.0 became may in
     ap (λ b. b && is_between (past_all between became)) stays.0 ∙ ap is_between stays.1 ∙ parts.1

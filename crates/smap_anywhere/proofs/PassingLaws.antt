@@ -222,7 +222,7 @@ pub staying_parts : (known : UrlsKnown) (bytes : List ℕ) → flat_map (cut_par
 staying_parts known [] = refl
 staying_parts known (byte ∷ bytes) = ap (λ l. other byte ∷ l) (staying_parts known bytes)
 
-staying_named : (known : UrlsKnown) (bytes : List ℕ) → flat_map (named_cut_parts known) (map stays bytes) ≡ map other bytes
+pub staying_named : (known : UrlsKnown) (bytes : List ℕ) → flat_map (named_cut_parts known) (map stays bytes) ≡ map other bytes
 staying_named known [] = refl
 staying_named known (byte ∷ bytes) = ap (λ l. other byte ∷ l) (staying_named known bytes)
 

@@ -1,12 +1,13 @@
 -- What rewriting a text does, from what was written of it so far.
 use Rattle.std.proofs.Common.{◌≡◌, ◌+◌, ◌-◌, ◌<◌, ◌≤◌, ℕ, Bool, true, false, List, [], ◌++◌, length, take, drop, Option}
-use Rattle.std.proofs.Common.{Some, None, refl, sym, ap, subst, ◌∙◌, arith, append_assoc, length-append}
-use Rattle.std.specs.Io.KnownBytes.{IsAtEnd, prepend_known}
+use Rattle.std.proofs.Common.{refl, sym, ap, subst, ◌∙◌, arith, append_assoc, length-append}
+use Rattle.std.specs.Io.KnownBytes.{IsAtEnd}
 use Rattle.std.specs.List.{flat_map}
 use Rattle.std.proofs.lemmas.List.{take-append-drop, take_rest}
 use Rattle.std.proofs.Math.Seq.{drop-append_seam}
 use Rattle.smap_io.specs.Device.{Gives, SinkSeen, Takes, TakesFront}
 use Rattle.smap_lines.specs.Editing.{DevicesSeen}
+use Rattle.smap_lines.proofs.EditingLaws.{gives_both}
 use Rattle.smap_lines.specs.Lines.{has_line_end, lines_with_ends}
 use Rattle.smap_lines.specs.declared.line_output.LineOutput.{LineOutput}
 use Rattle.smap_lines.specs.declared.fault.LineFault.TheVariants.{Read, TooMuch, Write}
@@ -34,14 +35,7 @@ use Rattle.smap_anywhere.proofs.ThroughLaws.{through_whole}
 
 -- ---- bytes that a source gives
 
-prepend_both : (first second : List ℕ) (left : Option (List ℕ)) → prepend_known first (prepend_known second left) ≡ prepend_known (first ++ second) left
-prepend_both first second None = refl
-prepend_both first second (Some bytes) = ap Some (sym (append_assoc first second bytes))
-
-gives_both : (old mid new : Option (List ℕ)) (first second : List ℕ) → Gives old mid first → Gives mid new second → Gives old new (first ++ second)
-gives_both old mid new first second one two = one ∙ ap (prepend_known first) two ∙ prepend_both first second new
-
--- the same of a front, a window and more, which are the window now
+-- a front, a window and more, which are the window now
 pub gives_more : (old mid new : Option (List ℕ)) (front window more now : List ℕ) → now ≡ window ++ more → Gives old mid (front ++ window) → Gives mid new more
     → Gives old new (front ++ now)
 gives_more old mid new front window more now is one two =

@@ -2,11 +2,10 @@
 use Rattle.std.proofs.Common.{◌≡◌, ◌&&◌, ◌+◌, ◌++◌, ℕ, true, List, ◌∷◌, Option, ap, append_assoc, arith, length, length-append, refl, subst, sym, ◌∙◌}
 use Rattle.std.specs.List.{flat_map}
 use Rattle.std.proofs.lemmas.Bool.{and_parts}
-use Rattle.smap_pairs.specs.Json.{all_may_stand, is_between, is_string_inside, past, past_all}
+use Rattle.smap_pairs.specs.Json.{all_may_stand, is_between, is_string_inside, past_all}
 use Rattle.smap_pairs.specs.Json.InString.{between}
 use Rattle.smap_pairs.specs.Known.{UrlsKnown}
 use Rattle.smap_pairs.specs.StringPlaces.{AreForStrings}
-use Rattle.smap_pairs.proofs.JsonLaws.{past_quotation_mark}
 use Rattle.smap_record.specs.Record.{MapRecord}
 use Rattle.smap_anywhere.specs.ChunkParts.{parts_in}
 use Rattle.smap_anywhere.specs.JsonParts.{AnyMap, IsOutsideQuotedFrames, StaysString, with_marks}
@@ -14,7 +13,7 @@ use Rattle.smap_anywhere.specs.Parts.{Part, other, part_bytes}
 use Rattle.smap_anywhere.specs.PartSteps.{MayBecome}
 use Rattle.smap_anywhere.specs.Replaced.{parts_text}
 use Rattle.smap_anywhere.proofs.MarkLaws.{between_marks, split_text}
-use Rattle.smap_anywhere.proofs.PartStates.{Stand, parts_stay, stand_first, stand_second, text_may}
+use Rattle.smap_anywhere.proofs.PartStates.{IsPlaced, Stand, each_inside, parts_stay, text_may}
 use Rattle.smap_anywhere.proofs.StringParts.{parts_stand}
 
 module _ (known : UrlsKnown) (strings : AreForStrings known) where
@@ -23,9 +22,7 @@ module _ (known : UrlsKnown) (strings : AreForStrings known) where
       → is_string_inside (flat_map part_bytes inside) ≡ true → MayBecome AnyMap inside became → is_string_inside became ≡ true
   inside_stays text became before inside behind joined is may =
       let all = subst (Stand between) joined (parts_stand known strings text) in
-      let state = past_all between (flat_map part_bytes before) in
-      let later : Stand (past state 34) (inside ++ other 34 ∷ behind) = stand_second between before (other 34 ∷ (inside ++ other 34 ∷ behind)) all in
-      let stand = stand_first between inside (other 34 ∷ behind) (subst (λ s. Stand s (inside ++ other 34 ∷ behind)) (past_quotation_mark state) later) in
+      let stand = each_inside IsPlaced before inside behind all in
       let parts = and_parts (all_may_stand between (flat_map part_bytes inside)) (is_between (past_all between (flat_map part_bytes inside))) is in
       let stays = parts_stay between inside stand parts.0 became may in
       ap (λ b. b && is_between (past_all between became)) stays.0 ∙ ap is_between stays.1 ∙ parts.1

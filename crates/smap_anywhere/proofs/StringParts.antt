@@ -1,5 +1,5 @@
 -- The places of a text begin and end between two characters of its strings of JSON.
-use Rattle.std.proofs.Common.{◌≡◌, ◌≢◌, ◌==◌, ◌&&◌, ◌<◌, ◌≤◌, ◌+◌, ◌-◌, ◌⊎◌, inl, inr, ℕ, zero, suc, Bool, true, false, List, [], ◌∷◌, Some, IfSome, ap, arith, drop, length, map, refl, subst, sym, take, ◌∙◌}
+use Rattle.std.proofs.Common.{◌≡◌, ◌≢◌, ◌==◌, ◌&&◌, ◌<◌, ◌≤◌, ◌+◌, ◌-◌, ◌⊎◌, inl, inr, ℕ, zero, suc, Bool, true, false, List, [], ◌∷◌, ◌++◌, Some, IfSome, ap, arith, drop, length, map, refl, subst, sym, take, ◌∙◌}
 use Rattle.std.specs.Prelude.{if◌then◌else◌, not}
 use Rattle.std.specs.Char.{is_ascii_alphanumeric}
 use Rattle.std.specs.List.{All, flat_map, slice_range}
@@ -8,7 +8,7 @@ use Rattle.std.proofs.lemmas.Bool.{and_parts, cases_lt, eq-eqb, eqb-true, or_cas
 use Rattle.std.proofs.lemmas.List.{drop-take, length-take, take-take}
 use Rattle.std.proofs.lemmas.List.Elements.{All-cons, All-head, All-nil, All-tail}
 use Rattle.std.proofs.lemmas.Option.{IfSome_then}
-use Rattle.smap_pairs.specs.Chunks.{begins_anew, chunk, cuts_from, first_chunk, line_bytes, stays}
+use Rattle.smap_pairs.specs.Chunks.{Cut, begins_anew, chunk, cut_bytes, cuts_from, cuts_of, first_chunk, line_bytes, stays}
 use Rattle.smap_pairs.specs.Json.{InString, all_may_stand, has_quotation_mark, may_stand, past, past_all}
 use Rattle.smap_pairs.specs.Json.InString.{before_digits, behind_backslash, between}
 use Rattle.smap_pairs.specs.Known.{IsFrameUrlWithin, UrlsKnown}
@@ -16,15 +16,15 @@ use Rattle.smap_pairs.specs.Spans.{AreSpansInOrder}
 use Rattle.smap_pairs.specs.StringPlaces.{AreForStrings, BeginsAnew, IsBehindSign, IsWithoutQuotationMark, StandsBetween}
 use Rattle.smap_pairs.specs.declared.chunk.Chunk.{Chunk}
 use Rattle.smap_pairs.specs.declared.line_places.Span.{Span}
-use Rattle.smap_pairs.specs.Laws.Chunks.{first_within}
+use Rattle.smap_pairs.specs.Laws.Chunks.{behind_first, first_within}
 use Rattle.smap_pairs.proofs.JsonLaws.{past_both, past_line_end}
 use Rattle.smap_pairs.proofs.SpansLaws.{spans_in_order}
 use Rattle.smap_pairs.proofs.StringPlaceLaws.{all_between, all_without}
 use Rattle.smap_anywhere.specs.ChunkParts.{chunk_parts, cut_parts, line_of, parts_by_spans, parts_in, place_of_span, spans_of}
-use Rattle.smap_anywhere.specs.Parts.{found, other, part_bytes}
+use Rattle.smap_anywhere.specs.Parts.{Part, PlaceUrl, found, other, part_bytes}
 use Rattle.smap_anywhere.proofs.ChunkBegins.{Begins, BeginsWith, begins_between, next_begins}
 use Rattle.smap_anywhere.proofs.LineOfLaws.{spans_in_more}
-use Rattle.smap_anywhere.proofs.PartStates.{Stand, stand_both}
+use Rattle.smap_anywhere.proofs.PartStates.{Each, IsPlaced, Stand, each_both}
 use Rattle.smap_anywhere.proofs.TextPartsLaws.{cut_whole}
 
 -- ---- the places of a chunk
@@ -35,40 +35,45 @@ StandsAt state text span =
     (all_may_stand (past_all state (take span.start text)) (slice_range text span.start span.end) ≡ true → past_all state (take span.start text) ≡ between)
     × (past_all state (take span.end text) ≡ between)
 
-others_stand : (state : InString) (bytes : List ℕ) → Stand state (map other bytes)
-others_stand state [] = tt
-others_stand state (byte ∷ bytes) = others_stand (past state byte) bytes
-
 pub others_are : (bytes : List ℕ) → flat_map part_bytes (map other bytes) ≡ bytes
 others_are [] = refl
 others_are (byte ∷ bytes) = ap (λ l. byte ∷ l) (others_are bytes)
 
 -- what stands before a byte, and what stands from there to another
-past_range : (state : InString) (text : List ℕ) (from to : ℕ) → from ≤ to
+pub past_range : (state : InString) (text : List ℕ) (from to : ℕ) → from ≤ to
     → past_all (past_all state (take from text)) (slice_range text from to) ≡ past_all state (take to text)
 past_range state text from to order =
     let sum : from + (to - from) ≡ to = omega (arith, order) in
     sym (past_both state (take from text) (slice_range text from to)) ∙ ap (past_all state) (sym (take-add from (to - from) text))
     ∙ ap (λ n. past_all state (take n text)) sum
 
+module _ (P : InString → PlaceUrl → (bytes : List ℕ) → Type 0) where
+  pub others_each : (state : InString) (bytes : List ℕ) → Each P state (map other bytes)
+  others_each state [] = tt
+  others_each state (byte ∷ bytes) = others_each (past state byte) bytes
+
+  -- bytes that are in no place, and the next place
+  pub place_each : (state : InString) (text : List ℕ) (from begin end : ℕ) (place : PlaceUrl) (rest : List Part) → from ≤ begin → begin ≤ end
+      → P (past_all state (take begin text)) place (slice_range text begin end) → Each P (past_all state (take end text)) rest
+      → Each P (past_all state (take from text)) (map other (slice_range text from begin) ++ found place (slice_range text begin end) ∷ rest)
+  place_each state text from begin end place rest least most is more =
+      let before : List ℕ = slice_range text from begin in
+      let own : List ℕ = slice_range text begin end in
+      let first : past_all (past_all state (take from text)) (flat_map part_bytes (map other before)) ≡ past_all state (take begin text) =
+      ap (past_all (past_all state (take from text))) (others_are before) ∙ past_range state text from begin least in
+      let second : past_all (past_all state (take begin text)) own ≡ past_all state (take end text) = past_range state text begin end most in
+      each_both P (past_all state (take from text)) (map other before) _ (others_each (past_all state (take from text)) before)
+      (subst (λ s. Each P s (found place own ∷ rest)) (sym first) (is, subst (λ s. Each P s rest) (sym second) more))
+
 spans_stand : (state : InString) (text : List ℕ) (from : ℕ) (spans : List Span) → AreSpansInOrder from (length text) spans → All (StandsAt state text) spans
     → Stand (past_all state (take from text)) (parts_by_spans text from spans)
-spans_stand state text from [] order stand = others_stand (past_all state (take from text)) (drop from text)
+spans_stand state text from [] order stand = others_each IsPlaced (past_all state (take from text)) (drop from text)
 spans_stand state text from (span ∷ spans) order stand =
-    let before : List ℕ = slice_range text from span.start in
-    let own : List ℕ = slice_range text span.start span.end in
     let here = All-head (StandsAt state text) span spans stand in
-    let least = order.1 in
-    let less = order.2 in
-    let first : past_all (past_all state (take from text)) (flat_map part_bytes (map other before)) ≡ past_all state (take span.start text) =
-    ap (past_all (past_all state (take from text))) (others_are before) ∙ past_range state text from span.start order.0 in
-    let second : past_all (past_all state (take span.start text)) own ≡ past_all state (take span.end text) =
-    past_range state text span.start span.end (omega (arith, least, less)) in
-    let rest = spans_stand state text span.end spans order.4 (All-tail (StandsAt state text) span spans stand) in
-    let place : Stand (past_all state (take span.start text)) (found (place_of_span text span) own ∷ parts_by_spans text span.end spans) =
-    (here.0, second ∙ here.1, subst (λ s. Stand s (parts_by_spans text span.end spans)) (sym second) rest) in
-    stand_both (past_all state (take from text)) (map other before) _ (others_stand (past_all state (take from text)) before)
-    (subst (λ s. Stand s (found (place_of_span text span) own ∷ parts_by_spans text span.end spans)) (sym first) place)
+    let size : span.start ≤ span.end = omega (arith, order.1, order.2) in
+    place_each IsPlaced state text from span.start span.end (place_of_span text span) (parts_by_spans text span.end spans) order.0 size
+    (here.0, past_range state text span.start span.end size ∙ here.1)
+    (spans_stand state text span.end spans order.4 (All-tail (StandsAt state text) span spans stand))
 
 -- ---- a chunk and its line
 
@@ -213,10 +218,6 @@ first_begins true byte state text goes (inl is) = anew byte state (not_is (begin
     not_is false is = cc
 first_begins is_broken byte state text goes (inr begins) = begins
 
-behind_first : (bytes byte : ℕ) (text : List ℕ) → 0 < bytes → drop (bytes - 1) text ≡ drop bytes (byte ∷ text)
-behind_first zero byte text some = absurd (omega arith)
-behind_first (suc bytes) byte text some = ap (λ n. drop n text) (omega arith)
-
 byte_behind : (state : InString) (byte : ℕ) (text : List ℕ) → BeginsIf (not (byte == 10)) (past state byte) text
 byte_behind state byte text = go (byte == 10) refl
   where
@@ -224,28 +225,28 @@ byte_behind state byte text = go (byte == 10) refl
     go true is = inr (begins_between (past state byte) text (ap (past state) (eqb-true byte 10 is) ∙ past_line_end state))
     go false is = inl refl
 
-module _ (known : UrlsKnown) (strings : AreForStrings known) where
-  pub within_all : (line : List ℕ) → IsFrameUrlWithin known line
-  within_all line = IfSome_then (known.frame_url line) (strings.frames line) (λ url behind. (behind.0, behind.1))
+-- what holds of each place of a chunk, wherever that begins
+module _ (P : InString → PlaceUrl → (bytes : List ℕ) → Type 0) (parts : Cut → List Part) (of_byte : (byte : ℕ) → parts (stays byte) ≡ other byte ∷ [])
+    (are_bytes : (cut : Cut) → flat_map part_bytes (parts cut) ≡ cut_bytes cut)
+    (of_chunk : (state : InString) (byte : ℕ) (text : List ℕ) → BeginsWith state byte → Each P state (parts (chunk (byte ∷ text)))) where
+  abbrev InCuts : InString → (within : ℕ) → (is_broken : Bool) → (text : List ℕ) → Type 0
+  InCuts state within is_broken text = Each P state (flat_map parts (cuts_from within is_broken text))
 
-  abbrev CutsStand : InString → (within : ℕ) → (is_broken : Bool) → (text : List ℕ) → Type 0
-  CutsStand state within is_broken text = Stand state (flat_map (cut_parts known) (cuts_from within is_broken text))
-
-  cuts_stand : (state : InString) (within : ℕ) (is_broken : Bool) (text : List ℕ) → BeginsIf is_broken state (drop within text) → CutsStand state within is_broken text
+  in_cuts : (state : InString) (within : ℕ) (is_broken : Bool) (text : List ℕ) → BeginsIf is_broken state (drop within text) → InCuts state within is_broken text
   unfolding cuts_from
-  cuts_stand state within is_broken [] begins = tt
-  cuts_stand state (suc within) is_broken (byte ∷ text) begins = cuts_stand state within is_broken text begins
-  cuts_stand state zero is_broken (byte ∷ text) begins =
-      go (is_broken && not (begins_anew byte)) refl (λ state within is_broken. cuts_stand state within is_broken text)
+  in_cuts state within is_broken [] begins = tt
+  in_cuts state (suc within) is_broken (byte ∷ text) begins = in_cuts state within is_broken text begins
+  in_cuts state zero is_broken (byte ∷ text) begins =
+      go (is_broken && not (begins_anew byte)) refl (λ state within is_broken. in_cuts state within is_broken text)
     where
       first : Chunk
       first = first_chunk (byte ∷ text)
 
-      next : InString
-      next = past_all state (take first.bytes (byte ∷ text))
+      own : List ℕ
+      own = take first.bytes (byte ∷ text)
 
-      whole_bytes : flat_map part_bytes (chunk_parts known (take first.bytes (byte ∷ text))) ≡ take first.bytes (byte ∷ text)
-      whole_bytes = cut_whole known within_all (chunk (take first.bytes (byte ∷ text)))
+      next : InString
+      next = past_all state own
 
       behind : BeginsIf first.is_broken next (drop (first.bytes - 1) text)
       behind = by first.is_broken refl
@@ -257,22 +258,31 @@ module _ (known : UrlsKnown) (strings : AreForStrings known) where
               (next_begins state (byte ∷ text) is))
 
       go : (b : Bool) → (is_broken && not (begins_anew byte)) ≡ b
-          → ((state : InString) (within : ℕ) (is_broken : Bool) → BeginsIf is_broken state (drop within text) → CutsStand state within is_broken text)
-          → Stand state (flat_map (cut_parts known) (if b then stays byte ∷ cuts_from 0 (not (byte == 10)) text
-          else chunk (take first.bytes (byte ∷ text)) ∷ cuts_from (first.bytes - 1) first.is_broken text))
-      go true is rest = rest (past state byte) 0 (not (byte == 10)) (byte_behind state byte text)
+          → ((state : InString) (within : ℕ) (is_broken : Bool) → BeginsIf is_broken state (drop within text) → InCuts state within is_broken text)
+          → Each P state (flat_map parts (if b then stays byte ∷ cuts_from 0 (not (byte == 10)) text
+          else chunk own ∷ cuts_from (first.bytes - 1) first.is_broken text))
+      go true is rest =
+          subst (λ l. Each P state (l ++ flat_map parts (cuts_from 0 (not (byte == 10)) text))) (sym (of_byte byte))
+          (rest (past state byte) 0 (not (byte == 10)) (byte_behind state byte text))
       go false is rest =
           let begins_here : BeginsWith state byte = first_begins is_broken byte state text is begins in
-          stand_both state (chunk_parts known (take first.bytes (byte ∷ text))) _
-          (first_stands first.bytes (first_within (byte ∷ text) (omega arith)).0 begins_here)
-          (subst (λ l. Stand (past_all state l) (flat_map (cut_parts known) (cuts_from (first.bytes - 1) first.is_broken text))) (sym whole_bytes)
+          each_both P state (parts (chunk own)) _ (in_first first.bytes (first_within (byte ∷ text) (omega arith)).0 begins_here)
+          (subst (λ l. Each P (past_all state l) (flat_map parts (cuts_from (first.bytes - 1) first.is_broken text))) (sym (are_bytes (chunk own)))
           (rest next (first.bytes - 1) first.is_broken behind))
         where
-          first_stands : (bytes : ℕ) → 0 < bytes → BeginsWith state byte → Stand state (chunk_parts known (take bytes (byte ∷ text)))
-          first_stands zero some begins = absurd (omega arith)
-          first_stands (suc bytes) some begins = chunk_stands known strings state byte (take bytes text) begins
+          in_first : (bytes : ℕ) → 0 < bytes → BeginsWith state byte → Each P state (parts (chunk (take bytes (byte ∷ text))))
+          in_first zero some begins = absurd (omega arith)
+          in_first (suc bytes) some begins = of_chunk state byte (take bytes text) begins
 
-  -- wherever a text begins
+  -- of a text
+  pub in_text : (text : List ℕ) → Each P between (flat_map parts (cuts_of text))
+  in_text text = in_cuts between 0 false text (inr (begins_between between text refl))
+
+module _ (known : UrlsKnown) (strings : AreForStrings known) where
+  pub within_all : (line : List ℕ) → IsFrameUrlWithin known line
+  within_all line = IfSome_then (known.frame_url line) (strings.frames line) (λ url behind. (behind.0, behind.1))
+
   pub parts_stand : (text : List ℕ) → Stand between (parts_in known text)
   unfolding parts_in
-  parts_stand text = cuts_stand between 0 false text (inr (begins_between between text refl))
+  parts_stand text =
+      in_text IsPlaced (cut_parts known) (λ byte. refl) (cut_whole known within_all) (λ state byte text begins. chunk_stands known strings state byte text begins) text

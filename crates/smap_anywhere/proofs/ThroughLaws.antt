@@ -13,9 +13,10 @@ use Rattle.smap_lines.specs.Lines.{IsWholeLines, has_line_end}
 use Rattle.smap_pairs.specs.Chunks.{Cut, IsCutOfLine, cut_bytes, cuts_from, cuts_of}
 use Rattle.smap_pairs.specs.Chunks.Cut.{chunk, stays}
 use Rattle.smap_pairs.specs.Laws.Chunks.{cuts_in_lines, cuts_whole, lines_apart}
-use Rattle.smap_trace.specs.Noted.{AreNotesIf, AreNotesOf, nothing_noted}
+use Rattle.smap_trace.specs.Noted.{AreNotesIf, nothing_noted}
 use Rattle.smap_trace.specs.Rewriting.{Looked}
 use Rattle.smap_trace.specs.UrlNotes.{NamingSeen, NotesSeen}
+use Rattle.smap_trace.proofs.RewritingLaws.{none_noted}
 use Rattle.smap_anywhere.specs.Parts.{Part}
 use Rattle.smap_anywhere.specs.PartSteps.{MayBecomeBy, PlacesNow, places_start}
 use Rattle.smap_anywhere.specs.Private.ChunkWriter.{IsCut}
@@ -26,10 +27,6 @@ use Rattle.smap_anywhere.proofs.PartStepLaws.{IsGiven, IsSame, Steps, became_may
 use Rattle.smap_anywhere.proofs.PartStepLaws.{steps_both, steps_looked}
 
 -- ---- notes
-
-none_if : (on : Bool) (notes : NotesSeen) → notes ≡ nothing_noted → AreNotesIf on [] notes
-none_if true notes none = subst (λ n. AreNotesOf [] n) (sym none) refl
-none_if false notes none = none
 
 noted_on : (on : Bool) (before namings : List NamingSeen) (old new : NotesSeen) → AreNotesIf on before old → AreNoted on namings old new
     → AreNotesIf on (before ++ namings) new
@@ -120,8 +117,8 @@ module _ {M F : Type 0} (by : Replacing F) (Finds : M → (url : List ℕ) → M
     bytes = refl;
     cut = λ later. refl;
     steps = refl;
-    noted = none_if on notes none;
-    others = none_if on others no_others;
+    noted = none_noted on notes none;
+    others = none_noted on others no_others;
     taken = takes_none taken;
     few_places = omega arith;
     few_mapped = omega arith;

@@ -1,6 +1,5 @@
 -- JSON stays JSON: what stands between two quotation marks of a text, and what becomes of it.
-use Rattle.std.specs.Prelude.{◌≡◌, ◌<◌, ◌≤◌, ◌+◌, ◌==◌, ◌||◌, ◌++◌, ℕ, Bool, true, false, IfSome, IsFalse, IsTrue, List, [], ◌∷◌, Option, is_some, length}
-use Rattle.std.specs.Char.{is_ascii_hexdigit}
+use Rattle.std.specs.Prelude.{◌≡◌, ◌<◌, ◌≤◌, ◌+◌, ◌++◌, ℕ, true, IfSome, IsFalse, IsTrue, List, ◌∷◌, Option, length}
 use Rattle.std.specs.List.{flat_map, slice_range}
 use Rattle.smap_pairs.specs.Chunks.{Cut, chunk, cut_bytes, cuts_of, stays}
 use Rattle.smap_pairs.specs.Json.{has_quotation_mark, is_string_inside}
@@ -9,7 +8,8 @@ use Rattle.smap_record.specs.Record.{MapRecord}
 use Rattle.smap_declarations.specs.Frames.{is_name}
 use Rattle.smap_trace.specs.FunctionNames.{FunctionNames, written_name}
 use Rattle.smap_anywhere.specs.ChunkParts.{line_of, parts_in}
-use Rattle.smap_anywhere.specs.Parts.{Part, found, other, part_bytes}
+use Rattle.smap_anywhere.specs.FrameUrl.{frame_url}
+use Rattle.smap_anywhere.specs.Parts.{Part, other, part_bytes}
 use Rattle.smap_anywhere.specs.Replaced.{parts_text}
 
 -- ---- exempt: frames
@@ -34,6 +34,10 @@ IsOutsideQuotedFrames known text at = (cut : Cut) → HasByte text at cut → Is
 
 -- ---- strings
 
+-- where the URL of a frame stands is known by the rule of frames
+abbrev pub AreFramesKnown : UrlsKnown → Type 0
+AreFramesKnown known = (line : List ℕ) → known.frame_url line ≡ frame_url line
+
 -- each URL may have any map, or none
 abbrev pub AnyMap : (url : List ℕ) → Option MapRecord → Type 0
 AnyMap url stated = Unit {0}
@@ -42,21 +46,11 @@ AnyMap url stated = Unit {0}
 abbrev pub AnyNames : (url : List ℕ) → Option MapRecord × Option FunctionNames → Type 0
 AnyNames url one = (function : List ℕ) (line column : ℕ) → IfSome (written_name one.1 function line column) (λ name. is_name name ≡ true)
 
--- an escape may begin with a byte, or go on behind it, or end with it as a hexadecimal digit
-abbrev pub may_be_in_escape : (byte : ℕ) → Bool
-may_be_in_escape byte = byte == 92 || (byte == 117 || is_ascii_hexdigit byte)
-
--- no function of these parts stands right behind such a byte, the first behind this one; behind a place a digit does
-abbrev pub AreClear : (last : ℕ) → List Part → Type 0
-AreClear last [] = Unit {0}
-AreClear last (other byte ∷ parts) = AreClear byte parts
-AreClear last (found place text ∷ parts) = (is_some place.function ≡ true → may_be_in_escape last ≡ false) × AreClear 48 parts
-
 -- what stands before, between and behind two quotation marks of a text
 abbrev pub with_marks : (before inside behind : List ℕ) → List ℕ
 with_marks before inside behind = before ++ 34 ∷ (inside ++ 34 ∷ behind)
 
--- the parts of such a text: the two marks are in no place, and what stands between them becomes the inside of a string of JSON
+-- the parts of such a text: its two marks are in no place, and what is between them becomes the inside of a string of JSON
 pub record StaysString (known : UrlsKnown) (maps : List ℕ → Option MapRecord) (before inside behind : List ℕ) : Type 0 where
   pub parts_before : List Part
   pub parts_inside : List Part

@@ -3,6 +3,7 @@ pub mod FrameUrl
 pub mod MapUrls
 pub mod SeemingUrls
 pub mod Parts
+pub mod FunctionSeen
 pub mod Replaced
 pub mod FramePlaces
 pub mod PartSteps

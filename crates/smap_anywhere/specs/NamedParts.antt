@@ -1,7 +1,7 @@
 -- The parts of a text whose functions get the names that were written for them (this project's own). A place is that of a frame where
 -- its line is one as a whole, or its string, or the line of that: from the name of that frame's function on, what stands before the
 -- place is of its part, and the name becomes the written one where the place gets an original.
-use Rattle.std.specs.Prelude.{ℕ, ◌+◌, ◌-◌, Bool, false, true, nat_le, List, [], ◌∷◌, ◌++◌, Option, Some, None, drop, if◌then◌else◌, is_some, length, map, option_map, unwrap_or}
+use Rattle.std.specs.Prelude.{ℕ, ◌+◌, ◌-◌, Bool, false, true, nat_le, List, [], ◌∷◌, ◌++◌, Option, Some, None, drop, if◌then◌else◌, is_some, length, map, option_map}
 use Rattle.std.specs.List.{flat_map, slice_range}
 use Rattle.smap_pairs.specs.Chunks.{Cut, chunk, cuts_of, stays}
 use Rattle.smap_pairs.specs.Known.{UrlsKnown}
@@ -10,7 +10,7 @@ use Rattle.smap_record.specs.Record.{MapRecord}
 use Rattle.smap_trace.specs.FunctionNames.{FunctionNames, HeadCut, head_cut, written_name}
 use Rattle.smap_anywhere.specs.ChunkParts.{cut_parts, parts_by_spans, parts_in, place_of_span, spans_of}
 use Rattle.smap_anywhere.specs.Parts.{FrameFunction, Part, PlaceUrl, found, other}
-use Rattle.smap_anywhere.specs.Replaced.{Replacing, by_maps, replacement}
+use Rattle.smap_anywhere.specs.Replaced.{Replacing, by_maps, part_text_by, parts_text_by, replacement}
 
 -- ---- the function before a place
 
@@ -92,11 +92,10 @@ by_names = record { text = named_replacement; has = λ one. is_some one.0 }
 
 -- what becomes of a part, where these are the maps of URLs and what names the functions of their programs
 abbrev pub named_part_text : (maps : List ℕ → Option MapRecord) → (names : List ℕ → Option FunctionNames) → Part → List ℕ
-named_part_text maps names (other byte) = byte ∷ []
-named_part_text maps names (found place text) = unwrap_or (named_replacement (maps place.url, names place.url) place) text
+named_part_text maps names = part_text_by by_names (λ url. (maps url, names url))
 
 abbrev pub named_parts_text : (maps : List ℕ → Option MapRecord) → (names : List ℕ → Option FunctionNames) → List Part → List ℕ
-named_parts_text maps names parts = flat_map (named_part_text maps names) parts
+named_parts_text maps names = parts_text_by by_names (λ url. (maps url, names url))
 
 -- ---- over maps with names, or without
 

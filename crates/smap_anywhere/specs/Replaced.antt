@@ -46,13 +46,20 @@ by_maps = record { text = replacement; has = is_some }
 
 -- ---- a text
 
--- what becomes of a part of a text, where these are the maps of URLs
+-- what becomes of a part of a text, where a function gives what is found under URLs
+abbrev pub part_text_by : {F : Type 0} → Replacing F → (under : List ℕ → F) → Part → List ℕ
+part_text_by by under (other byte) = byte ∷ []
+part_text_by by under (found place text) = unwrap_or (by.text (under place.url) place) text
+
+abbrev pub parts_text_by : {F : Type 0} → Replacing F → (under : List ℕ → F) → List Part → List ℕ
+parts_text_by by under parts = flat_map (part_text_by by under) parts
+
+-- where these are the maps of URLs
 abbrev pub part_text : (maps : List ℕ → Option MapRecord) → Part → List ℕ
-part_text maps (other byte) = byte ∷ []
-part_text maps (found place text) = unwrap_or (replacement (maps place.url) place) text
+part_text = part_text_by by_maps
 
 abbrev pub parts_text : (maps : List ℕ → Option MapRecord) → List Part → List ℕ
-parts_text maps parts = flat_map (part_text maps) parts
+parts_text = parts_text_by by_maps
 
 -- ---- what is counted
 
@@ -61,6 +68,6 @@ is_place (other byte) = false
 is_place (found place text) = true
 
 -- the place is replaced
-abbrev pub is_replaced : (maps : List ℕ → Option MapRecord) → Part → Bool
-is_replaced maps (other byte) = false
-is_replaced maps (found place text) = is_some (replacement (maps place.url) place)
+abbrev pub is_replaced_by : {F : Type 0} → Replacing F → (under : List ℕ → F) → Part → Bool
+is_replaced_by by under (other byte) = false
+is_replaced_by by under (found place text) = is_some (by.text (under place.url) place)

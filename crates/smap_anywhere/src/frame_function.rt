@@ -1,7 +1,8 @@
 //! The function of the frame that a place is in, with the name that was written for it.
-ghost use Rattle.std.specs.Prelude.{◌≡◌, ◌≤◌, ◌++◌, [], length, option_map};
-ghost use Rattle.smap_anywhere.specs.NamedParts.{function_at, function_before, function_bytes, function_text, place_at};
-ghost use Rattle.smap_anywhere.specs.Private.FunctionPut.{function_seen, name_put};
+ghost use Rattle.std.specs.Prelude.{◌≡◌, ◌≤◌, ◌++◌, [], length, option_map, true};
+ghost use Rattle.smap_anywhere.specs.FunctionSeen.{function_seen};
+ghost use Rattle.smap_anywhere.specs.NamedParts.{begin_at, function_at, function_before, function_bytes, function_text, place_at};
+ghost use Rattle.smap_anywhere.specs.Private.FunctionPut.{name_put};
 
 use smap_pairs::Span;
 use smap_trace::{HeadCut, Maps, head_cut};
@@ -75,8 +76,8 @@ fn name_for<'a, M: Maps>(
     }
 }
 
-// The function of the frame that a place of a chunk is in, behind a byte up to which other places stand.
-fn function_before<'a>(text: &'a [u8], from: usize, span: &Span) -> Option<HeadCut<'a>>
+/// The function of the frame that a place of a chunk is in, behind a byte up to which other places stand.
+pub fn function_before<'a>(text: &'a [u8], from: usize, span: &Span) -> Option<HeadCut<'a>>
     requires within { span.now.start ≤ length text.now }
     ensures { option_map function_seen result ≡ function_before text.now from span.now }
 {
@@ -89,5 +90,19 @@ fn function_before<'a>(text: &'a [u8], from: usize, span: &Span) -> Option<HeadC
         Some(cut)
     } else {
         None
+    }
+}
+
+/// Where the part of a place of a chunk begins, behind a byte up to which other places stand: with the function of its
+/// frame, where there is one.
+pub fn begin_of_part(text: &[u8], from: usize, span: &Span) -> usize
+    requires within { span.now.start ≤ length text.now }
+    ensures { result ≡ begin_at true text.now from span.now }
+{
+    match function_before(text, from, span) {
+        Some(function) => span
+            .start
+            .saturating_sub(function.name.len() + function.behind.len()),
+        None => span.start,
     }
 }

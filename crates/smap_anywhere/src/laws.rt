@@ -14,7 +14,8 @@ ghost use Rattle.smap_trace.specs.MapsOf.{MapsByUrl, line_by};
 ghost use Rattle.smap_trace.specs.Rewritten.{fate_at, line_after, original_in};
 ghost use Rattle.smap_anywhere.specs.ChunkParts.{parts_in};
 ghost use Rattle.smap_anywhere.specs.FramePlaces.{IsLeftToPatterns, has_file, is_from_quotable};
-ghost use Rattle.smap_anywhere.specs.JsonParts.{AnyMap, AnyNames, AreClear, IsOutsideQuotedFrames, StaysString, with_marks};
+ghost use Rattle.smap_anywhere.specs.JsonParts.{AnyMap, AnyNames, AreFramesKnown, IsOutsideQuotedFrames};
+ghost use Rattle.smap_anywhere.specs.JsonParts.{StaysString, with_marks};
 ghost use Rattle.smap_anywhere.specs.MapUrls.{urls_known};
 ghost use Rattle.smap_anywhere.specs.MapsSeen.{MapsSeen};
 ghost use Rattle.smap_anywhere.specs.NamedParts.{by_names, named_parts_in, named_parts_text};
@@ -39,8 +40,7 @@ pub fn parts_are_the_text()
 
 /// JSON stays JSON: if what stands between two quotation marks of a text is the inside of a string of JSON, what it becomes
 /// is one too, whatever maps the URLs have. Exempt are a frame that is a line as a whole, and one that is a chunk as a whole
-/// of a line of more than 65,536 bytes: its URL may have one of the quotation marks. So it does with any names of functions,
-/// where none stands right behind a byte that may be of an escape.
+/// of a line of more than 65,536 bytes: its URL may have one of the quotation marks. So it does with any names of functions.
 pub fn json_stays_json()
     ensures strings { (known : UrlsKnown) → AreForStrings known →
         (maps : List ℕ → Option MapRecord) (before inside behind : List ℕ) →
@@ -53,12 +53,13 @@ pub fn json_stays_json()
         parts_in known text ≡ before ++ other 34 ∷ (inside ++ other 34 ∷ behind) →
         IsTrue (is_string_inside (flat_map part_bytes inside)) → MayBecome AnyMap inside became →
         IsTrue (is_string_inside became) }
-    ensures names { (known : UrlsKnown) → AreForStrings known →
+    ensures names { (known : UrlsKnown) → AreForStrings known → AreFramesKnown known →
         (text became : List ℕ) (before inside behind : List Part) →
         named_parts_in known text ≡ before ++ other 34 ∷ (inside ++ other 34 ∷ behind) →
-        IsTrue (is_string_inside (flat_map part_bytes inside)) → AreClear 34 inside →
+        IsTrue (is_string_inside (flat_map part_bytes inside)) →
         MayBecomeBy by_names AnyNames inside became → IsTrue (is_string_inside became) }
-    ensures known { (maps : MapsSeen) → AreForStrings (urls_known maps) }
+    ensures known { (maps : MapsSeen) →
+        AreForStrings (urls_known maps) × AreFramesKnown (urls_known maps) }
 {}
 
 /// A frame becomes anywhere what `rewrite` makes of it over the same maps, unless the name that comes in has a `"` or a `\`:

@@ -30,6 +30,7 @@ mod window;
 
 pub use chunk_line::find_in_chunk;
 pub use counting::LineCounter;
+pub use frame_function::{begin_of_part, function_before};
 pub use map_urls::MapUrls;
 pub use notes::PlaceNotes;
 pub use parts_writer::url_of;

@@ -1,38 +1,35 @@
 -- Rewriting over the maps of a table, for devices in memory.
-use Rattle.std.proofs.Common.{◌≡◌, ◌∙◌, ◌++◌, ◌∷◌, ◌<◌, ◌≤◌, ℕ, [], List, Bool, Option, Some, None, MatchOption, true, false, ap, append-nil, arith, length, length-append, refl, subst, sym}
+use Rattle.std.proofs.Common.{◌≡◌, ◌∙◌, ◌++◌, ◌∷◌, ◌<◌, ◌≤◌, ℕ, [], List, Bool, Option, Some, None, true, false, ap, append-nil, arith, length, length-append, refl, subst, sym}
 use Rattle.std.specs.Io.KnownBytes.{IsAtEnd}
-use Rattle.std.specs.Option.{IfSome, option_or}
+use Rattle.std.specs.Option.{IfSome}
 use Rattle.std.specs.Prelude.{⊤, Err, Ok, Result, unwrap_or}
 use Rattle.std.specs.Result.{IfErr, IfOk}
 use Rattle.std.proofs.lemmas.Bool.{cond-false, cond-true}
-use Rattle.smap_locations.specs.ByText.{value_under}
 use Rattle.smap_io.specs.Device.{Gives, Takes}
 use Rattle.smap_lines.specs.Editing.{DevicesSeen}
 use Rattle.smap_lines.specs.Limits.{most_text_bytes}
 use Rattle.smap_lines.specs.declared.fault.LineFault.{LineFault}
 use Rattle.smap_lines.specs.declared.fault.LineFault.TheVariants.{Memory, TooMuch}
 use Rattle.smap_record.specs.Record.{MapRecord}
-use Rattle.smap_anywhere.specs.Anywhere.{PlacesAsked, RewritesAnywhere, RewritesAnywhereFront}
-use Rattle.smap_anywhere.specs.AnywhereBy.{RewritesAnywhereBy}
-use Rattle.smap_anywhere.specs.ChunkParts.{parts_in}
-use Rattle.smap_anywhere.specs.Laws.AnywhereBy.{anywhere_by}
-use Rattle.smap_anywhere.specs.PartSteps.{MayBe, MayBecome}
-use Rattle.smap_anywhere.specs.Replaced.{part_text, parts_text, replacement}
+use Rattle.smap_anywhere.specs.Anywhere.{RewritesAnywhereFrontOver, RewritesAnywhereOver}
+use Rattle.smap_anywhere.specs.AnywhereBy.{RewritesAnywhereUnder}
+use Rattle.smap_anywhere.specs.Laws.AnywhereBy.{anywhere_under}
+use Rattle.smap_anywhere.specs.NamedParts.{by_names, found_by, gives_by, named_parts_in}
+use Rattle.smap_anywhere.specs.PartSteps.{MayBeBy, MayBecomeBy}
+use Rattle.smap_anywhere.specs.Replaced.{Replacing, part_text_by, parts_text_by}
 use Rattle.smap_anywhere.specs.Parts.{Part, found, other}
-use Rattle.smap_store.specs.Laws.NamedOf.{front_named_by, rewrites_named_by}
-use Rattle.smap_store.specs.NamedOf.{RewritesNamedBy, counts_named, rewritten_named}
-use Rattle.smap_store.specs.UrlTable.{UrlTableSeen, map_by_pattern, map_of_cut, map_under, named_by_url, names_under}
+use Rattle.smap_store.specs.UrlTable.{UrlTableSeen, map_under, named_by_url, names_under}
 use Rattle.smap_store.specs.declared.url_maps.UrlMaps.{UrlMaps}
 use Rattle.smap_trace.specs.Hiding.{only_ignored}
 use Rattle.smap_trace.specs.FunctionNames.{FunctionNames}
-use Rattle.smap_trace.specs.MapsOf.{MapsByUrl}
+use Rattle.smap_trace.specs.Laws.MapsOf.{front_named_by, rewrites_named_by}
+use Rattle.smap_trace.specs.MapsOf.{RewritesNamedBy, counts_named, rewritten_named}
 use Rattle.smap_trace.specs.Rewriting.{RewritesNamed, RewritesNamedFront, frames_alone}
 use Rattle.smap_trace.specs.UrlNotes.{NotesSeen}
 use Rattle.smap_trace.specs.declared.outcome.RewriteCounts.{RewriteCounts}
 use Rattle.smap_trace.specs.declared.outcome.Summary.{Summary}
 use Rattle.smap_c.specs.Private.Rewriting.{EndsRewriting, HasFront, IsRewritten, IsTooMuch}
-use Rattle.smap_c.specs.Trace.{place_counts_by, placed_by, places_asked, text_of, urls_of}
-use Rattle.smap_c.specs.declared.place_maps.PlaceMaps.{PlaceMaps}
+use Rattle.smap_c.specs.Trace.{found_in, place_counts_by, placed_by, places_asked, text_of, urls_of}
 use Rattle.smap_c.specs.declared.trace.RewriteOptions.{RewriteOptions}
 
 module _ (table : UrlTableSeen) (cut : Bool) where
@@ -63,40 +60,37 @@ module _ (table : UrlTableSeen) (cut : Bool) where
       → RewritesNamed UrlFinds url_found url_names (frames_alone (only_ignored hide) most_text_bytes) before after old new counts notes
       → RewritesNamedBy (named_by_url cut table) (only_ignored hide) most_text_bytes before after counts
   rewrites_table hide before after old new counts notes is all =
-      rewrites_named_by UrlFinds url_found url_names (named_by_url cut table) IsOver
-      (λ old new url finds is. let stays = over_next old new finds is in (over_found new url stays, over_names new url stays, stays))
-      (frames_alone (only_ignored hide) most_text_bytes) before after old new counts notes all is
+      rewrites_named_by UrlFinds url_found url_names (named_by_url cut table) (λ maps. ⊤) IsOver (λ old new url finds good. tt)
+      (λ old new url finds good is. let stays = over_next old new finds is in (over_found new url stays, over_names new url stays, stays))
+      (frames_alone (only_ignored hide) most_text_bytes) before after old new counts notes all tt is
 
 -- ---- places
 
 module _ (table : UrlTableSeen) where
-  abbrev PlaceFinds : PlaceMaps → (url : List ℕ) → PlaceMaps → Type 0
-  PlaceFinds maps url after = after ≡ maps
-
-  abbrev place_found : PlaceMaps → (url : List ℕ) → Option MapRecord
-  place_found maps url = map_under true maps.table.now url
-
   -- a text becomes by its places what those make of it
-  pub places_table : (before after : DevicesSeen) (old new : PlaceMaps) (summary : Summary) (named others : NotesSeen) → old.table.now ≡ table
-      → RewritesAnywhere PlaceFinds place_found (places_asked table) before after old new summary named others
-      → RewritesAnywhereBy (map_under true table) (parts_in (urls_of table)) most_text_bytes before after summary
+  pub places_table : (before after : DevicesSeen) (old new : UrlMaps) (summary : Summary) (named others : NotesSeen) → IsOver table true old
+      → RewritesAnywhereOver by_names (UrlFinds table true) (found_by true (url_found table true) (url_names table true)) (places_asked table)
+      before after old new summary named others
+      → RewritesAnywhereUnder by_names (found_in table) (named_parts_in (urls_of table)) most_text_bytes before after summary
   places_table before after old new summary named others is all =
-      anywhere_by PlaceFinds place_found (map_under true table) (λ maps. ⊤) (λ maps. maps.table.now ≡ table) (λ old new url finds good. tt)
-      (λ old new url finds good is. let stays = ap (λ m. m.table.now) finds ∙ is in (ap (λ t. map_under true t url) stays, stays))
+      anywhere_under by_names (UrlFinds table true) (found_by true (url_found table true) (url_names table true)) (found_in table) (λ maps. ⊤)
+      (IsOver table true) (λ old new url finds good. tt)
+      (λ old new url finds good is. let stays = over_next table true old new finds is in
+      ((λ i. (over_found table true new url stays i, over_names table true new url stays i)), stays))
       (places_asked table) before after old new summary named others all tt is
 
 -- ---- a front of a text
 
-module _ (maps : MapsByUrl) (Allows : (url : List ℕ) → Option MapRecord → Type 0)
-    (allowed : (url : List ℕ) (stated : Option MapRecord) → Allows url stated → stated ≡ maps url) where
-  part_by : (part : Part) (text : List ℕ) → MayBe Allows part text → text ≡ part_text maps part
-  part_by (other byte) text is = is
-  part_by (found place bytes) text is = is.2 ∙ ap (λ f. unwrap_or (replacement f place) bytes) (allowed place.url is.0 is.1)
+module _ {F : Type 0} (by : Replacing F) (given : List ℕ → F) (Allows : (url : List ℕ) → F → Type 0)
+    (allowed : (url : List ℕ) (one : F) → Allows url one → one ≡ given url) where
+  part_under : (part : Part) (text : List ℕ) → MayBeBy by Allows part text → text ≡ part_text_by by given part
+  part_under (other byte) text is = is
+  part_under (found place bytes) text is = is.2 ∙ ap (λ f. unwrap_or (by.text f place) bytes) (allowed place.url is.0 is.1)
 
   -- and so are parts
-  parts_by : (parts : List Part) (text : List ℕ) → MayBecome Allows parts text → text ≡ parts_text maps parts
-  parts_by [] text is = is
-  parts_by (part ∷ parts) text is = is.4 ∙ (λ i. part_by part is.0 is.2 i ++ parts_by parts is.1 is.3 i)
+  parts_under : (parts : List Part) (text : List ℕ) → MayBecomeBy by Allows parts text → text ≡ parts_text_by by given parts
+  parts_under [] text is = is
+  parts_under (part ∷ parts) text is = is.4 ∙ (λ i. part_under part is.0 is.2 i ++ parts_under parts is.1 is.3 i)
 
 -- ---- devices in memory
 
@@ -175,7 +169,7 @@ module _ (options : RewriteOptions) (table : UrlTableSeen) (read written : List 
       }
 
   places_are : (summary : Summary) → options.anywhere ≡ true
-      → RewritesAnywhereBy (map_under true table) (parts_in (urls_of table)) most_text_bytes before after summary
+      → RewritesAnywhereUnder by_names (found_in table) (named_parts_in (urls_of table)) most_text_bytes before after summary
       → IsRewritten options table read written summary
   unfolding placed_by place_counts_by
   places_are summary anywhere is =
@@ -215,12 +209,16 @@ module _ (options : RewriteOptions) (table : UrlTableSeen) (read written : List 
         },
       )
 
+  -- what may be found under a URL
+  abbrev TableGives : (url : List ℕ) → Option MapRecord × Option FunctionNames → Type 0
+  TableGives = gives_by true (λ url stated. stated ≡ map_under true table url)
+      (λ url stated written. (stated ≡ map_under true table url) × (written ≡ names_under true table url))
+
   places_front : (fault : LineFault) → options.anywhere ≡ true
-      → RewritesAnywhereFront (λ url stated. stated ≡ map_under true table url) (places_asked table) before after fault
+      → RewritesAnywhereFrontOver by_names TableGives (places_asked table) before after fault
       → IsTooMuch read fault × HasFront options table read written
   unfolding placed_by
   places_front fault anywhere is =
-      let maps = map_under true table in
       let hide = only_ignored options.hide_ignored in
       let front = front_read is.bytes is.read in (
         too_much read before.input.left after.input.left at_first is.bytes is.read fault is.many.0,
@@ -230,16 +228,16 @@ module _ (options : RewriteOptions) (table : UrlTableSeen) (read written : List 
           later = is.later;
           is_front = front.1;
           made = cond-true options.anywhere (placed_by table is.bytes) (rewritten_named (named_by_url options.cut table) hide is.bytes) anywhere
-              ∙ sym (parts_by maps (λ url stated. stated ≡ map_under true table url) (λ url stated is. is)
-              (parts_in (urls_of table) is.bytes) (is.written ++ is.later) is.front)
+              ∙ sym (parts_under by_names (found_in table) TableGives (λ url one is. λ i. (is.0 i, is.1 i))
+              (named_parts_in (urls_of table) is.bytes) (is.written ++ is.later) is.front)
               ∙ ap (λ w. w ++ is.later) (sym (all_written is.written is.taken));
         },
       )
 
   -- so it ends
   pub places_end : (result : Result Summary LineFault) → options.anywhere ≡ true
-      → IfOk result (RewritesAnywhereBy (map_under true table) (parts_in (urls_of table)) most_text_bytes before after)
-      → IfErr result (RewritesAnywhereFront (λ url stated. stated ≡ map_under true table url) (places_asked table) before after)
+      → IfOk result (RewritesAnywhereUnder by_names (found_in table) (named_parts_in (urls_of table)) most_text_bytes before after)
+      → IfErr result (RewritesAnywhereFrontOver by_names TableGives (places_asked table) before after)
       → EndsRewriting options table read written result
   places_end (Ok summary) anywhere whole front = places_are summary anywhere whole
   places_end (Err fault) anywhere whole front = places_front fault anywhere front

@@ -13,7 +13,6 @@ pub mod Mappings
 pub mod Names
 pub mod Originals
 pub mod Piecewise
-pub mod PlaceMaps
 pub mod PlaceUrls
 pub mod Owned
 pub mod Private

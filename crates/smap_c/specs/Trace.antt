@@ -1,20 +1,24 @@
 -- What becomes of a text that is rewritten over a table, and what is said of it.
-use Rattle.std.specs.Prelude.{◌≡◌, ◌<◌, ◌⊎◌, ℕ, ◌&&◌, ◌++◌, Bool, List, [], false, true, filter, if◌then◌else◌, is_some, length, take}
+use Rattle.std.specs.Prelude.{◌≡◌, ◌<◌, ◌⊎◌, ℕ, ◌&&◌, ◌++◌, Bool, List, [], Option, false, true, filter, if◌then◌else◌, is_some, length, take}
 use Rattle.memchr.specs.Find.{is_byte, places}
 use Rattle.smap_locations.specs.ByText.{value_under}
 use Rattle.smap_codes.specs.declared.code.Code.{Code}
 use Rattle.smap_codes.specs.declared.code.Code.TheVariants.{Usage, X3, X5}
 use Rattle.smap_lines.specs.Limits.{most_text_bytes}
 use Rattle.smap_lines.specs.Lines.{lines_with_ends}
+use Rattle.smap_record.specs.Record.{MapRecord}
 use Rattle.smap_anywhere.specs.Anywhere.{PlacesAsked}
-use Rattle.smap_anywhere.specs.ChunkParts.{parts_in, unknown_in}
+use Rattle.smap_anywhere.specs.ChunkParts.{unknown_in}
 use Rattle.smap_anywhere.specs.MapUrls.{urls_known}
+use Rattle.smap_anywhere.specs.NamedParts.{by_names, named_parts_in}
 use Rattle.smap_anywhere.specs.SeemingUrls.{urls_seeming}
 use Rattle.smap_pairs.specs.Known.{UrlsKnown}
-use Rattle.smap_anywhere.specs.Replaced.{is_place, is_replaced, parts_text}
+use Rattle.smap_piecewise.specs.Known.{found_under}
+use Rattle.smap_anywhere.specs.Replaced.{is_place, is_replaced_by, parts_text_by}
 use Rattle.smap_io.specs.Sequences.{without_sequences}
-use Rattle.smap_store.specs.NamedOf.{counts_named, rewritten_named}
-use Rattle.smap_store.specs.UrlTable.{UrlTableSeen, locations_of, map_under, named_by_url}
+use Rattle.smap_store.specs.UrlTable.{UrlTableSeen, locations_of, named_by_url}
+use Rattle.smap_trace.specs.MapsOf.{counts_named, rewritten_named}
+use Rattle.smap_trace.specs.FunctionNames.{FunctionNames}
 use Rattle.smap_trace.specs.Hiding.{only_ignored}
 use Rattle.smap_trace.specs.Rewritten.{Counts}
 use Rattle.smap_c.specs.Codes.{code_number}
@@ -31,22 +35,26 @@ counts_seen counts = record { lines = counts.lines; frames = counts.frames; mapp
 abbrev pub urls_of : UrlTableSeen → UrlsKnown
 urls_of table = urls_known (record { table = table.exact; locations = locations_of table.patterns })
 
--- a text whose places have the maps of their URLs, with or without a query and a fragment
+-- what is found under a URL, with or without a query and a fragment: its map, and what names the functions of its program
+abbrev pub found_in : UrlTableSeen → (url : List ℕ) → Option MapRecord × Option FunctionNames
+found_in table = found_under (named_by_url true table)
+
+-- a text whose places have the maps of their URLs, and their frames the written names of functions
 unfoldable pub placed_by : UrlTableSeen → (text : List ℕ) → List ℕ
-placed_by table text = parts_text (map_under true table) (parts_in (urls_of table) text)
+placed_by table text = parts_text_by by_names (found_in table) (named_parts_in (urls_of table) text)
 
 unfoldable pub place_counts_by : UrlTableSeen → (text : List ℕ) → Counts
 place_counts_by table text = record {
   lines = length (lines_with_ends text);
-  frames = length (filter is_place (parts_in (urls_of table) text));
-  mapped = length (filter (is_replaced (map_under true table)) (parts_in (urls_of table) text));
+  frames = length (filter is_place (named_parts_in (urls_of table) text));
+  mapped = length (filter (is_replaced_by by_names (found_in table)) (named_parts_in (urls_of table) text));
   hidden = 0;
 }
 
 -- what is asked of its places
 abbrev pub places_asked : UrlTableSeen → PlacesAsked
 places_asked table = record {
-  parts = parts_in (urls_of table);
+  parts = named_parts_in (urls_of table);
   unknown = unknown_in (urls_of table) urls_seeming;
   most_bytes = most_text_bytes;
   is_noted = false;

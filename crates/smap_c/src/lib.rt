@@ -37,7 +37,6 @@ mod names;
 mod originals;
 mod paths;
 mod piecewise;
-mod place_maps;
 mod place_urls;
 mod read;
 mod reason;

@@ -189,8 +189,8 @@ pub extern "C" fn smap_names_share(
     }
 }
 
-/// Says for how many bytes of memory names of functions count, up to 18,446,744,073,709,551,615: 48 for each declaration, which
-/// is about what it takes. Their map counts for itself.
+/// Says for how many bytes of memory names of functions count, up to 18,446,744,073,709,551,615: 48 for each declaration,
+/// which is about what it takes. Their map counts for itself.
 #[unsafe(no_mangle)]
 pub extern "C" fn smap_names_size(names: &mut NamesHandle, size: &mut u64) -> u32
     requires { IsSome names.old.held }

@@ -4,7 +4,6 @@ ghost use Rattle.smap_c.specs.Trace.{text_read};
 ghost use Rattle.smap_c.specs.Private.Rewriting.{EndsRewriting};
 
 use crate::devices::{Input, Output};
-use crate::place_maps::PlaceMaps;
 use crate::trace::RewriteOptions;
 use smap_anywhere::{MapUrls, PlaceNotes, PlaceOptions, rewrite_anywhere};
 use smap_io::{ByteSource, WithoutSequences};
@@ -74,7 +73,7 @@ fn rewrite_places<R: ByteSource>(
     let Ok(urls) = MapUrls::new(alloc, table.exact(), table.locations()) else {
         return Err(RewriteFault::Memory);
     };
-    let mut maps = PlaceMaps { table };
+    let mut maps = UrlMaps { table, cut: true };
     let options = PlaceOptions {
         known: &urls,
         most_bytes: MOST_TEXT_BYTES,

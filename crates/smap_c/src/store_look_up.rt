@@ -169,8 +169,8 @@ fn shared(store: &mut StoreHandle, url: &[u8], now: u64) -> Option<Result<Shared
     }
 }
 
-/// Makes a handle of the names of functions that a store has with the map of a URL at a time, and of that map: nothing is copied, and
-/// the store may drop them before it is freed. Refused where it has none with it. Nothing is counted.
+/// Makes a handle of the names of functions that a store has with the map of a URL at a time, and of that map: nothing is
+/// copied, and the store may drop them before it is freed. Refused where it has none with it. Nothing is counted.
 #[unsafe(no_mangle)]
 pub extern "C" fn smap_store_names(
     alloc: Global,

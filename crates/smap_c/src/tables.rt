@@ -92,9 +92,9 @@ pub extern "C" fn smap_table_add_shared(
     }
 }
 
-/// Puts names of functions beside the map that a table has under this very URL or pattern: frames whose URLs have that map then
-/// get the written names. They are to be those of this map. The table holds them with their handle, which stays as it is.
-/// Refused where the table has no map there, or names beside it.
+/// Puts names of functions beside the map that a table has under this very URL or pattern: frames whose URLs have that map
+/// then get the written names. They are to be those of this map. The table holds them with their handle, which stays as it
+/// is. Refused where the table has no map there, or names beside it.
 #[unsafe(no_mangle)]
 pub extern "C" fn smap_table_add_names(
     alloc: Global,

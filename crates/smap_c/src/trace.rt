@@ -3,9 +3,9 @@ ghost use Rattle.std.specs.Prelude.{◌≡◌, ◌≢◌, ◌<◌, ◌≤◌, �
 ghost use Rattle.smap_codes.specs.declared.code.Code.TheVariants.{X3};
 ghost use Rattle.smap_lines.specs.Limits.{most_text_bytes};
 ghost use Rattle.smap_lines.specs.declared.fault.LineFault.TheVariants.{TooMuch};
-ghost use Rattle.smap_store.specs.NamedOf.{counts_named, rewritten_named};
 ghost use Rattle.smap_store.specs.UrlTable.{named_by_url};
 ghost use Rattle.smap_trace.specs.Hiding.{only_ignored};
+ghost use Rattle.smap_trace.specs.MapsOf.{counts_named, rewritten_named};
 ghost use Rattle.smap_trace.specs.Rewriting.{counts_seen as summary_seen};
 ghost use Rattle.smap_c.specs.Trace.{IsRefusedFor, counts_seen, counts_with, frames_alone, has_map_of_all, is_for_all, line_ends};
 ghost use Rattle.smap_c.specs.Trace.{most_output_bytes, place_counts_by, placed_by, places_alone, rewrite_refused, text_read, text_with};
@@ -64,10 +64,10 @@ pub struct RewriteOptions {
 }
 
 /// Rewrites a trace: a frame whose URL has a map in the table and whose place has an original gets it in its place, and
-/// every other byte stays, save the name of its function, where the names of the map's program give the one that was written. With
-/// `hide_ignored` the lines of frames whose original is in an ignored source are dropped. A
-/// trace of more than 1,073,741,824 bytes is refused, and one of which more would come out. `bytes` and `counts` are
-/// written where the trace was rewritten.
+/// every other byte stays, save the name of its function, where the names of the map's program give the one that was
+/// written. With `hide_ignored` the lines of frames whose original is in an ignored source are dropped. A trace of more than
+/// 1,073,741,824 bytes is refused, and one of which more would come out. `bytes` and `counts` are written where the trace
+/// was rewritten.
 #[unsafe(no_mangle)]
 pub extern "C" fn smap_rewrite(
     alloc: Global,
@@ -103,9 +103,9 @@ pub extern "C" fn smap_rewrite(
 }
 
 /// Rewrites a text: a place `URL:line:column`, wherever it stands in a line, whose URL has a map in the table and which has
-/// an original gets it in its stead, and every other byte stays. A text of more than 1,073,741,824 bytes is refused, one of
-/// which more would come out, and any where the table has a map under `*` alone. `bytes` and `counts`, which has places in
-/// place of frames, are written where the text was rewritten.
+/// an original gets it in its stead, and every other byte stays, save the name of the function of its frame, as in a trace.
+/// A text of more than 1,073,741,824 bytes is refused, one of which more would come out, and any where the table has a map
+/// under `*` alone. `bytes` and `counts`, which has places in place of frames, are written where the text was rewritten.
 #[unsafe(no_mangle)]
 pub extern "C" fn smap_rewrite_anywhere(
     alloc: Global,

@@ -1,25 +1,26 @@
 -- Behind an edge a character of JSON begins.
-use Rattle.std.proofs.Common.{◌≡◌, ◌++◌, ◌-◌, ◌≤◌, ℕ, zero, suc, Bool, true, false, List, [], ◌∷◌, map, take, drop, max, ap, refl, sym, ◌∙◌, arith, Option, Some, None, leb, slice_get, subst, IfSome}
+use Rattle.std.proofs.Common.{◌≡◌, ◌++◌, ◌-◌, ◌≤◌, ℕ, inl, inr, zero, suc, Bool, true, false, List, [], ◌∷◌, map, take, drop, max, ap, refl, ◌∙◌, arith, Option, Some, None, leb, slice_get, subst, IfSome}
 use Rattle.std.specs.Prelude.{if◌then◌else◌, not, slice_index, ◌==◌, ◌&&◌, ◌||◌}
 use Rattle.std.specs.Char.{is_ascii_alphanumeric, is_ascii_hexdigit}
 use Rattle.std.specs.Int.{is_in_range}
 use Rattle.std.specs.List.{prefix_len}
-use Rattle.std.proofs.Math.Bool.{or-false, or-true}
+use Rattle.std.proofs.Math.Bool.{or-true}
 use Rattle.std.proofs.Math.Seq.{take-add}
-use Rattle.std.proofs.lemmas.Bool.{and_parts, eqb-true, le-leb, leb-true, or_parts}
+use Rattle.std.proofs.lemmas.Bool.{and_parts, eqb-true, le-leb, leb-true, or_cases, or_parts}
 use Rattle.std.proofs.lemmas.Bool.Decides.{nat_tests}
 use Rattle.smap_pairs.specs.Bytes.{is_edge_byte, is_letter_or_digit, is_url_sign}
 use Rattle.smap_pairs.specs.Colours.{colour_behind}
 use Rattle.smap_pairs.specs.Escapes.{escape_of, is_backslash}
 use Rattle.smap_pairs.specs.Json.{InString, past, past_all}
 use Rattle.smap_pairs.specs.Json.InString.{between}
+use Rattle.smap_pairs.specs.Marks.{is_quotation_mark}
 use Rattle.smap_pairs.specs.Seen.{by_itself, bytes_of, coloured, counted, counted_from, begins_drive, begins_file, begins_letter, ends_sign, ends_with_drive, ends_with_file, escape_or_colour, first_byte, is_apostrophe, is_before_path, is_before_root, is_continuation, seen_of, settled, settled_from, token_by, token_bytes, token_of, token_size, within}
 use Rattle.smap_pairs.specs.declared.escapes.Escape.{Escape}
 use Rattle.smap_pairs.specs.declared.seen.SeenByte.{SeenByte}
 use Rattle.smap_pairs.specs.declared.token.Token.{Token}
 use Rattle.smap_pairs.specs.declared.token.Token.TheVariants.{Bytes, Colour, Escaped}
 use Rattle.smap_pairs.proofs.EscapeStates.{colour_passed, escape_passed}
-use Rattle.smap_pairs.proofs.JsonLaws.{past_both, past_colon, past_plain}
+use Rattle.smap_pairs.proofs.JsonLaws.{past_apostrophe, past_both, past_colon, past_plain, past_quotation_mark}
 use Rattle.smap_pairs.proofs.SeenBytesLaws.{bytes_kept, bytes_seen, settled_byte}
 use Rattle.smap_pairs.proofs.TokenLaws.{AreInner, Fits, IsClear, token_fits}
 
@@ -98,9 +99,9 @@ token_is text = token_by_is text (escape_of text) refl
 
 -- ---- edges
 
--- behind each edge, and each escape and colour, a character begins
+-- behind each edge, each escape and colour, and each quotation mark, a character begins
 abbrev pub may_be_edge : SeenByte → Bool
-may_be_edge one = one.is_edge || not (one.size == 0)
+may_be_edge one = one.is_edge || (not (one.size == 0) || is_quotation_mark one.counts)
 
 abbrev pub Edges : InString → List SeenByte → Type 0
 Edges state [] = Unit {0}
@@ -111,10 +112,21 @@ edges_both : (state : InString) (first second : List SeenByte) → Edges state f
 edges_both state [] second one more = more
 edges_both state (seen ∷ first) second one more = (one.0, edges_both (past state seen.byte) first second one.1 more)
 
+past_quote : (state : InString) (byte : ℕ) → is_quotation_mark byte ≡ true → past state byte ≡ between
+past_quote state byte is = elim (or_cases (byte == 34) (byte == 39) is) [
+  | inl quote ↦ ap (past state) (eqb-true byte 34 quote) ∙ past_quotation_mark state
+  | inr quote ↦ ap (past state) (eqb-true byte 39 quote) ∙ past_apostrophe state
+]
+
 plain_edges : (state : InString) (bytes : List ℕ) → Edges state (map by_itself bytes)
 plain_edges state [] = tt
-plain_edges state (byte ∷ bytes) =
-    ((λ edge. past_edge state byte (sym (or-false (is_edge_byte byte)) ∙ edge)), plain_edges (past state byte) bytes)
+plain_edges state (byte ∷ bytes) = (
+  λ edge. elim (or_cases (is_edge_byte byte) (is_quotation_mark byte) edge) [
+    | inl is ↦ past_edge state byte is
+    | inr is ↦ past_quote state byte is
+  ],
+  plain_edges (past state byte) bytes,
+)
 
 inner_edges : (state : InString) (many : ℕ) (text : List ℕ) (last : SeenByte) → AreInner (suc many) text → last.byte ≡ slice_index text many
     → past_all state (take (suc many) text) ≡ between → Edges state (map within (take many text) ++ last ∷ [])
@@ -160,7 +172,7 @@ past_sign state before one passes = go (one.size == 0) refl
         → (if alone then is_continuation one.byte && not (begins_letter (first_byte before)) else one.counts == 226) ≡ true
         → past state one.byte ≡ between
     go true alone sign = past_continuation state one.byte (and_parts (is_continuation one.byte) _ sign).0
-    go false alone sign = passes (ap (λ b. one.is_edge || not b) alone ∙ or-true one.is_edge)
+    go false alone sign = passes (ap (λ b. one.is_edge || (not b || is_quotation_mark one.counts)) alone ∙ or-true one.is_edge)
 
 settled_edge : (state : InString) (before : List SeenByte) (one : SeenByte) (text : List ℕ) → (may_be_edge one ≡ true → past state one.byte ≡ between)
     → may_be_edge (settled before one text) ≡ true → past state one.byte ≡ between
@@ -172,7 +184,10 @@ settled_edge state before one text is = go (is_before_path one text) (is_apostro
         else if word then record one { counts = 226; is_edge = false } else if root then record one { is_edge = true } else one) ≡ true
         → past state one.byte ≡ between
     go true word root path sign edge = ap (past state) (eqb-true one.byte 58 (and_parts (one.byte == 58) _ path).0) ∙ past_colon state
-    go false true root path sign edge = is (ap (λ b. one.is_edge || b) edge ∙ or-true one.is_edge)
+    go false true root path sign edge = elim (or_cases (not (one.size == 0)) false edge) [
+      | inl sized ↦ is (ap (λ b. one.is_edge || (b || is_quotation_mark one.counts)) sized ∙ or-true one.is_edge)
+      | inr none ↦ cc
+    ]
     go false false true path sign edge =
         past_sign state before one is (and_parts (begins_drive text || begins_file text) (ends_sign before one) sign).1
     go false false false path sign edge = is edge
@@ -188,13 +203,16 @@ settled_edges state before text (one ∷ seen) edges =
 edge_at : (state : InString) (at : ℕ) (seen : List SeenByte) → Edges state seen
     → IfSome (slice_get seen at) (λ one. one.is_edge ≡ true → past_all state (take (suc at) (bytes_seen seen)) ≡ between)
 edge_at state at [] edges = tt
-edge_at state zero (one ∷ seen) edges = λ edge. edges.0 (ap (λ b. b || not (one.size == 0)) edge)
+edge_at state zero (one ∷ seen) edges = λ edge. edges.0 (ap (λ b. b || (not (one.size == 0) || is_quotation_mark one.counts)) edge)
 edge_at state (suc at) (one ∷ seen) edges = edge_at (past state one.byte) at seen edges.1
+
+pub line_edges : (state : InString) (line : List ℕ) → Edges state (seen_of line)
+unfolding seen_of
+line_edges state line = settled_edges state [] line (counted_from 0 line) (all_edges state 0 line)
 
 -- behind each edge of a line
 pub edge_passed : (state : InString) (line : List ℕ) (at : ℕ)
     → IfSome (slice_get (seen_of line) at) (λ one. one.is_edge ≡ true → past_all state (take (suc at) line) ≡ between)
-unfolding seen_of
 edge_passed state line at =
     subst (λ text. IfSome (slice_get (seen_of line) at) (λ one. one.is_edge ≡ true → past_all state (take (suc at) text) ≡ between)) (bytes_kept line)
-    (edge_at state at (seen_of line) (settled_edges state [] line (counted_from 0 line) (all_edges state 0 line)))
+    (edge_at state at (seen_of line) (line_edges state line))

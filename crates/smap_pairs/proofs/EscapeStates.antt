@@ -1,20 +1,15 @@
 -- Behind an escape or a colour a character of JSON begins, wherever its first byte stands.
 use Rattle.std.proofs.Common.{◌≡◌, ◌+◌, ◌-◌, ◌*◌, ◌<◌, ◌≤◌, ◌⊎◌, ℕ, zero, suc, Bool, true, false, List, [], ◌∷◌, length, take, ap, refl, sym, ◌∙◌, inl, inr, arith, Option, Some, None, leb}
-use Rattle.std.specs.Prelude.{if◌then◌else◌, slice_index, ◌==◌, ◌&&◌}
-use Rattle.std.specs.Int.{is_in_range}
+use Rattle.std.specs.Prelude.{if◌then◌else◌, ◌==◌}
 use Rattle.std.specs.Char.{digit_value, is_ascii_hexdigit}
-use Rattle.std.proofs.lemmas.Bool.{and_parts, eqb-true, leb-true}
+use Rattle.std.proofs.lemmas.Bool.{eqb-true, leb-true}
 use Rattle.smap_pairs.specs.Json.{InString, past, past_all}
 use Rattle.smap_pairs.specs.Json.InString.{before_digits, behind_backslash, between}
 use Rattle.smap_pairs.specs.declared.escapes.Escape.{Escape}
 use Rattle.smap_pairs.specs.Colours.{colour_behind, colour_from, is_parameter}
 use Rattle.smap_pairs.specs.Escapes.{ended_by, ending_of, escape_from, escape_of, found, hexadecimal, is_backslash, meant_by, number_of, octal, of_size, read_on}
 use Rattle.smap_pairs.proofs.JsonLaws.{IsOutside, outside_backslash, past_m, past_sharp}
-
-pub either : {A : Type 0} → (b : Bool) (x y : Option A) (e : A) → (if b then x else y) ≡ Some e
-    → ((b ≡ true) × (x ≡ Some e)) ⊎ ((b ≡ false) × (y ≡ Some e))
-either true x y e is = inl (refl, is)
-either false x y e is = inr (refl, is)
+use Rattle.smap_pairs.proofs.TokenLaws.{either, octal_is, size_of}
 
 -- ---- digits
 
@@ -65,10 +60,6 @@ digits_awaited (suc many) (byte ∷ text) are =
     ap (λ b. past_all (if b then before_digits many else past between byte) (take (suc many) text)) are.0 ∙ digits_awaited many text are.1
 
 -- ---- endings
-
-pub size_of : (size : ℕ) (means : Option ℕ) (e : Escape) → of_size size means ≡ Some e → (e.size ≡ size) × ((m : ℕ) × (means ≡ Some m))
-size_of size None e is = cc
-size_of size (Some m) e is = (cc, (m, refl))
 
 -- a letter or a quotation mark that means something is no backslash and no `u`
 meant_other : (byte m : ℕ) → meant_by byte ≡ Some m → ((byte == 92) ≡ false) × ((byte == 117) ≡ false)
@@ -183,21 +174,6 @@ run_ends state text e is =
     elim (escape_ends (past state 92) 1 0 None text e (outside_backslash state) is) [
       | inl none ↦ cc
       | inr (n, size_is, ends) ↦ let same : e.size ≡ suc n = omega arith in rw same ends
-    ]
-
--- three octal digits behind a `#`
-pub octal_is : (text : List ℕ) (m : ℕ) → octal text ≡ Some m
-    → (slice_index text 1 ≡ 48) × (48 ≤ slice_index text 2) × (slice_index text 2 ≤ 51) × (48 ≤ slice_index text 3) × (slice_index text 3 ≤ 55)
-octal_is text m is =
-    elim (either (slice_index text 1 == 48 && is_in_range 48 51 (slice_index text 2) && is_in_range 48 55 (slice_index text 3))
-    (Some (8 * (slice_index text 2 - 48) + (slice_index text 3 - 48))) None m is) [
-      | inr (other, none) ↦ cc
-      | inl (all, some) ↦
-          let outer = and_parts (slice_index text 1 == 48 && is_in_range 48 51 (slice_index text 2)) (is_in_range 48 55 (slice_index text 3)) all in
-          let inner = and_parts (slice_index text 1 == 48) (is_in_range 48 51 (slice_index text 2)) outer.0 in
-          let high = and_parts (leb 48 (slice_index text 2)) (leb (slice_index text 2) 51) inner.1 in
-          let low = and_parts (leb 48 (slice_index text 3)) (leb (slice_index text 3) 55) outer.1 in
-          (eqb-true _ 48 inner.0, leb-true _ _ high.0, leb-true _ _ high.1, leb-true _ _ low.0, leb-true _ _ low.1)
     ]
 
 low_passed : (byte : ℕ) → byte < 92 → past between byte ≡ between

@@ -2,6 +2,7 @@
 use Rattle.std.proofs.Common.{◌≡◌, ℕ, zero, suc, ◌+◌, ◌-◌, ◌<◌, ◌≤◌, Bool, true, false, ◌++◌, ◌*◌, List, [], ◌∷◌, Option, Some, None, drop, length, get_or, refl, ap, sym, ◌∙◌, arith, eq-eqb, ne_eqb, le-leb, ◌≤◌, if◌then◌else◌}
 use Rattle.std.specs.Prelude.{option_map}
 use Rattle.std.specs.Char.{digit_value, is_ascii_hexdigit}
+use Rattle.smap_pairs.specs.Laws.Chunks.{behind_first}
 use Rattle.smap_pairs.specs.Escapes.{ending_of, escape_from, is_backslash, found, ended_by, hexadecimal, number_of, read_on}
 use Rattle.smap_pairs.specs.declared.escapes.Escape.{Escape}
 
@@ -42,10 +43,6 @@ ended size byte before text ending is_other is means_other =
 one_less : (size n : ℕ) → 0 < n → size + 1 + (n - 1) ≡ size + n
 one_less size n some = omega arith
 
-dropped : (n byte : ℕ) → (text : List ℕ) → 0 < n → drop (n - 1) text ≡ drop n (byte ∷ text)
-dropped zero byte text some = absurd (omega arith)
-dropped (suc n) byte text some = ap (λ k. drop k text) (omega arith)
-
 -- an escape of a backslash goes on
 pub goes_on : (size byte : ℕ) → (before : Option Escape) → (text : List ℕ) → (ending : Escape)
     → is_backslash byte ≡ false → ending_of (byte ∷ text) ≡ Some ending → is_backslash ending.means ≡ true → 0 < ending.size
@@ -57,7 +54,7 @@ goes_on size byte before text ending is_other is means_backslash some =
     ∙ ap (λ goes_on. found goes_on (λ before. escape_from (size + 1) (ending.size - 1) before text) (longer size ending)) means_backslash
     ∙ skipped (ending.size - 1) (size + 1) (Some (longer size ending)) text
     ∙ ap (λ n. escape_from n 0 (Some (longer size ending)) (drop (ending.size - 1) text)) (one_less size ending.size some)
-    ∙ ap (escape_from (size + ending.size) 0 (Some (longer size ending))) (dropped ending.size byte text some)
+    ∙ ap (escape_from (size + ending.size) 0 (Some (longer size ending))) (behind_first ending.size byte text some)
 
 -- ---- the same, of a text that begins with a byte
 

@@ -33,7 +33,7 @@ found_at start (one ∷ pairs) pair found = go (one.start == start) refl found (
     go true is here later = (let equal : one ≡ pair = cc in ap (λ (p : Pair). p.start) (sym equal) ∙ eqb-true one.start start is)
     go false is here later = later here
 
-some_of_two : {X : Type 0} (P : X → Type 0) (one other : Bool) (x y : X) → P x → P y → IfSome (cond one (Some x) (cond other (Some y) None)) P
+pub some_of_two : {X : Type 0} (P : X → Type 0) (one other : Bool) (x y : X) → P x → P y → IfSome (cond one (Some x) (cond other (Some y) None)) P
 some_of_two P true other x y first second = first
 some_of_two P false true x y first second = second
 some_of_two P false false x y first second = tt

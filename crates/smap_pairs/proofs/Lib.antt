@@ -47,6 +47,7 @@ mod JsonExamples
 mod EscapeStates
 pub mod LineEndStates
 mod EdgeStates
+mod LineStates
 mod OpenStates
 pub mod NamedPlaces
 mod QuoteStates

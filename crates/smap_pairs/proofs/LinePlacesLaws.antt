@@ -16,12 +16,7 @@ use Rattle.smap_pairs.specs.declared.seen.SeenByte.{SeenByte}
 use Rattle.smap_pairs.specs.declared.virtual_lines.VirtualLine.{VirtualLine}
 use Rattle.smap_pairs.proofs.CoverLaws.{marks_in_line, strings_in_line}
 use Rattle.smap_pairs.proofs.SeenBytesLaws.{length_kept}
-use Rattle.smap_pairs.proofs.VirtualLineLaws.{later_line}
-
-apart_within : (from size : ℕ) (marks : List Mark) → AreApart from size marks → from ≤ size
-apart_within from size [] apart = apart
-apart_within from size (mark ∷ marks) apart =
-    let rest : mark.end ≤ size = apart_within mark.end size marks apart.2 in omega (arith, apart.0, apart.1, rest)
+use Rattle.smap_pairs.proofs.VirtualLineLaws.{apart_within, later_line}
 
 lines_within : (size begin unit : ℕ) (marks : List Mark) → AreApart begin size marks → All (IsLineWithin size) (lines_between size begin unit marks)
 lines_within size begin unit [] apart = All-cons (IsLineWithin size) _ [] (apart, omega arith) (All-nil (IsLineWithin size))

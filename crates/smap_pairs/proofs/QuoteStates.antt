@@ -10,10 +10,10 @@ use Rattle.smap_pairs.specs.declared.escapes.Escape.{Escape}
 use Rattle.smap_pairs.specs.declared.seen.SeenByte.{SeenByte}
 use Rattle.smap_pairs.specs.declared.token.Token.{Token}
 use Rattle.smap_pairs.specs.declared.token.Token.TheVariants.{Bytes, Colour, Escaped}
-use Rattle.smap_pairs.proofs.EscapeStates.{AreDigits, either, number_digits, octal_is, size_of}
+use Rattle.smap_pairs.proofs.EscapeStates.{AreDigits, number_digits}
 use Rattle.smap_pairs.proofs.OpenStates.{settled_size}
 use Rattle.smap_pairs.proofs.SeenBytesLaws.{settled_byte}
-use Rattle.smap_pairs.proofs.TokenLaws.{AreInner, Fits, IsClear, token_fits}
+use Rattle.smap_pairs.proofs.TokenLaws.{AreInner, Fits, IsClear, either, octal_is, size_of, token_fits}
 
 -- ---- escapes
 

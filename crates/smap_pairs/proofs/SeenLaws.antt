@@ -4,6 +4,7 @@ use Rattle.std.specs.List.{prefix_len}
 use Rattle.std.proofs.Math.Bool.{and-false}
 use Rattle.std.proofs.lemmas.Bool.{or_parts}
 use Rattle.std.proofs.lemmas.List.{append-nil, append_assoc, drop-drop, drop_all, drop_at, drop_min, drop_more, get_or_at, length-reverse, length-take-le, map-append, nil_from_length, reverse-append, set_at, take-append-drop, take_all, take_at, take_more}
+use Rattle.smap_pairs.specs.Laws.Chunks.{behind_first}
 use Rattle.smap_pairs.specs.Escapes.{escape_from, escape_of, is_backslash, octal, of_size}
 use Rattle.smap_pairs.specs.Seen.{by_itself, bytes_of, counted_from, escape_or_colour, is_by_itself, settled, settled_from, token_by, token_bytes, token_of, token_size, begins_drive, begins_file, begins_letter, begins_path, ends_sign, ends_with_drive, ends_with_file, first_byte, is_apostrophe, is_before_root, is_continuation, is_in_word}
 use Rattle.smap_pairs.specs.declared.seen.SeenByte.{SeenByte}
@@ -36,10 +37,6 @@ passed zero text = refl
 passed (suc skip) [] = refl
 passed (suc skip) (byte ∷ text) = passed skip text
 
-dropped : (n byte : ℕ) → (text : List ℕ) → 0 < n → drop (n - 1) text ≡ drop n (byte ∷ text)
-dropped zero byte text some = absurd (omega arith)
-dropped (suc n) byte text some = ap (λ k. drop k text) (omega arith)
-
 begun : (byte : ℕ) (behind : List ℕ) → 0 < token_size (token_of (byte ∷ behind))
     → counted_from 0 (byte ∷ behind)
     ≡ token_bytes (token_of (byte ∷ behind)) (byte ∷ behind) ++ counted_from 0 (drop (token_size (token_of (byte ∷ behind))) (byte ∷ behind))
@@ -47,7 +44,7 @@ unfolding counted_from
 begun byte behind some =
     let token = token_of (byte ∷ behind) in
     ap (λ l. token_bytes token (byte ∷ behind) ++ l)
-    (passed (token_size token - 1) behind ∙ ap (counted_from 0) (dropped (token_size token) byte behind some))
+    (passed (token_size token - 1) behind ∙ ap (counted_from 0) (behind_first (token_size token) byte behind some))
 
 by_itself_on : (is_slash is_sharp is_esc : Bool) (byte : ℕ) (behind : List ℕ) → not (is_slash || is_sharp || is_esc) ≡ true
     → is_backslash byte ≡ is_slash → nat_eq byte 35 ≡ is_sharp → nat_eq byte 27 ≡ is_esc → token_of (byte ∷ behind) ≡ Bytes 1

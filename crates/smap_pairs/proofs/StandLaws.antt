@@ -1,7 +1,7 @@
 -- The bytes that were seen are those of the line.
-use Rattle.std.proofs.Common.{◌≡◌, ℕ, ◌+◌, ◌-◌, ◌<◌, ◌≤◌, ◌||◌, Bool, true, false, not, cond, List, [], ◌∷◌, ◌++◌, ap, append_assoc, arith, drop, get_or, length, map, refl, sym, take, ◌∙◌}
+use Rattle.std.proofs.Common.{◌≡◌, ℕ, ◌+◌, ◌-◌, ◌<◌, ◌≤◌, Bool, true, List, [], ◌∷◌, ◌++◌, ap, append_assoc, arith, drop, get_or, length, map, refl, sym, take, ◌∙◌}
 use Rattle.std.proofs.lemmas.List.{map-append, take-append-drop, take_more}
-use Rattle.smap_pairs.specs.Seen.{by_itself, counted, is_apostrophe, is_before_path, is_before_root, ends_with_drive, ends_with_file, settled, settled_from, token_bytes, token_size, within}
+use Rattle.smap_pairs.specs.Seen.{by_itself, counted, token_bytes, token_size, within}
 use Rattle.smap_pairs.specs.Signs.{text_of}
 use Rattle.smap_pairs.specs.declared.seen.SeenByte.{SeenByte}
 use Rattle.smap_pairs.specs.declared.token.Token.{Token}
@@ -46,23 +46,3 @@ run_line items now rest run behind n is run_is behind_is =
     ap (λ l. text_of l ++ behind) is
     ∙ ap (λ l. l ++ behind) (map-append (λ seen. seen.byte) items (map by_itself run) ∙ ap (λ l. text_of items ++ l) (by_themselves run))
     ∙ append_assoc (text_of items) run behind ∙ (λ i. text_of items ++ (run_is i ++ behind_is i)) ∙ ap (λ l. text_of items ++ l) (take-append-drop n rest)
-
--- ---- where they are settled
-
-byte_settled : (before : List SeenByte) (one : SeenByte) (text : List ℕ) → (settled before one text).byte ≡ one.byte
-unfolding settled
-byte_settled before one text = go (is_before_path one text) (is_apostrophe before one text) (is_before_root before one text)
-  where
-    go : (path apostrophe root : Bool) → (cond path (record one { is_edge = not (ends_with_drive before || ends_with_file before) })
-        (cond apostrophe (record one { counts = 226; is_edge = false }) (cond root (record one { is_edge = true }) one))).byte ≡ one.byte
-    go true apostrophe root = refl
-    go false true root = refl
-    go false false true = refl
-    go false false false = refl
-
-pub settled_stands : (before : List SeenByte) (text : List ℕ) (seen : List SeenByte) → text_of (settled_from before text seen) ≡ text_of seen
-unfolding settled_from
-settled_stands before text [] = refl
-settled_stands before text (one ∷ seen) =
-    ap (λ b. b ∷ text_of (settled_from (one ∷ before) (drop 1 text) seen)) (byte_settled before one (drop 1 text))
-    ∙ ap (λ l. one.byte ∷ l) (settled_stands (one ∷ before) (drop 1 text) seen)

@@ -17,7 +17,7 @@ use Rattle.smap_pairs.specs.Marks.{ends_mark, is_quotation_mark}
 use Rattle.smap_pairs.specs.Named.{may_begin_name}
 use Rattle.smap_pairs.specs.Pairs.{AreInOrder, IsPairOf, pairs_of}
 use Rattle.smap_pairs.specs.Seen.{seen_of}
-use Rattle.smap_pairs.specs.StringPlaces.{AreForStrings, BeginsAnew, IsBehindSign, IsWithoutQuotationMark, StandsBetween, begins_frame_url}
+use Rattle.smap_pairs.specs.StringPlaces.{AreForStrings, BeginsAnew, HasFrame, IsBehindSign, IsWithoutQuotationMark, StandsBetween, StandsInFrame, begins_frame_url}
 use Rattle.smap_pairs.specs.VirtualLines.{lines_of_strings, virtual_lines}
 use Rattle.smap_pairs.specs.Word.{word_begin}
 use Rattle.smap_pairs.specs.declared.known.NamedBy.TheVariants.{Argument}
@@ -28,8 +28,9 @@ use Rattle.smap_pairs.specs.declared.virtual_lines.VirtualLine.{VirtualLine}
 use Rattle.smap_pairs.specs.Laws.PairBytes.{byte_of_pair, pair_colon}
 use Rattle.smap_pairs.specs.Laws.Pairs.{are_in_order}
 use Rattle.smap_pairs.specs.Laws.PairsWhole.{each_is_one}
-use Rattle.smap_pairs.proofs.FramePlaceLaws.{found_at}
+use Rattle.smap_pairs.proofs.FramePlaceLaws.{found_at, some_of_two}
 use Rattle.smap_pairs.proofs.JsonLaws.{past_byte, past_both, past_colon}
+use Rattle.smap_pairs.proofs.LineStates.{StartsBetween, lines_between_characters, strings_between_characters}
 use Rattle.smap_pairs.proofs.NamedPlaces.{IsFree, byte_passed, bytes_at, free_both, free_slice, longest_is, name_begins, own_is}
 use Rattle.smap_pairs.proofs.NoMarkLaws.{no_mark_in, no_quotation_in}
 use Rattle.smap_pairs.proofs.OpenStates.{MayBegin, begins_between}
@@ -102,6 +103,7 @@ module _ (line : List ℕ) (pair : Pair) (stands : StandsIn line pair) where
 pub record IsInString (known : UrlsKnown) (line : List ℕ) (pair : Pair) (span : Span) : Type 0 where
   pub end : span.end ≡ pair.end
   pub begin : BeginsBefore line pair.end span.start
+  pub frame : (span.frame_start ≡ span.start) ⊎ ((state : InString) → StandsInFrame known state line span)
   pub free : ((known.frame_url line ≡ Some (span.start, span.url_end)) × (span.url_end ≡ pair.start)) ⊎ IsFree line span.start pair.start
 
 module _ (known : UrlsKnown) (strings : AreForStrings known) (line : List ℕ) (pair : Pair) (stands : StandsIn line pair) where
@@ -119,6 +121,7 @@ module _ (known : UrlsKnown) (strings : AreForStrings known) (line : List ℕ) (
           record {
             end = refl;
             begin = λ state begins any stands. name_begins state line (pair.start - bytes) any (ap (λ n. may_begin_name seen (pair.start - n)) is ∙ name.0);
+            frame = inl refl;
             free = inr (subst (λ n. IsFree line (pair.start - n) pair.start) (sym is) name.1);
           }
 
@@ -143,6 +146,7 @@ module _ (known : UrlsKnown) (strings : AreForStrings known) (line : List ℕ) (
             end = refl;
             begin = λ state begins any may.
                 placed.0 state begins any (stands_less (past_all state (take begin line)) (pair.start - begin) (pair.end - begin) (drop begin line) (omega (arith, stands.some)) may);
+            frame = inl refl;
             free = inr placed.1;
           }
       go false off = query_place (cut_before known line seen pair) _ refl
@@ -159,7 +163,12 @@ module _ (known : UrlsKnown) (strings : AreForStrings known) (line : List ℕ) (
       go true none = pattern_url virtual_start
       go false none =
           let name = own_is known strings line pair.piece pair.start (positive bytes none) in
-          record { end = refl; begin = λ state begins any may. name_begins state line (pair.start - bytes) any name.0; free = inr name.1 }
+          record {
+            end = refl;
+            begin = λ state begins any may. name_begins state line (pair.start - bytes) any name.0;
+            frame = inl refl;
+            free = inr name.1;
+          }
 
 -- ---- a frame
 
@@ -197,6 +206,7 @@ sign_passed state line last is =
 -- the place of the frame that a part of a line is
 pub record IsFramePlace (known : UrlsKnown) (line : List ℕ) (virtual : VirtualLine) (span : Span) : Type 0 where
   pub passes : (state : InString) → past_all state (take span.start line) ≡ between
+  pub frame : span.frame_start ≡ virtual.start
   pub start : virtual.start ≤ span.start
   pub end : span.url_end ≤ virtual.end
   pub url : (begin : ℕ) × (close : ℕ) × (known.frame_url (slice_range line virtual.start virtual.end) ≡ Some (begin, close))
@@ -204,11 +214,6 @@ pub record IsFramePlace (known : UrlsKnown) (line : List ℕ) (virtual : Virtual
   pub pair : Pair
   pub found : at span.url_end (pairs_of line) ≡ Some pair
   pub pair_end : span.end ≡ pair.end
-
-some_of_two : {X : Type 0} (P : X → Type 0) (one other : Bool) (x y : X) → P x → P y → IfSome (cond one (Some x) (cond other (Some y) None)) P
-some_of_two P true other x y first second = first
-some_of_two P false true x y first second = second
-some_of_two P false false x y first second = tt
 
 module _ (known : UrlsKnown) (strings : AreForStrings known) (line : List ℕ) where
   frame_place : (virtual : VirtualLine) → IfSome (frame_in known line (seen_of line) (pairs_of line) (Some virtual)) (IsFramePlace known line virtual)
@@ -248,6 +253,7 @@ module _ (known : UrlsKnown) (strings : AreForStrings known) (line : List ℕ) w
           let least : 0 < close = omega (arith, behind.0, behind.2) in
           let place : (halved : Bool) → IsFramePlace known line virtual (in_frame virtual.start (span_of pair (virtual.start + begin) pair.start halved)) = λ halved. record {
             passes = passes;
+            frame = refl;
             start = omega arith;
             end = omega (arith, same, most, least);
             url = (begin, close, is, refl, same);
@@ -304,15 +310,26 @@ strings_free line =
 
 module _ (known : UrlsKnown) (strings : AreForStrings known) (line : List ℕ) (pair : Pair) (stands : StandsIn line pair) where
   -- a frame that is the pair's
-  of_frame : (virtual : VirtualLine) (span : Span) (other : Option Span) → IsFramePlace known line virtual span
+  of_frame : (virtual : VirtualLine) (span : Span) (other : Option Span) → StartsBetween line virtual → IsFramePlace known line virtual span
       → ((known.frame_url line ≡ Some (span.start, span.url_end)) ⊎ IsFree line span.start span.url_end) → IfSome other (IsInString known line pair)
       → IfSome (or_else (Some span) pair other) (IsInString known line pair)
-  of_frame virtual span other frame free rest = go (span.url_end == pair.start) refl
+  of_frame virtual span other starts frame free rest = go (span.url_end == pair.start) refl
     where
       free_to : span.url_end ≡ pair.start → (known.frame_url line ≡ Some (span.start, span.url_end)) ⊎ IsFree line span.start span.url_end
           → ((known.frame_url line ≡ Some (span.start, span.url_end)) × (span.url_end ≡ pair.start)) ⊎ IsFree line span.start pair.start
       free_to same (inl whole) = inl (whole, same)
       free_to same (inr free) = inr (subst (IsFree line span.start) same free)
+
+      in_frame_of : (state : InString) → StandsInFrame known state line span
+      in_frame_of state =
+          let start : frame.url.0 ≡ span.start - span.frame_start = omega (arith, frame.frame, frame.url.3) in
+          let close : frame.url.1 ≡ span.url_end - span.frame_start = omega (arith, frame.frame, frame.url.4) in
+          record {
+            begin = λ some. ap (λ n. past_all state (take n line)) frame.frame ∙ starts (omega (arith, some, frame.frame)) state;
+            end = virtual.end;
+            url = ap (λ n. known.frame_url (slice_range line n virtual.end)) frame.frame ∙ frame.url.2 ∙ ap (λ n. Some (n, frame.url.1)) start
+                ∙ ap (λ n. Some (span.start - span.frame_start, n)) close;
+          }
 
       go : (own : Bool) → (span.url_end == pair.start) ≡ own → IfSome (cond own (Some span) None) (IsInString known line pair)
       go false none = tt
@@ -324,26 +341,27 @@ module _ (known : UrlsKnown) (strings : AreForStrings known) (line : List ℕ) (
           record {
             end = frame.pair_end ∙ ap (λ (p : Pair). p.end) one;
             begin = λ state begins any may. frame.passes state;
+            frame = inr in_frame_of;
             free = free_to same free;
           }
 
-  frame_or : (virtual : VirtualLine) (other : Option Span)
+  frame_or : (virtual : VirtualLine) (other : Option Span) → StartsBetween line virtual
       → ((span : Span) → IsFramePlace known line virtual span
       → (known.frame_url line ≡ Some (span.start, span.url_end)) ⊎ IsFree line span.start span.url_end)
       → IfSome other (IsInString known line pair)
       → IfSome (or_else (frame_in known line (seen_of line) (pairs_of line) (Some virtual)) pair other) (IsInString known line pair)
-  frame_or virtual other free rest = go (frame_in known line (seen_of line) (pairs_of line) (Some virtual)) (frame_place known strings line virtual)
+  frame_or virtual other starts free rest = go (frame_in known line (seen_of line) (pairs_of line) (Some virtual)) (frame_place known strings line virtual)
     where
       go : (span : Option Span) → IfSome span (IsFramePlace known line virtual) → IfSome (or_else span pair other) (IsInString known line pair)
       go None frame = rest
-      go (Some span) frame = of_frame virtual span other frame (free span frame) rest
+      go (Some span) frame = of_frame virtual span other starts frame (free span frame) rest
 
   -- that of a virtual line, or of a string
-  line_or : (virtual : Option VirtualLine) (other : Option Span) → IfSome virtual (IsFreeLine line) → IfSome other (IsInString known line pair)
+  line_or : (virtual : Option VirtualLine) (other : Option Span) → IfSome virtual (StartsBetween line) → IfSome virtual (IsFreeLine line) → IfSome other (IsInString known line pair)
       → IfSome (or_else (frame_in known line (seen_of line) (pairs_of line) virtual) pair other) (IsInString known line pair)
-  line_or None other free rest = rest
-  line_or (Some virtual) other free rest =
-      frame_or virtual other (λ span frame. inr (λ last least most. free last (omega (arith, frame.start, least)) (omega (arith, frame.end, most)))) rest
+  line_or None other starts free rest = rest
+  line_or (Some virtual) other starts free rest =
+      frame_or virtual other starts (λ span frame. inr (λ last least most. free last (omega (arith, frame.start, least)) (omega (arith, frame.end, most)))) rest
 
   whole_free : (span : Span) → IsFramePlace known line (whole_line (length line)) span → known.frame_url line ≡ Some (span.start, span.url_end)
   whole_free span frame =
@@ -356,9 +374,11 @@ module _ (known : UrlsKnown) (strings : AreForStrings known) (line : List ℕ) (
   in_string =
       let lines = virtual_lines (seen_of line) in
       let texts = lines_of_strings (seen_of line) in
-      frame_or (whole_line (length line)) _ (λ span frame. inl (whole_free span frame))
-      (line_or (line_with texts pair.start) _ (some_line (IsFreeLine line) texts _ (strings_free line))
-      (line_or (line_with lines pair.start) _ (some_line (IsFreeLine line) lines _ (lines_free line))
+      frame_or (whole_line (length line)) _ (λ some. absurd (omega (arith, some))) (λ span frame. inl (whole_free span frame))
+      (line_or (line_with texts pair.start) _ (some_line (StartsBetween line) texts _ (strings_between_characters line))
+      (some_line (IsFreeLine line) texts _ (strings_free line))
+      (line_or (line_with lines pair.start) _ (some_line (StartsBetween line) lines _ (lines_between_characters line))
+      (some_line (IsFreeLine line) lines _ (lines_free line))
       (own_url known strings line pair stands (start_of (line_with lines pair.start)))))
 
 -- ---- all places
@@ -411,6 +431,13 @@ module _ (known : UrlsKnown) (strings : AreForStrings known) (line : List ℕ) w
         (ap (λ n. all_may_stand (past_all state (take span.start line)) (slice_range line span.start n)) (sym is.end) ∙ may);
     end = ap (λ n. past_all state (take n line)) is.end ∙ pair_passed line pair stands state;
   })
+
+  pub all_in_frames : (state : InString) → All (HasFrame known state line) (places_in known line (seen_of line))
+  all_in_frames state = all_places (HasFrame known state line) (λ pair span stands is. at_state span is.frame)
+    where
+      at_state : (span : Span) → (span.frame_start ≡ span.start) ⊎ ((state : InString) → StandsInFrame known state line span) → HasFrame known state line span
+      at_state span (inl same) = inl same
+      at_state span (inr frame) = inr (frame state)
 
   pub all_without : All (IsWithoutQuotationMark known line) (places_in known line (seen_of line))
   all_without = all_places (IsWithoutQuotationMark known line) (λ pair span stands is. without pair stands span is.end is.free)

@@ -23,7 +23,7 @@ AreInner (suc many) (byte ∷ text) = IsInner byte × AreInner many text
 
 -- ---- endings
 
-either : {A : Type 0} → (b : Bool) (x y : Option A) (e : A) → (if b then x else y) ≡ Some e
+pub either : {A : Type 0} → (b : Bool) (x y : Option A) (e : A) → (if b then x else y) ≡ Some e
     → ((b ≡ true) × (x ≡ Some e)) ⊎ ((b ≡ false) × (y ≡ Some e))
 either true x y e is = inl (refl, is)
 either false x y e is = inr (refl, is)
@@ -50,7 +50,7 @@ number_clear many text m is =
       | inr (few, none) ↦ cc
     ]
 
-size_of : (size : ℕ) (means : Option ℕ) (e : Escape) → of_size size means ≡ Some e → (e.size ≡ size) × ((m : ℕ) × (means ≡ Some m))
+pub size_of : (size : ℕ) (means : Option ℕ) (e : Escape) → of_size size means ≡ Some e → (e.size ≡ size) × ((m : ℕ) × (means ≡ Some m))
 size_of size None e is = cc
 size_of size (Some m) e is = (cc, (m, refl))
 
@@ -140,10 +140,11 @@ escape_reaches size (suc skip) before (byte ∷ text) e clear is =
 escape_reaches size zero before (byte ∷ text) e clear is =
     read_reaches size byte text e (λ skip before. escape_reaches (size + 1) skip before text e) (is_backslash byte) before refl is
 
+-- three octal digits behind a `#`
 abbrev pub IsOctal : (a b c : ℕ) → Type 0
 IsOctal a b c = (a ≡ 48) × (48 ≤ b) × (b ≤ 51) × (48 ≤ c) × (c ≤ 55)
 
-octal_is : (text : List ℕ) (m : ℕ) → octal text ≡ Some m → IsOctal (slice_index text 1) (slice_index text 2) (slice_index text 3)
+pub octal_is : (text : List ℕ) (m : ℕ) → octal text ≡ Some m → IsOctal (slice_index text 1) (slice_index text 2) (slice_index text 3)
 octal_is text m is =
     elim (either (slice_index text 1 == 48 && is_in_range 48 51 (slice_index text 2) && is_in_range 48 55 (slice_index text 3))
     (Some (8 * (slice_index text 2 - 48) + (slice_index text 3 - 48))) None m is) [

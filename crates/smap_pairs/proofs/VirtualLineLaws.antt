@@ -17,7 +17,7 @@ apart_before : (from later size : ℕ) (marks : List Mark) → from ≤ later �
 apart_before from later size [] before apart = omega arith
 apart_before from later size (mark ∷ marks) before apart = (omega arith, apart.1, apart.2)
 
-apart_within : (from size : ℕ) (marks : List Mark) → AreApart from size marks → from ≤ size
+pub apart_within : (from size : ℕ) (marks : List Mark) → AreApart from size marks → from ≤ size
 apart_within from size [] apart = apart
 apart_within from size (mark ∷ marks) apart = let rest = apart_within mark.end size marks apart.2 in omega arith
 

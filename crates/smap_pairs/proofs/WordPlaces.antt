@@ -17,7 +17,7 @@ use Rattle.smap_pairs.specs.Word.{begin_in_word, begin_of_path, begin_of_scheme,
 use Rattle.smap_pairs.specs.declared.pairs.Pair.{Pair}
 use Rattle.smap_pairs.specs.declared.seen.SeenByte.{SeenByte}
 use Rattle.smap_pairs.proofs.EdgeStates.{edge_passed}
-use Rattle.smap_pairs.proofs.EscapeStates.{either}
+use Rattle.smap_pairs.proofs.TokenLaws.{either}
 use Rattle.smap_pairs.proofs.JsonLaws.{both_may_stand}
 use Rattle.smap_pairs.proofs.NamedPlaces.{IsFree, bytes_at}
 use Rattle.smap_pairs.proofs.OpenStates.{AreAlone, IsOpen, MayBegin, open_in}

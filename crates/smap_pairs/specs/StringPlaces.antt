@@ -36,6 +36,16 @@ pub record StandsBetween (state : InString) (line : List ℕ) (span : Span) : Ty
       → past_all state (take span.start line) ≡ between
   pub end : past_all state (take span.end line) ≡ between
 
+-- the frame whose place it is begins between two characters, or with its line, and has its URL there, up to a byte
+pub record StandsInFrame (known : UrlsKnown) (state : InString) (line : List ℕ) (span : Span) : Type 0 where
+  pub begin : 0 < span.frame_start → past_all state (take span.frame_start line) ≡ between
+  pub end : ℕ
+  pub url : known.frame_url (slice_range line span.frame_start end) ≡ Some (span.start - span.frame_start, span.url_end - span.frame_start)
+
+-- it is that of such a frame, or of none
+abbrev pub HasFrame : UrlsKnown → InString → (line : List ℕ) → Span → Type 0
+HasFrame known state line span = (span.frame_start ≡ span.start) ⊎ StandsInFrame known state line span
+
 -- a place has no quotation mark, unless its URL is that of the frame which its line is as a whole; then its numbers have none
 abbrev pub IsWithoutQuotationMark : UrlsKnown → (line : List ℕ) → Span → Type 0
 IsWithoutQuotationMark known line span =

@@ -11,7 +11,7 @@ ghost use Rattle.smap_pairs.specs.LinePlaces.{places_in};
 ghost use Rattle.smap_pairs.specs.Marks.{marks_of};
 ghost use Rattle.smap_pairs.specs.Pairs.{IsPairOf};
 ghost use Rattle.smap_pairs.specs.Seen.{seen_of};
-ghost use Rattle.smap_pairs.specs.StringPlaces.{AreForStrings, BeginsAnew};
+ghost use Rattle.smap_pairs.specs.StringPlaces.{AreForStrings, BeginsAnew, HasFrame};
 ghost use Rattle.smap_pairs.specs.StringPlaces.{IsWithoutQuotationMark, StandsBetween};
 ghost use Rattle.smap_pairs.specs.VirtualLines.{line_of_byte, lines_of_strings, marks_of_strings, virtual_lines};
 ghost use Rattle.smap_pairs.specs.declared.marks.Mark.{Mark};
@@ -74,11 +74,14 @@ pub fn chunks_are_in_one_line()
 {}
 
 /// Where a line is a part of strings of JSON, each of its places begins and ends between two characters of one, and never
-/// within an escape; and none has a quotation mark, but that of the frame which the line is as a whole.
+/// within an escape; so begins the frame of one, but with the line; and none has a quotation mark, but that of the frame
+/// which the line is as a whole.
 pub fn places_stay_in_strings()
     ensures between { (known : UrlsKnown) → AreForStrings known →
         (state : InString) (line : List ℕ) → BeginsAnew state line →
         All (StandsBetween state line) (places_in known line (seen_of line)) }
+    ensures frames { (known : UrlsKnown) → AreForStrings known → (state : InString) (line : List ℕ) →
+        All (HasFrame known state line) (places_in known line (seen_of line)) }
     ensures quotation_marks { (known : UrlsKnown) → AreForStrings known → (line : List ℕ) →
         All (IsWithoutQuotationMark known line) (places_in known line (seen_of line)) }
 {}

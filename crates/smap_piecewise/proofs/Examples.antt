@@ -6,8 +6,10 @@ use Rattle.smap_pairs.specs.Chunks.{cuts_from}
 use Rattle.smap_pairs.specs.Known.{UrlsKnown}
 use Rattle.smap_trace.specs.FrameOf.{frame_of}
 use Rattle.smap_trace.specs.Hiding.{HidingSeen}
-use Rattle.smap_store.specs.NamedOf.{NamedByUrl, counts_named}
-use Rattle.smap_trace.specs.MapsOf.{MapsByUrl}
+use Rattle.smap_trace.specs.MapsOf.{MapsByUrl, NamedByUrl, counts_named}
+use Rattle.smap_declarations.specs.Frames.{function_name}
+use Rattle.smap_trace.specs.FunctionNames.{head_cut}
+use Rattle.smap_piecewise.specs.Known.{NamedKnown}
 use Rattle.smap_piecewise.specs.FirstLine.{behind_line, line_at, through_line}
 use Rattle.smap_piecewise.specs.Frames.{FramesNow, IsAllDone, IsBeforeUnknown, next_url, outcome_of, rest_of}
 use Rattle.smap_piecewise.specs.Places.{AnywhereNow, ArePlacesDone, IsBeforePlace, lines_left, nothing_given, places_outcome}
@@ -17,6 +19,9 @@ no_maps url = None
 
 abbrev no_names : NamedByUrl
 no_names = record { maps = no_maps; names = λ url. None }
+
+abbrev nothing_known : NamedKnown
+nothing_known = record { maps = λ url. None; declared = λ url. None }
 
 abbrev hide_none : HidingSeen
 hide_none = record { ignored = false; texts = [] }
@@ -50,7 +55,7 @@ midway left = record {
 }
 
 -- what map its URL has is wanted, since nothing is known
-is_wanted : IsBeforeUnknown (record { maps = λ url. None; declared = λ url. None }) (midway (codes "at /b.js:1:6\nat"))
+is_wanted : IsBeforeUnknown nothing_known (midway (codes "at /b.js:1:6\nat"))
 unfolding frame_of
 is_wanted = record { url = codes "/b.js"; next = refl; unknown = refl; anew = refl; decided = refl }
 
@@ -88,14 +93,27 @@ before_place = record {
 }
 
 -- what map its URL has is wanted in the middle of the line, since nothing is known
-place_is_wanted : IsBeforePlace (λ url. None) before_place
+place_is_wanted : IsBeforePlace nothing_known before_place
+unfolding head_cut
 place_is_wanted = record { url = codes "/u"; next = refl; wanted = refl; unknown = refl; here = refl }
 
 -- what it comes to over no maps, whichever URLs are known later
-place_comes_to : (urls : UrlsKnown) → places_outcome urls no_maps before_place []
+place_comes_to : (urls : UrlsKnown) → places_outcome urls no_names before_place []
     ≡ record { text = codes "at /u:1:2 x"; lines = 1; frames = 1; mapped = 0; hidden = 0 }
-unfolding cuts_from replacement
+unfolding cuts_from replacement head_cut
 place_comes_to urls = refl
+
+-- the place of a frame waits with its function, of which it is not known how it was written
+abbrev before_function : AnywhereNow
+before_function = record before_place {
+  left = codes "at f (/u:1:2)";
+  chunk = 13;
+  waiting = record { frame_start = 0; start = 6; url_end = 8; end = 12; line = 1; column = 2; is_halved = false } ∷ [];
+}
+
+function_waits : IsBeforePlace nothing_known before_function
+unfolding head_cut function_name
+function_waits = record { url = codes "/u"; next = refl; wanted = refl; unknown = refl; here = refl }
 
 -- the rest of a line that was counted, and the lines behind it
 lines_behind : lines_left true (codes "end\nb\nc") ≡ 2

@@ -11,7 +11,7 @@ use Rattle.smap_lines.proofs.LineLaws.{first_line, only_line}
 use Rattle.smap_trace.specs.Frame.{has_cr_within, is_line}
 use Rattle.smap_trace.specs.FrameOf.{frame_of}
 use Rattle.smap_trace.specs.Hiding.{HidingSeen}
-use Rattle.smap_store.specs.NamedOf.{NamedByUrl, counts_named, fate_named, is_hidden_named, is_mapped_named, line_named}
+use Rattle.smap_trace.specs.MapsOf.{NamedByUrl, counts_named, fate_named, is_hidden_named, is_mapped_named, line_named}
 use Rattle.smap_trace.specs.Rewritten.{Fate, is_frame_line, is_hidden, is_mapped, line_after}
 use Rattle.smap_piecewise.specs.FirstLine.{behind_line, line_at, through_line}
 use Rattle.smap_piecewise.specs.Frames.{FramesNow, GoesOn, IsAllDone, done_of, frames_start, of_text, outcome_of, rest_of}

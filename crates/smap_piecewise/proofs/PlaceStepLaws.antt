@@ -18,19 +18,21 @@ use Rattle.smap_pairs.specs.Spans.{AreSpansInOrder}
 use Rattle.smap_pairs.specs.declared.chunk.Chunk.{Chunk}
 use Rattle.smap_pairs.specs.declared.line_places.Span.{Span}
 use Rattle.smap_record.specs.Record.{MapRecord}
-use Rattle.smap_anywhere.specs.ChunkParts.{chunk_parts, cut_parts, parts_by_spans, spans_of}
+use Rattle.smap_trace.specs.FunctionNames.{FunctionNames}
+use Rattle.smap_anywhere.specs.ChunkParts.{spans_of}
+use Rattle.smap_anywhere.specs.NamedParts.{begin_at, named_by_spans, named_cut_parts}
 use Rattle.smap_anywhere.specs.Private.ChunkWriter.{IsCut}
-use Rattle.smap_anywhere.specs.Replaced.{text_in}
 use Rattle.smap_anywhere.proofs.CutLaws.{broken_behind, cut_chunk, cut_staying}
-use Rattle.smap_anywhere.proofs.PassingLaws.{staying_parts}
-use Rattle.smap_piecewise.specs.Known.{KnownByUrl}
+use Rattle.smap_anywhere.proofs.PassingLaws.{staying_named}
+use Rattle.smap_piecewise.specs.Known.{NamedKnown, found_by}
 use Rattle.smap_piecewise.specs.Places.{AnywhereNow, ArePlacesDone, BeginsAt, IsBeforePlace, PlacesGoOn, first_url}
 use Rattle.smap_piecewise.specs.Private.Given.{end_size}
-use Rattle.smap_piecewise.specs.Private.Places.{ArePlacesWithin, IsInChunk, IsNext, IsSound, PlaceSteps, places_seen, up_to}
+use Rattle.smap_piecewise.specs.Private.Places.{AreBehind, ArePlacesWithin, IsInChunk, IsNext, IsSound, PlaceSteps, places_seen, up_to}
 use Rattle.smap_piecewise.specs.Private.PutPlace.{IsPlacePut, IsPlaceUnknown}
 use Rattle.smap_piecewise.specs.declared.places.Places.{Places}
 use Rattle.smap_piecewise.proofs.ChunkLinesLaws.{none_before_last, staying_in_line}
-use Rattle.smap_piecewise.proofs.PlacesLaws.{IsBetween, begun, behind, goes_begun, goes_behind, goes_placed, goes_up_to, placed, places_stay, places_twice}
+use Rattle.smap_piecewise.proofs.PlacePartsLaws.{begin_before}
+use Rattle.smap_piecewise.proofs.PlacesLaws.{IsBetween, begun, behind, goes_begun, goes_behind, goes_placed, goes_up_to, placed, places_stay, places_twice, put_at}
 
 -- ---- what is sound stays so
 
@@ -104,12 +106,12 @@ not_few : (b : Bool) → cond b 0 1 ≤ 1
 not_few true = omega arith
 not_few false = omega arith
 
-pub placed_within : (now : AnywhereNow) (span : Span) (spans : List Span) (stated : Option MapRecord) (size : ℕ) → now.from < span.end → ArePlacesWithin size now
-    → ArePlacesWithin size (placed now span spans stated)
-placed_within now span spans stated size after within = record {
+pub placed_within : (now : AnywhereNow) (span : Span) (spans : List Span) (one : Option MapRecord × Option FunctionNames) (size : ℕ) → now.from < span.end
+    → ArePlacesWithin size now → ArePlacesWithin size (placed now span spans one)
+placed_within now span spans one size after within = record {
   lines = within.lines;
   frames = omega (arith, within.frames, after);
-  mapped = omega (arith, within.mapped, after, cond_few (is_some (text_in stated span.line span.column)));
+  mapped = omega (arith, within.mapped, after, cond_few (is_some (put_at now span one)));
 }
 
 pub behind_within : (now : AnywhereNow) (e : Bool) (size : ℕ) → now.chunk ≤ length now.left → now.from ≡ now.chunk → 0 < now.chunk → ArePlacesWithin size now
@@ -129,7 +131,7 @@ begun_within now bytes spans is_broken size within = record { lines = within.lin
 -- ---- steps
 
 -- to what is seen as this
-pub step_to : (urls : UrlsKnown) (known : KnownByUrl) (old new : Places) (seen : AnywhereNow) → places_seen new ≡ seen → PlacesGoOn urls known (places_seen old) seen
+pub step_to : (urls : UrlsKnown) (known : NamedKnown) (old new : Places) (seen : AnywhereNow) → places_seen new ≡ seen → PlacesGoOn urls known (places_seen old) seen
     → ((size : ℕ) → ArePlacesWithin size (places_seen old) → ArePlacesWithin size seen) → IsSound new → PlaceSteps urls known old new
 step_to urls known old new seen is goes within sound = record {
   goes = subst (λ (n : AnywhereNow). PlacesGoOn urls known (places_seen old) n) (sym is) goes;
@@ -137,14 +139,14 @@ step_to urls known old new seen is goes within sound = record {
   sound = sound;
 }
 
-pub step_nowhere : (urls : UrlsKnown) (known : KnownByUrl) (old new : Places) → places_seen new ≡ places_seen old → IsSound new → PlaceSteps urls known old new
+pub step_nowhere : (urls : UrlsKnown) (known : NamedKnown) (old new : Places) → places_seen new ≡ places_seen old → IsSound new → PlaceSteps urls known old new
 step_nowhere urls known old new is sound =
     step_to urls known old new (places_seen old) is (places_stay urls known (places_seen old)) (λ size few. few) sound
 
-pub step_same : (urls : UrlsKnown) (known : KnownByUrl) (now : Places) → IsSound now → PlaceSteps urls known now now
+pub step_same : (urls : UrlsKnown) (known : NamedKnown) (now : Places) → IsSound now → PlaceSteps urls known now now
 step_same urls known now sound = step_nowhere urls known now now refl sound
 
-pub steps_on : (urls : UrlsKnown) (known : KnownByUrl) (old mid new : Places) → PlaceSteps urls known old mid → PlaceSteps urls known mid new
+pub steps_on : (urls : UrlsKnown) (known : NamedKnown) (old mid new : Places) → PlaceSteps urls known old mid → PlaceSteps urls known mid new
     → PlaceSteps urls known old new
 steps_on urls known old mid new first second = record {
   goes = places_twice urls known (places_seen old) (places_seen mid) (places_seen new) first.goes second.goes;
@@ -173,7 +175,7 @@ sound_wanted old new sound is spans room = record {
 }
 
 -- what is wanted is another thing
-pub step_wanted : (urls : UrlsKnown) (known : KnownByUrl) (old new : Places) → IsSound old
+pub step_wanted : (urls : UrlsKnown) (known : NamedKnown) (old new : Places) → IsSound old
     → places_seen new ≡ record (places_seen old) { wanted = (places_seen new).wanted } → new.spans.most_bytes ≡ old.spans.most_bytes
     → length new.room.items ≡ length old.room.items → PlaceSteps urls known old new
 step_wanted urls known old new sound is spans room =
@@ -191,48 +193,56 @@ step_wanted urls known old new sound is spans room =
     (sound_wanted old new sound is spans room)
 
 -- nothing was written
-pub step_unwritten : (urls : UrlsKnown) (known : KnownByUrl) (old new : Places) → IsSound old → new.output.items ≡ old.output.items
+pub step_unwritten : (urls : UrlsKnown) (known : NamedKnown) (old new : Places) → IsSound old → new.output.items ≡ old.output.items
     → places_seen new ≡ record (places_seen old) { output = new.output.items; wanted = (places_seen new).wanted }
     → new.spans.most_bytes ≡ old.spans.most_bytes → length new.room.items ≡ length old.room.items → PlaceSteps urls known old new
 step_unwritten urls known old new sound output is spans room =
     step_wanted urls known old new sound (is ∙ (λ i. record (places_seen old) { output = output i; wanted = (places_seen new).wanted })) spans room
 
-pub step_up_to : (urls : UrlsKnown) (known : KnownByUrl) (old new : Places) (end : ℕ) → IsSound old → old.from ≤ end → end ≤ old.chunk
-    → AreSpansInOrder end old.chunk (places_seen old).waiting → places_seen new ≡ up_to (places_seen old) end → new.spans.most_bytes ≡ old.spans.most_bytes
+-- the places are in order behind where the part of the first begins
+order_behind : (text : List ℕ) (from end size : ℕ) (spans : List Span) → AreSpansInOrder from size spans → AreBehind text from end spans
+    → AreSpansInOrder end size spans
+order_behind text from end size [] order is = tt
+order_behind text from end size (span ∷ spans) order is =
+    let before = begin_before text from span order.0 in
+    (omega (arith, is, before), order.1, order.2, order.3, order.4)
+
+pub step_up_to : (urls : UrlsKnown) (known : NamedKnown) (old new : Places) (end : ℕ) → IsSound old → old.from ≤ end → end ≤ old.chunk
+    → AreBehind (take old.chunk old.given) old.from end (places_seen old).waiting → places_seen new ≡ up_to (places_seen old) end → new.spans.most_bytes ≡ old.spans.most_bytes
     → length new.room.items ≡ length old.room.items → PlaceSteps urls known old new
-step_up_to urls known old new end sound after within order is spans room =
-    step_to urls known old new (up_to (places_seen old) end) is (goes_up_to urls known (places_seen old) end after order)
+step_up_to urls known old new end sound after within behind is spans room =
+    step_to urls known old new (up_to (places_seen old) end) is (goes_up_to urls known (places_seen old) end after sound.chunk.order behind)
     (λ size few. up_to_within (places_seen old) end size after few)
     (record {
-      chunk = subst IsInChunk (sym is) (up_to_in (places_seen old) end sound.chunk within order);
+      chunk = subst IsInChunk (sym is) (up_to_in (places_seen old) end sound.chunk within
+          (order_behind (take old.chunk old.given) old.from end old.chunk (places_seen old).waiting sound.chunk.order behind));
       spans = spans ∙ sound.spans;
       room = room ∙ sound.room;
     })
 
 -- ---- a place
 
--- it begins where the next one does
-pub order_at : (from size : ℕ) (span : Span) (spans : List Span) → AreSpansInOrder from size (span ∷ spans) → AreSpansInOrder span.start size (span ∷ spans)
-order_at from size span spans order = (omega arith, order.1, order.2, order.3, order.4)
-
 -- those behind it
 pub later_places : (places : List Span) (done : ℕ) (span : Span) (later : List Span) → drop done places ≡ span ∷ later → drop (done + 1) places ≡ later
 later_places places done span later is = sym (drop-drop 1 done places) ∙ ap (drop 1) is
 
-pub step_placed : (urls : UrlsKnown) (known : KnownByUrl) (old new : Places) (span : Span) (stated : Option MapRecord) → IsSound old
-    → (next : IsNext span (places_seen old)) → old.from ≡ span.start → known (span_url (take old.chunk old.given) span) ≡ Some stated
-    → places_seen new ≡ record (placed (places_seen old) span next.later stated) {
+pub step_placed : (urls : UrlsKnown) (known : NamedKnown) (old new : Places) (span : Span) (stated : Option MapRecord) → IsSound old
+    → (next : IsNext span (places_seen old)) → old.from ≡ begin_at true (take old.chunk old.given) old.from span
+    → known.maps (span_url (take old.chunk old.given) span) ≡ Some stated
+    → let one = found_by known (span_url (take old.chunk old.given) span) stated in
+    places_seen new ≡ record (placed (places_seen old) span next.later one) {
       waiting = (places_seen new).waiting;
       wanted = (places_seen new).wanted;
       output = new.output.items;
       counts = record (places_seen old).counts { frames = old.counts.frames + 1; mapped = new.counts.mapped };
     }
     → (places_seen new).waiting ≡ next.later → (places_seen new).wanted ≡ (places_seen old).wanted
-    → new.output.items ≡ old.output.items ++ unwrap_or (text_in stated span.line span.column) (slice_range (take old.chunk old.given) span.start span.end)
-    → new.counts.mapped ≡ old.counts.mapped + cond (is_some (text_in stated span.line span.column)) 1 0
+    → new.output.items ≡ old.output.items ++ unwrap_or (put_at (places_seen old) span one) (slice_range (take old.chunk old.given) old.from span.end)
+    → new.counts.mapped ≡ old.counts.mapped + cond (is_some (put_at (places_seen old) span one)) 1 0
     → new.spans.most_bytes ≡ old.spans.most_bytes → length new.room.items ≡ length old.room.items → PlaceSteps urls known old new
 step_placed urls known old new span stated sound next here known_is seen waiting wanted output mapped spans room =
-    let is : places_seen new ≡ placed (places_seen old) span next.later stated = seen ∙ (λ i. record (placed (places_seen old) span next.later stated) {
+    let one : Option MapRecord × Option FunctionNames = found_by known (span_url (take old.chunk old.given) span) stated in
+    let is : places_seen new ≡ placed (places_seen old) span next.later one = seen ∙ (λ i. record (placed (places_seen old) span next.later one) {
       waiting = waiting i;
       wanted = wanted i;
       output = output i;
@@ -240,11 +250,12 @@ step_placed urls known old new span stated sound next here known_is seen waiting
     }) in
     let now : AnywhereNow = places_seen old in
     let order : AreSpansInOrder now.from now.chunk (span ∷ next.later) = subst (AreSpansInOrder now.from now.chunk) next.is sound.chunk.order in
+    let first = order.0 in
     let low = order.1 in
     let less = order.2 in
     let more : length now.waiting ≡ 1 + length next.later = ap length next.is ∙ omega arith in
-    step_to urls known old new (placed now span next.later stated) is (goes_placed urls known now span next.later stated next.is here known_is)
-    (λ size few. placed_within now span next.later stated size (omega (arith, low, less, here)) few)
+    step_to urls known old new (placed now span next.later one) is (goes_placed urls known now span next.later stated next.is here known_is)
+    (λ size few. placed_within now span next.later one size (omega (arith, first, low, less)) few)
     (record {
       chunk = subst IsInChunk (sym is) (record {
         within = sound.chunk.within;
@@ -258,26 +269,27 @@ step_placed urls known old new span stated sound next here known_is seen waiting
     })
 
 -- what was put
-pub put_none : (known : KnownByUrl) (text : List ℕ) (span : Span) (wanted old new : List ℕ) (put : Option Bool) → put ≡ None
-    → MatchOption put (IsPlaceUnknown known (span_url text span) wanted old new) (IsPlacePut known text span old new)
+pub put_none : (known : NamedKnown) (text : List ℕ) (from : ℕ) (span : Span) (wanted old new : List ℕ) (put : Option Bool) → put ≡ None
+    → MatchOption put (IsPlaceUnknown known (span_url text span) wanted old new) (IsPlacePut known text from span old new)
     → IsPlaceUnknown known (span_url text span) wanted old new
-put_none known text span wanted old new put is match =
-    subst (λ (o : Option Bool). MatchOption o (IsPlaceUnknown known (span_url text span) wanted old new) (IsPlacePut known text span old new)) is match
+put_none known text from span wanted old new put is match =
+    subst (λ (o : Option Bool). MatchOption o (IsPlaceUnknown known (span_url text span) wanted old new) (IsPlacePut known text from span old new)) is match
 
-pub put_some : (known : KnownByUrl) (text : List ℕ) (span : Span) (wanted old new : List ℕ) (put : Option Bool) (is_mapped : Bool) → put ≡ Some is_mapped
-    → MatchOption put (IsPlaceUnknown known (span_url text span) wanted old new) (IsPlacePut known text span old new)
-    → IsPlacePut known text span old new is_mapped
-put_some known text span wanted old new put is_mapped is match =
-    subst (λ (o : Option Bool). MatchOption o (IsPlaceUnknown known (span_url text span) wanted old new) (IsPlacePut known text span old new)) is match
+pub put_some : (known : NamedKnown) (text : List ℕ) (from : ℕ) (span : Span) (wanted old new : List ℕ) (put : Option Bool) (is_mapped : Bool) → put ≡ Some is_mapped
+    → MatchOption put (IsPlaceUnknown known (span_url text span) wanted old new) (IsPlacePut known text from span old new)
+    → IsPlacePut known text from span old new is_mapped
+put_some known text from span wanted old new put is_mapped is match =
+    subst (λ (o : Option Bool). MatchOption o (IsPlaceUnknown known (span_url text span) wanted old new) (IsPlacePut known text from span old new)) is match
 
-pub before_place : (known : KnownByUrl) (now : AnywhereNow) (span : Span) → IsNext span now → known (span_url (take now.chunk now.left) span) ≡ None
-    → now.wanted ≡ Some (span_url (take now.chunk now.left) span) → now.from ≡ span.start → IsBeforePlace known now
+pub before_place : (known : NamedKnown) (now : AnywhereNow) (span : Span) → IsNext span now → known.maps (span_url (take now.chunk now.left) span) ≡ None
+    → now.wanted ≡ Some (span_url (take now.chunk now.left) span) → now.from ≡ begin_at true (take now.chunk now.left) now.from span
+    → IsBeforePlace known now
 before_place known now span next unknown wanted here = record {
   url = span_url (take now.chunk now.left) span;
   next = ap (first_url (take now.chunk now.left)) next.is;
   wanted = wanted;
   unknown = unknown;
-  here = subst (BeginsAt now.from) (sym next.is) here;
+  here = subst (BeginsAt (take now.chunk now.left) now.from) (sym next.is) here;
 }
 
 -- ---- the end of a chunk
@@ -312,7 +324,7 @@ line_of_chunk text n some within one =
     subst (λ t. IsLineOf t (byte == 10)) (sym is)
     (line_by_last (byte == 10) (take (n - 1) text) byte refl (none_before_last (take (n - 1) text) byte (subst (λ t. length t ≤ suc (line_bytes t)) is one)))
 
-pub step_behind : (urls : UrlsKnown) (known : KnownByUrl) (old new : Places) (e : Bool) → IsSound old → IsLineOf (take old.chunk old.given) e
+pub step_behind : (urls : UrlsKnown) (known : NamedKnown) (old new : Places) (e : Bool) → IsSound old → IsLineOf (take old.chunk old.given) e
     → old.from ≡ old.chunk → (places_seen old).waiting ≡ [] → 0 < old.chunk → places_seen new ≡ behind (places_seen old) e
     → new.spans.most_bytes ≡ old.spans.most_bytes → length new.room.items ≡ length old.room.items → PlaceSteps urls known old new
 step_behind urls known old new e sound line all none some is spans room =
@@ -351,7 +363,7 @@ pub record IsChunkFound (urls : UrlsKnown) (is_broken is_last : Bool) (text : Li
   pub spans_are : spans ≡ spans_of urls (take first.bytes text)
   pub order : AreSpansInOrder 0 (length (take first.bytes text)) spans
 
-pub step_staying : (urls : UrlsKnown) (known : KnownByUrl) (old new : Places) (text : List ℕ) (bytes : ℕ) → IsSound old → old.chunk ≡ 0 → old.is_broken ≡ true
+pub step_staying : (urls : UrlsKnown) (known : NamedKnown) (old new : Places) (text : List ℕ) (bytes : ℕ) → IsSound old → old.chunk ≡ 0 → old.is_broken ≡ true
     → text ≡ old.given → IsStaying text bytes → new.is_broken ≡ not (slice_index text (bytes - 1) == 10)
     → places_seen new ≡ begun (places_seen old) bytes (places_seen old).waiting new.is_broken → new.spans.most_bytes ≡ old.spans.most_bytes
     → length new.room.items ≡ length old.room.items → PlaceSteps urls known old new
@@ -369,7 +381,7 @@ step_staying urls known old new text bytes sound none broken text_is staying bro
     (subst (λ (q : Bool). IsCut true q now.is_ended now.left bytes cuts) (sym b_is) cut) in
     step_to urls known old new (begun now bytes now.waiting b) is
     (goes_begun urls known now bytes now.waiting b cuts free cut_here
-    (staying_parts urls (take bytes now.left) ∙ ap (λ l. parts_by_spans (take bytes now.left) 0 l) (sym free.waiting)))
+    (staying_named urls (take bytes now.left) ∙ ap (λ l. named_by_spans (take bytes now.left) 0 l) (sym free.waiting)))
     (λ size few. begun_within now bytes now.waiting b size few)
     (record {
       chunk = subst IsInChunk (sym is) (record {
@@ -383,11 +395,10 @@ step_staying urls known old new text bytes sound none broken text_is staying bro
       room = room ∙ sound.room;
     })
 
-chunk_whole : (urls : UrlsKnown) (text : List ℕ) → flat_map (cut_parts urls) (chunk text ∷ []) ≡ parts_by_spans text 0 (spans_of urls text)
-unfolding chunk_parts
-chunk_whole urls text = append-nil (parts_by_spans text 0 (spans_of urls text))
+chunk_whole : (urls : UrlsKnown) (text : List ℕ) → flat_map (named_cut_parts urls) (chunk text ∷ []) ≡ named_by_spans text 0 (spans_of urls text)
+chunk_whole urls text = append-nil (named_by_spans text 0 (spans_of urls text))
 
-pub step_chunk : (urls : UrlsKnown) (known : KnownByUrl) (old new : Places) (text : List ℕ) (first : Chunk) → IsSound old → old.chunk ≡ 0 → text ≡ old.given
+pub step_chunk : (urls : UrlsKnown) (known : NamedKnown) (old new : Places) (text : List ℕ) (first : Chunk) → IsSound old → old.chunk ≡ 0 → text ≡ old.given
     → IsChunkFound urls old.is_broken old.is_ended text first (places_seen new).waiting
     → places_seen new ≡ begun (places_seen old) first.bytes (places_seen new).waiting first.is_broken → new.spans.most_bytes ≡ old.spans.most_bytes
     → length new.room.items ≡ length old.room.items → PlaceSteps urls known old new
@@ -405,7 +416,7 @@ step_chunk urls known old new text first sound none text_is found_in is spans ro
     step_to urls known old new (begun now first.bytes places first.is_broken) is
     (goes_begun urls known now first.bytes places first.is_broken (chunk own ∷ []) free
     (cut_chunk now.is_broken now.is_ended now.left first found.begins found.within found.is found.decided)
-    (chunk_whole urls own ∙ ap (parts_by_spans own 0) (sym found.spans_are)))
+    (chunk_whole urls own ∙ ap (named_by_spans own 0) (sym found.spans_are)))
     (λ size few. begun_within now first.bytes places first.is_broken size few)
     (record {
       chunk = subst IsInChunk (sym is) (record {

@@ -1,7 +1,6 @@
 -- A rewriting keeps to what it must.
-use Rattle.std.proofs.Common.{◌≡◌, ◌<◌, ◌≤◌, ◌+◌, ◌-◌, ◌^◌, ◌∙◌, ◌⊎◌, inl, inr, ℕ, Bool, true, false, List, [], ◌∷◌, ◌++◌, Option, Some, None, length, sym, ap, refl, subst, arith, append-nil, append_assoc, length-append}
+use Rattle.std.proofs.Common.{◌≡◌, ◌<◌, ◌≤◌, ◌+◌, ◌-◌, ◌^◌, ◌∙◌, ◌⊎◌, inl, inr, ℕ, Bool, true, false, List, [], ◌∷◌, ◌++◌, Option, Some, length, sym, ap, refl, subst, arith, append-nil, append_assoc, length-append}
 use Rattle.std.specs.Prelude.{Err, Ok, OnErr, OnOk, Result}
-use Rattle.smap_piecewise.specs.Private.Frames.{frames_seen}
 use Rattle.smap_piecewise.specs.Private.Places.{IsInChunk, places_seen}
 use Rattle.smap_piecewise.specs.Private.Rewriting.{IsInOrder, rewriting_seen}
 use Rattle.smap_piecewise.specs.Private.Work.{IsWorkSound, IsWorkWithin, TakesFrom, WorkSteps, work_seen}

@@ -1,12 +1,11 @@
 -- What is known over a table and a store.
-use Rattle.std.proofs.Common.{◌≡◌, ◌&&◌, ◌∙◌, ◌⊎◌, inl, inr, sym, ℕ, Bool, true, false, cond, List, Option, Some, None, ap, refl}
+use Rattle.std.proofs.Common.{◌≡◌, ◌&&◌, ◌⊎◌, inl, inr, sym, ℕ, Bool, true, false, cond, List, Option, Some, None, ap, refl}
 use Rattle.std.specs.Prelude.{is_some, not, option_map}
 use Rattle.smap_locations.specs.Paths.{without_query}
 use Rattle.smap_kept.specs.declared.answer.KeptAnswer.{KeptAnswer}
 use Rattle.smap_kept.specs.declared.answer.KeptAnswer.TheVariants.{Known, NoneKnown, Wanted}
 use Rattle.smap_kept.specs.declared.answer.NoValue.{NoValue}
-use Rattle.smap_declarations.specs.Declarations.{Named}
-use Rattle.smap_piecewise.specs.KeptMaps.{declared_by, declared_in, known_in, stated_by}
+use Rattle.smap_piecewise.specs.KeptMaps.{declared_in, known_in, stated_by}
 use Rattle.smap_piecewise.specs.Known.{DeclaredByUrl, KnownByUrl}
 use Rattle.smap_piecewise.specs.Location.{is_location}
 use Rattle.smap_piecewise.specs.StoreMaps.{declared_over, declared_where, known_by, maps_over}

@@ -1,5 +1,5 @@
 -- Bytes of a text that are handed on without control sequences.
-use Rattle.std.proofs.Common.{◌≡◌, ◌≤◌, ◌+◌, ◌-◌, ◌∙◌, ◌⊎◌, inl, inr, get_or, ℕ, Bool, true, false, List, [], ◌∷◌, ◌++◌, length, take, drop, sym, ap, refl, subst, arith, append-nil, append_assoc, length-append}
+use Rattle.std.proofs.Common.{◌≡◌, ◌≤◌, ◌+◌, ◌-◌, ◌∙◌, ◌⊎◌, inl, inr, get_or, ℕ, Bool, true, false, List, [], ◌∷◌, ◌++◌, length, take, drop, sym, ap, refl, arith, append-nil, append_assoc, length-append}
 use Rattle.std.proofs.Common.{length-drop, length-take-le}
 use Rattle.smap_io.specs.Sequences.{kept, kept_byte, sequence_length}
 use Rattle.smap_io.specs.Private.Front.{IsFront}

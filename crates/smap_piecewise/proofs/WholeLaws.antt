@@ -2,7 +2,7 @@
 use Rattle.std.proofs.Common.{◌≡◌, ◌∙◌, ℕ, Bool, true, false, List, [], ap, refl}
 use Rattle.smap_pairs.specs.Known.{UrlsKnown}
 use Rattle.smap_trace.specs.Hiding.{HidingSeen}
-use Rattle.smap_store.specs.NamedOf.{NamedByUrl}
+use Rattle.smap_trace.specs.MapsOf.{NamedByUrl}
 use Rattle.smap_piecewise.specs.Frames.{frames_start, of_text, outcome_of as frames_outcome}
 use Rattle.smap_piecewise.specs.Known.{NamedKnown}
 use Rattle.smap_piecewise.specs.Places.{nothing_given, of_places, places_outcome}
@@ -25,14 +25,14 @@ begins_frames urls maps hide options text =
     ap (frames_outcome maps (frames_start hide)) (read_at_first options.strip text) ∙ begins_whole maps hide (text_read options.strip text)
 
 pub begins_places : (urls : UrlsKnown) (maps : NamedByUrl) (options : TextOptions) (text : List ℕ)
-    → outcome_of urls maps (begun_with (OfPlaces nothing_given) options) text ≡ of_places urls maps.maps (text_read options.strip text)
+    → outcome_of urls maps (begun_with (OfPlaces nothing_given) options) text ≡ of_places urls maps (text_read options.strip text)
 begins_places urls maps options text =
-    ap (places_outcome urls maps.maps nothing_given) (read_at_first options.strip text) ∙ begins_anywhere urls maps.maps (text_read options.strip text)
+    ap (places_outcome urls maps nothing_given) (read_at_first options.strip text) ∙ begins_anywhere urls maps (text_read options.strip text)
 
 work_written : (urls : UrlsKnown) (maps : NamedByUrl) (limit : ℕ) (known : NamedKnown) (work : WorkNow) → WorkStopsAt limit known work Done → is_over work ≡ true
     → work_outcome urls maps work [] ≡ work_done work
 work_written urls maps limit known (OfFrames now) done over = all_written maps now done over
-work_written urls maps limit known (OfPlaces now) done over = all_places_written urls maps.maps now done over
+work_written urls maps limit known (OfPlaces now) done over = all_places_written urls maps now done over
 
 pub all_done : (urls : UrlsKnown) (maps : NamedByUrl) (known : NamedKnown) (now : RewritingNow) → HasStopped known now Done → now.is_ended ≡ true
     → outcome_of urls maps now [] ≡ work_done now.work

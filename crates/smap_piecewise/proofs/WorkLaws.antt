@@ -1,16 +1,16 @@
 -- The frames or the places of a text, to which bytes are handed on.
-use Rattle.std.proofs.Common.{◌≡◌, ◌<◌, ◌≤◌, ◌-◌, ◌+◌, ◌∙◌, ℕ, Bool, true, false, List, [], ◌++◌, Option, Some, None, length, sym, ap, refl, subst, arith, append-nil, append_assoc, length-append}
+use Rattle.std.proofs.Common.{◌≡◌, ◌<◌, ◌≤◌, ◌-◌, ◌∙◌, ℕ, Bool, true, List, [], ◌++◌, Option, Some, None, length, sym, ap, refl, arith, length-append}
 use Rattle.std.proofs.Common.{drop, length-drop, length-take-le}
 use Rattle.std.specs.List.{slice_range}
 use Rattle.smap_pairs.specs.Known.{UrlsKnown}
 use Rattle.smap_io.specs.Sequences.{kept}
-use Rattle.smap_store.specs.NamedOf.{NamedByUrl}
+use Rattle.smap_trace.specs.MapsOf.{NamedByUrl}
 use Rattle.smap_piecewise.specs.Frames.{FramesNow, GoesOn, IsTooLong, outcome_of as frames_outcome, rest_of}
-use Rattle.smap_piecewise.specs.Known.{AgreesNamed, KnownByUrl, NamedKnown}
+use Rattle.smap_piecewise.specs.Known.{AgreesNamed, NamedKnown}
 use Rattle.smap_piecewise.specs.Outcome.{Outcome}
 use Rattle.smap_piecewise.specs.Places.{AnywhereNow, ArePlacesTooLong, PlacesGoOn, lines_left, of_parts, parts_left, places_outcome}
 use Rattle.smap_piecewise.specs.Stripping.{held_of, text_behind}
-use Rattle.smap_piecewise.specs.Work.{OfFrames, OfPlaces, WorkGoesOn, WorkNow, is_over, output_of, with_end, with_left, work_outcome}
+use Rattle.smap_piecewise.specs.Work.{OfFrames, OfPlaces, WorkGoesOn, WorkNow, is_over, with_end, with_left, work_outcome}
 use Rattle.smap_piecewise.specs.Private.Stripping.{PassesOn}
 use Rattle.smap_piecewise.specs.declared.stripping.Stripping.{Stripping}
 use Rattle.smap_piecewise.proofs.FramesLaws.{given_more}
@@ -25,7 +25,7 @@ too_long known old new limit goes long = λ maps later agrees ends.
     ap (λ (outcome : Outcome). length outcome.text) (goes.same maps later agrees ends) in
     omega (arith, long, same, length-append new.output rest)
 
-pub places_too_long : (known : KnownByUrl) (old new : AnywhereNow) (limit : ℕ) → ((urls : UrlsKnown) → PlacesGoOn urls known old new) → limit < length new.output
+pub places_too_long : (known : NamedKnown) (old new : AnywhereNow) (limit : ℕ) → ((urls : UrlsKnown) → PlacesGoOn urls known old new) → limit < length new.output
     → ArePlacesTooLong limit known old
 places_too_long known old new limit goes long = λ urls maps later agrees ends.
     let rest : List ℕ = (of_parts maps (lines_left new.is_open (new.left ++ later)) (parts_left urls new later)).text in
@@ -46,7 +46,7 @@ HasChunk (OfPlaces now) = now.chunk ≤ length now.left
 pub work_given : (urls : UrlsKnown) (maps : NamedByUrl) (work : WorkNow) (bytes later : List ℕ) → HasChunk work
     → work_outcome urls maps (with_left bytes work) later ≡ work_outcome urls maps work (bytes ++ later)
 work_given urls maps (OfFrames now) bytes later has = given_more maps now bytes later
-work_given urls maps (OfPlaces now) bytes later has = places_given urls maps.maps now bytes later has
+work_given urls maps (OfPlaces now) bytes later has = places_given urls maps now bytes later has
 
 -- those that are handed on
 pub passed_on : (urls : UrlsKnown) (maps : NamedByUrl) (work : WorkNow) (is_ended : Bool) (old new : Stripping) (left given : List ℕ) (later : List ℕ) → HasChunk work
@@ -67,8 +67,7 @@ work_ended urls maps (OfPlaces now) is_ended later = refl
 pub work_same : (urls : UrlsKnown) (known : NamedKnown) (maps : NamedByUrl) (old new : WorkNow) (later : List ℕ) → WorkGoesOn urls known old new → AgreesNamed known maps
     → (is_over old ≡ true → later ≡ []) → work_outcome urls maps new later ≡ work_outcome urls maps old later
 work_same urls known maps (OfFrames old) (OfFrames new) later goes agrees ends = goes.same maps later agrees ends
-work_same urls known maps (OfPlaces old) (OfPlaces new) later goes agrees ends =
-    goes.same maps.maps later (λ url stated is. (agrees url stated is).0) ends
+work_same urls known maps (OfPlaces old) (OfPlaces new) later goes agrees ends = goes.same maps later agrees ends
 work_same urls known maps (OfFrames old) (OfPlaces new) later goes agrees ends = absurd goes
 work_same urls known maps (OfPlaces old) (OfFrames new) later goes agrees ends = absurd goes
 

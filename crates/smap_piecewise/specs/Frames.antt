@@ -5,7 +5,7 @@ use Rattle.smap_lines.specs.Limits.{most_line_bytes}
 use Rattle.smap_lines.specs.Lines.{has_line_end}
 use Rattle.smap_trace.specs.FrameOf.{frame_of}
 use Rattle.smap_trace.specs.Hiding.{HidingSeen}
-use Rattle.smap_store.specs.NamedOf.{NamedByUrl, counts_named, rewritten_named}
+use Rattle.smap_trace.specs.MapsOf.{NamedByUrl, counts_named, rewritten_named}
 use Rattle.smap_trace.specs.Rewritten.{Counts}
 use Rattle.smap_piecewise.specs.FirstLine.{behind_line, line_at, through_line}
 use Rattle.smap_piecewise.specs.Outcome.{Outcome, both, text_alone}

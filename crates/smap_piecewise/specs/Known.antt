@@ -2,17 +2,12 @@
 use Rattle.std.specs.Prelude.{◌≡◌, ℕ, List, Option, Some}
 use Rattle.smap_declarations.specs.Declarations.{Named}
 use Rattle.smap_record.specs.Record.{MapRecord}
-use Rattle.smap_store.specs.NamedOf.{NamedByUrl}
-use Rattle.smap_trace.specs.FunctionNames.{names_beside}
-use Rattle.smap_trace.specs.MapsOf.{MapsByUrl}
+use Rattle.smap_trace.specs.FunctionNames.{FunctionNames, names_beside}
+use Rattle.smap_trace.specs.MapsOf.{NamedByUrl}
 
 -- of each URL what its map states, or that it has none; or that this is not known
 abbrev pub KnownByUrl : Type 0
 KnownByUrl = (url : List ℕ) → Option (Option MapRecord)
-
--- what is known is so in these maps
-abbrev pub Agrees : KnownByUrl → MapsByUrl → Type 0
-Agrees known maps = (url : List ℕ) → (stated : Option MapRecord) → known url ≡ Some stated → maps url ≡ stated
 
 -- of each URL the declarations of its program, where these are known
 abbrev pub DeclaredByUrl : Type 0
@@ -30,3 +25,11 @@ with_declared known declared = record { maps = known; declared = declared }
 abbrev pub AgreesNamed : NamedKnown → NamedByUrl → Type 0
 AgreesNamed known maps = (url : List ℕ) → (stated : Option MapRecord) → known.maps url ≡ Some stated
     → (maps.maps url ≡ stated) × (maps.names url ≡ names_beside stated (known.declared url))
+
+-- what is found under a URL: its map, where it has one, and what names the functions of its program
+abbrev pub found_under : NamedByUrl → (url : List ℕ) → Option MapRecord × Option FunctionNames
+found_under maps url = (maps.maps url, maps.names url)
+
+-- the same where this map is known of it
+abbrev pub found_by : NamedKnown → (url : List ℕ) → (stated : Option MapRecord) → Option MapRecord × Option FunctionNames
+found_by known url stated = (stated, names_beside stated (known.declared url))

@@ -15,3 +15,7 @@ declared_in (Some named) = option_map (λ declared. declared.now) named.declared
 -- what names the functions of the program
 abbrev pub names_in : Option NamedMap → Option FunctionNames
 names_in found = names_beside (stated_in found) (declared_in found)
+
+-- both
+abbrev pub found_in : Option NamedMap → Option MapRecord × Option FunctionNames
+found_in found = (stated_in found, names_in found)

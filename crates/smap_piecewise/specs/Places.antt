@@ -1,5 +1,5 @@
 -- A text whose places are rewritten while it comes (this project's own): what it comes to, over URLs that are known to have a map and
--- maps of which not all are known.
+-- maps and names of functions of which not all are known.
 use Rattle.std.specs.Prelude.{◌≡◌, ◌<◌, ◌≤◌, ℕ, ◌-◌, cond, Bool, true, false, List, [], ◌∷◌, ◌++◌, Option, Some, None, drop, filter, length, take}
 use Rattle.std.specs.List.{flat_map}
 use Rattle.smap_lines.specs.Limits.{most_line_bytes}
@@ -8,13 +8,13 @@ use Rattle.smap_pairs.specs.Chunks.{cuts_from, staying_bytes}
 use Rattle.smap_pairs.specs.Known.{UrlsKnown}
 use Rattle.smap_pairs.specs.LinePlaces.{span_url}
 use Rattle.smap_pairs.specs.declared.line_places.Span.{Span}
-use Rattle.smap_anywhere.specs.ChunkParts.{cut_parts, parts_by_spans, parts_in}
+use Rattle.smap_anywhere.specs.NamedParts.{begin_at, by_names, named_by_spans, named_cut_parts, named_parts_in}
 use Rattle.smap_anywhere.specs.Parts.{Part}
-use Rattle.smap_anywhere.specs.Replaced.{is_place, is_replaced, parts_text}
-use Rattle.smap_trace.specs.MapsOf.{MapsByUrl}
+use Rattle.smap_anywhere.specs.Replaced.{is_place, is_replaced_by, parts_text_by}
+use Rattle.smap_trace.specs.MapsOf.{NamedByUrl}
 use Rattle.smap_trace.specs.Rewritten.{Counts}
 use Rattle.smap_piecewise.specs.FirstLine.{behind_line}
-use Rattle.smap_piecewise.specs.Known.{Agrees, KnownByUrl}
+use Rattle.smap_piecewise.specs.Known.{AgreesNamed, NamedKnown, found_under}
 use Rattle.smap_piecewise.specs.Outcome.{Outcome, both}
 use Rattle.smap_piecewise.specs.declared.stop.Stop.{Stop}
 use Rattle.smap_piecewise.specs.declared.stop.Stop.TheVariants.{Done, Full, Wanted}
@@ -60,18 +60,18 @@ lines_left false text = length (lines_with_ends text)
 lines_left true text = length (lines_with_ends (behind_line text))
 
 -- what becomes of parts, which have so many lines, and what is counted of them: places as frames, of which none is hidden
-abbrev pub of_parts : MapsByUrl → (lines : ℕ) → List Part → Outcome
+abbrev pub of_parts : NamedByUrl → (lines : ℕ) → List Part → Outcome
 of_parts maps lines parts = record {
-  text = parts_text maps parts;
+  text = parts_text_by by_names (found_under maps) parts;
   lines = lines;
   frames = length (filter is_place parts);
-  mapped = length (filter (is_replaced maps) parts);
+  mapped = length (filter (is_replaced_by by_names (found_under maps)) parts);
   hidden = 0;
 }
 
 -- what becomes of the places of a text, as rewriting it as a whole writes and counts it
-abbrev pub of_places : UrlsKnown → MapsByUrl → (text : List ℕ) → Outcome
-of_places urls maps text = of_parts maps (length (lines_with_ends text)) (parts_in urls text)
+abbrev pub of_places : UrlsKnown → NamedByUrl → (text : List ℕ) → Outcome
+of_places urls maps text = of_parts maps (length (lines_with_ends text)) (named_parts_in urls text)
 
 -- what is counted of it
 abbrev pub counts_in : Outcome → Counts
@@ -80,8 +80,8 @@ counts_in outcome = record { lines = outcome.lines; frames = outcome.frames; map
 -- what is left of the chunk that is begun, whose places stay those that were found, and what stands behind it
 abbrev pub parts_left : UrlsKnown → AnywhereNow → (later : List ℕ) → List Part
 parts_left urls now later =
-    parts_by_spans (take now.chunk now.left) now.from now.waiting
-    ++ flat_map (cut_parts urls) (cuts_from 0 now.is_broken (drop now.chunk now.left ++ later))
+    named_by_spans (take now.chunk now.left) now.from now.waiting
+    ++ flat_map (named_cut_parts urls) (cuts_from 0 now.is_broken (drop now.chunk now.left ++ later))
 
 -- what was written and counted
 abbrev pub places_done : AnywhereNow → Outcome
@@ -94,7 +94,7 @@ places_done now = record {
 }
 
 -- what it comes to over these maps, if these bytes come behind those that were given
-abbrev pub places_outcome : UrlsKnown → MapsByUrl → AnywhereNow → (later : List ℕ) → Outcome
+abbrev pub places_outcome : UrlsKnown → NamedByUrl → AnywhereNow → (later : List ℕ) → Outcome
 places_outcome urls maps now later =
     both (places_done now) (of_parts maps (lines_left now.is_open (now.left ++ later)) (parts_left urls now later))
 
@@ -102,8 +102,8 @@ places_outcome urls maps now later =
 
 -- over all maps that agree with what is known, and whatever bytes come, it comes to what it did; some of the bytes are let go of, and
 -- the output is longer
-pub record PlacesGoOn (urls : UrlsKnown) (known : KnownByUrl) (old new : AnywhereNow) : Type 0 where
-  pub same : (maps : MapsByUrl) (later : List ℕ) → Agrees known maps → (old.is_ended ≡ true → later ≡ [])
+pub record PlacesGoOn (urls : UrlsKnown) (known : NamedKnown) (old new : AnywhereNow) : Type 0 where
+  pub same : (maps : NamedByUrl) (later : List ℕ) → AgreesNamed known maps → (old.is_ended ≡ true → later ≡ [])
       → places_outcome urls maps new later ≡ places_outcome urls maps old later
   pub is_ended : new.is_ended ≡ old.is_ended
   pub done : List ℕ
@@ -120,10 +120,10 @@ first_url chunk (span ∷ spans) = Some (span_url chunk span)
 abbrev pub next_place_url : AnywhereNow → Option (List ℕ)
 next_place_url now = first_url (take now.chunk now.left) now.waiting
 
--- where the first of these places begins
-abbrev pub BeginsAt : (at : ℕ) → List Span → Type 0
-BeginsAt at [] = ⊥
-BeginsAt at (span ∷ spans) = at ≡ span.start
+-- the part of the first of these places of a chunk begins here: with the function of its frame, where that has one
+abbrev pub BeginsAt : (chunk : List ℕ) → (at : ℕ) → List Span → Type 0
+BeginsAt chunk at [] = ⊥
+BeginsAt chunk at (span ∷ spans) = at ≡ begin_at true chunk at span
 
 -- nothing more can be decided: no chunk is begun, and there is nothing more, or there is the beginning of a line that is not too long,
 -- and whose end may still come; and no byte of it stays behind a chunk that is broken off
@@ -136,20 +136,21 @@ pub record ArePlacesDone (now : AnywhereNow) : Type 0 where
   pub none_stays : now.is_broken ≡ true → staying_bytes now.left ≡ 0
   pub none_ended : now.is_ended ≡ true → now.left ≡ []
 
--- all before the next place of the chunk that is begun is done, and of its URL it is not known what map it has
-pub record IsBeforePlace (known : KnownByUrl) (now : AnywhereNow) : Type 0 where
+-- all before the next place of the chunk that is begun, and before the function of its frame, is done, and of its URL it is not known
+-- what map it has
+pub record IsBeforePlace (known : NamedKnown) (now : AnywhereNow) : Type 0 where
   pub url : List ℕ
   pub next : next_place_url now ≡ Some url
   pub wanted : now.wanted ≡ Some url
-  pub unknown : known url ≡ None
-  pub here : BeginsAt now.from now.waiting
+  pub unknown : known.maps url ≡ None
+  pub here : BeginsAt (take now.chunk now.left) now.from now.waiting
 
 -- over all maps that agree with what is known, and whatever bytes come, it comes to more bytes than may be written
-abbrev pub ArePlacesTooLong : (limit : ℕ) → KnownByUrl → AnywhereNow → Type 0
-ArePlacesTooLong limit known now = (urls : UrlsKnown) (maps : MapsByUrl) (later : List ℕ) → Agrees known maps → (now.is_ended ≡ true → later ≡ [])
+abbrev pub ArePlacesTooLong : (limit : ℕ) → NamedKnown → AnywhereNow → Type 0
+ArePlacesTooLong limit known now = (urls : UrlsKnown) (maps : NamedByUrl) (later : List ℕ) → AgreesNamed known maps → (now.is_ended ≡ true → later ≡ [])
     → limit < length (places_outcome urls maps now later).text
 
-abbrev pub PlacesStopAt : (limit : ℕ) → KnownByUrl → AnywhereNow → Stop → Type 0
+abbrev pub PlacesStopAt : (limit : ℕ) → NamedKnown → AnywhereNow → Stop → Type 0
 PlacesStopAt limit known now Done = ArePlacesDone now
 PlacesStopAt limit known now Wanted = IsBeforePlace known now
 PlacesStopAt limit known now Full = ArePlacesTooLong limit known now

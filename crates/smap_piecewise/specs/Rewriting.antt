@@ -1,15 +1,12 @@
 -- A rewriting that is given bytes (this project's own).
-use Rattle.std.specs.Prelude.{◌≡◌, ◌<◌, ◌≤◌, ℕ, ◌+◌, ◌-◌, ◌^◌, Bool, true, false, List, [], ◌++◌, Option, None, Some, if◌then◌else◌, length, min}
+use Rattle.std.specs.Prelude.{◌≡◌, ℕ, ◌+◌, ◌-◌, ◌^◌, Bool, true, false, List, [], ◌++◌, Option, None, Some, if◌then◌else◌, length, min}
 use Rattle.smap_pairs.specs.Known.{UrlsKnown}
 use Rattle.smap_io.specs.Sequences.{most_sequences, without_sequences}
-use Rattle.smap_trace.specs.Hiding.{HidingSeen}
-use Rattle.smap_store.specs.NamedOf.{NamedByUrl}
-use Rattle.smap_piecewise.specs.Frames.{frames_start}
+use Rattle.smap_trace.specs.MapsOf.{NamedByUrl}
 use Rattle.smap_piecewise.specs.Known.{AgreesNamed, NamedKnown}
 use Rattle.smap_piecewise.specs.Outcome.{Outcome}
-use Rattle.smap_piecewise.specs.Places.{nothing_given}
 use Rattle.smap_piecewise.specs.Stripping.{held_of, text_behind}
-use Rattle.smap_piecewise.specs.Work.{OfFrames, OfPlaces, WorkNow, WorkStopsAt, is_over, output_of, with_left, without_output, work_outcome}
+use Rattle.smap_piecewise.specs.Work.{WorkNow, WorkStopsAt, is_over, output_of, with_left, without_output, work_outcome}
 use Rattle.smap_piecewise.specs.declared.rewriting.TextOptions.{TextOptions}
 use Rattle.smap_piecewise.specs.declared.stop.Stop.{Stop}
 use Rattle.smap_piecewise.specs.declared.stripping.Stripping.{Stripping}

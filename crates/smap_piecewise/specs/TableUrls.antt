@@ -1,5 +1,5 @@
 -- The URLs of a table, and what looks like one (this project's own).
-use Rattle.std.specs.Prelude.{ℕ, ◌&&◌, ◌||◌, Bool, List, None, if◌then◌else◌}
+use Rattle.std.specs.Prelude.{◌&&◌, ◌||◌, Bool, None, if◌then◌else◌}
 use Rattle.smap_anywhere.specs.MapUrls.{urls_known}
 use Rattle.smap_anywhere.specs.MapsSeen.{MapsSeen}
 use Rattle.smap_anywhere.specs.SeemingUrls.{looks_like_url}

@@ -1,7 +1,7 @@
 -- The frames or the places of a text that is rewritten while it comes (this project's own).
-use Rattle.std.specs.Prelude.{◌≡◌, ℕ, Bool, true, false, List, [], ◌++◌, Option}
+use Rattle.std.specs.Prelude.{ℕ, Bool, true, false, List, [], ◌++◌, Option}
 use Rattle.smap_pairs.specs.Known.{UrlsKnown}
-use Rattle.smap_store.specs.NamedOf.{NamedByUrl}
+use Rattle.smap_trace.specs.MapsOf.{NamedByUrl}
 use Rattle.smap_trace.specs.Rewritten.{Counts}
 use Rattle.smap_piecewise.specs.Frames as frames
 use Rattle.smap_piecewise.specs.Frames.{FramesNow, GoesOn, StopsAt, done_of, next_url, outcome_of}
@@ -57,7 +57,7 @@ without_output (OfPlaces now) = OfPlaces (record now { output = [] })
 
 abbrev pub work_outcome : UrlsKnown → NamedByUrl → WorkNow → (later : List ℕ) → Outcome
 work_outcome urls maps (OfFrames now) later = outcome_of maps now later
-work_outcome urls maps (OfPlaces now) later = places_outcome urls maps.maps now later
+work_outcome urls maps (OfPlaces now) later = places_outcome urls maps now later
 
 abbrev pub work_done : WorkNow → Outcome
 work_done (OfFrames now) = done_of now
@@ -65,10 +65,10 @@ work_done (OfPlaces now) = places_done now
 
 abbrev pub WorkStopsAt : (limit : ℕ) → NamedKnown → WorkNow → Stop → Type 0
 WorkStopsAt limit known (OfFrames now) stop = StopsAt limit known now stop
-WorkStopsAt limit known (OfPlaces now) stop = PlacesStopAt limit known.maps now stop
+WorkStopsAt limit known (OfPlaces now) stop = PlacesStopAt limit known now stop
 
 abbrev pub WorkGoesOn : UrlsKnown → NamedKnown → (old new : WorkNow) → Type 0
 WorkGoesOn urls known (OfFrames old) (OfFrames new) = GoesOn known old new
-WorkGoesOn urls known (OfPlaces old) (OfPlaces new) = PlacesGoOn urls known.maps old new
+WorkGoesOn urls known (OfPlaces old) (OfPlaces new) = PlacesGoOn urls known old new
 WorkGoesOn urls known (OfFrames old) (OfPlaces new) = ⊥
 WorkGoesOn urls known (OfPlaces old) (OfFrames new) = ⊥

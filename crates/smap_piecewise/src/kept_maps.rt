@@ -17,7 +17,8 @@ impl KeptMap {
     /// Both, lent.
     pub fn named(&self) -> NamedMap<'_>
         ensures map { result.map.now ≡ self.now.map }
-        ensures declared { option_map (λ declared. declared.now) result.declared ≡ self.now.declared }
+        ensures declared { option_map (λ declared. declared.now) result.declared
+            ≡ self.now.declared }
     {
         NamedMap {
             map: self.map.ready(),

@@ -38,18 +38,10 @@ pub trait KnownMaps {
     /// memory.
     fn named_for(&self, url: &[u8]) -> Option<NamedMap<'_>>
         requires { is_some (known self.now url.now) ≡ true }
-        ensures map { Some (option_map (λ named. named.map.now.stated) result) ≡ known self.now url.now }
+        ensures map { Some (option_map (λ named. named.map.now.stated) result)
+            ≡ known self.now url.now }
         ensures declared { IfSome result (λ named.
             option_map (λ declared. declared.now) named.declared ≡ declared self.now url.now) };
-}
-
-/// The map of a URL of which this is known, where it has one. The call takes no memory.
-pub fn map_for<'m, K: KnownMaps>(maps: &'m K, url: &[u8]) -> Option<&'m ReadyMap>
-    requires { is_some (K.known maps.now url.now) ≡ true }
-    ensures { Some (option_map (λ map. map.now.stated) result) ≡ K.known maps.now url.now }
-{
-    let named = maps.named_for(url)?;
-    Some(named.map)
 }
 
 /// Those of a table, which are all that there are.

@@ -1,16 +1,16 @@
 //! The places of a text that is rewritten piece by piece.
-ghost use Rattle.std.specs.Prelude.{◌≡◌, ◌<◌, ◌≤◌, ◌+◌, ◌-◌, ◌^◌, [], IfOk, MatchBool, MatchOption, drop, false, length, option_map};
+ghost use Rattle.std.specs.Prelude.{◌≡◌, ◌<◌, ◌≤◌, ◌+◌, ◌-◌, ◌^◌, [], IfOk, MatchBool, MatchOption, drop, false, length, option_map, take, true};
+ghost use Rattle.smap_anywhere.specs.NamedParts.{begin_at};
 ghost use Rattle.smap_pairs.specs.Known.{UrlsKnown};
-ghost use Rattle.smap_pairs.specs.Spans.{AreSpansInOrder};
-ghost use Rattle.smap_piecewise.specs.Known.{KnownByUrl};
+ghost use Rattle.smap_piecewise.specs.Known.{NamedKnown, with_declared};
 ghost use Rattle.smap_piecewise.specs.Places.{ArePlacesDone, ArePlacesTooLong, PlacesStopAt, whole_lines_in};
-ghost use Rattle.smap_piecewise.specs.Private.Places.{ArePlacesWithin, IsNext, IsSound, PlaceSteps, places_seen, up_to};
+ghost use Rattle.smap_piecewise.specs.Private.Places.{AreBehind, ArePlacesWithin, IsNext, IsSound, PlaceSteps, places_seen, up_to};
 
 use crate::given::Given;
 use crate::known::KnownMaps;
 use crate::put_place::put_place;
 use crate::stop::Stop;
-use smap_anywhere::find_in_chunk;
+use smap_anywhere::{begin_of_part, find_in_chunk};
 use smap_pairs::{KnownUrls, LinePlaces, Span, first_chunk, staying_bytes};
 use smap_trace::Summary;
 use std::alloc::{AllocError, Global};
@@ -51,11 +51,13 @@ impl Places {
         requires room { ArePlacesWithin (2 ^ 64 - 1) (places_seen self.old) }
         requires few { length self.old.output.items ≤ limit }
         ensures same { K.known maps.new ≡ K.known maps.old }
+        ensures same_declared { K.declared maps.new ≡ K.declared maps.old }
         ensures still { K.still maps.new ≡ K.still maps.old }
-        ensures goes { PlaceSteps (U.known urls.now) (K.known maps.old) self.old self.new }
+        ensures goes { PlaceSteps (U.known urls.now)
+            (with_declared (K.known maps.old) (K.declared maps.old)) self.old self.new }
         ensures few { length self.new.output.items ≤ limit }
-        ensures stops { IfOk result
-            (PlacesStopAt limit (K.known maps.old) (places_seen self.new)) }
+        ensures stops { IfOk result (PlacesStopAt limit
+            (with_declared (K.known maps.old) (K.declared maps.old)) (places_seen self.new)) }
     {
         self.is_wanted = false;
         loop {
@@ -92,7 +94,7 @@ impl Places {
     fn goes_on<U: KnownUrls>(&mut self, urls: &U) -> bool
         requires sound { IsSound self.old }
         requires unwanted { self.old.is_wanted ≡ false }
-        ensures goes { (known : KnownByUrl) →
+        ensures goes { (known : NamedKnown) →
             PlaceSteps (U.known urls.now) known self.old self.new }
         ensures same_left { self.new.given ≡ self.old.given }
         ensures same_wanted { self.new.is_wanted ≡ self.old.is_wanted }
@@ -112,7 +114,7 @@ impl Places {
         requires sound { IsSound self.old }
         requires none { self.old.chunk ≡ 0 }
         requires unwanted { self.old.is_wanted ≡ false }
-        ensures goes { (known : KnownByUrl) →
+        ensures goes { (known : NamedKnown) →
             PlaceSteps (U.known urls.now) known self.old self.new }
         ensures same_left { self.new.given ≡ self.old.given }
         ensures same_wanted { self.new.is_wanted ≡ self.old.is_wanted }
@@ -153,18 +155,22 @@ impl Places {
         requires room { ArePlacesWithin (2 ^ 64 - 1) (places_seen self.old) }
         requires few { length self.old.output.items ≤ limit }
         ensures same { K.known maps.new ≡ K.known maps.old }
+        ensures same_declared { K.declared maps.new ≡ K.declared maps.old }
         ensures still { K.still maps.new ≡ K.still maps.old }
-        ensures goes { (urls : UrlsKnown) → PlaceSteps urls (K.known maps.old) self.old self.new }
+        ensures goes { (urls : UrlsKnown) → PlaceSteps urls
+            (with_declared (K.known maps.old) (K.declared maps.old)) self.old self.new }
         ensures few { length self.new.output.items ≤ limit }
         ensures ends { IfOk result (λ stop. MatchOption stop
             ((self.new.chunk ≡ 0) × (self.new.is_wanted ≡ false)
             × (length self.new.given < length self.old.given))
-            (PlacesStopAt limit (K.known maps.old) (places_seen self.new))) }
+            (PlacesStopAt limit (with_declared (K.known maps.old) (K.declared maps.old))
+            (places_seen self.new))) }
     {
         while let Some(span) = self.spans.places().get(self.done) {
             let span = *span;
             let done = self.done + 1;
-            if !self.put_bytes(span.start, limit)? {
+            let begin = self.begin_of(&span);
+            if !self.put_bytes(begin, limit)? {
                 return Ok(Some(Stop::Full));
             }
             if let Some(stop) = self.put_place(alloc, maps, &span, done, limit)? {
@@ -178,20 +184,36 @@ impl Places {
         Ok(None)
     }
 
-    // Writes the bytes of the chunk that is begun up to this one, before which no place stands that is not done; unless they
-    // are too many.
+    // Where the part of the next place begins.
+    fn begin_of(&self, span: &Span) -> usize
+        requires within { self.now.chunk ≤ length self.now.given }
+        requires next { self.now.from ≤ span.now.start }
+        requires before { span.now.start ≤ self.now.chunk }
+        ensures begin { result
+            ≡ begin_at true (take self.now.chunk self.now.given) self.now.from span.now }
+        ensures again { result
+            ≡ begin_at true (take self.now.chunk self.now.given) result span.now }
+        ensures behind { self.now.from ≤ result }
+        ensures before { result ≤ span.now.start }
+    {
+        begin_of_part(&self.given.bytes()[..self.chunk], self.from, span)
+    }
+
+    // Writes the bytes of the chunk that is begun up to this one, before which no part of a place begins that is not done;
+    // unless they are too many.
     fn put_bytes(&mut self, end: usize, limit: u64) -> Result<bool, AllocError>
         requires sound { IsSound self.old }
         requires after { self.old.from ≤ end }
         requires within { end ≤ self.old.chunk }
-        requires before { AreSpansInOrder end self.old.chunk (places_seen self.old).waiting }
+        requires behind { AreBehind (take self.old.chunk self.old.given) self.old.from end
+            (places_seen self.old).waiting }
         requires few { length self.old.output.items ≤ limit }
-        ensures goes { (urls : UrlsKnown) (known : KnownByUrl) →
+        ensures goes { (urls : UrlsKnown) (known : NamedKnown) →
             PlaceSteps urls known self.old self.new }
         ensures few { length self.new.output.items ≤ limit }
         ensures put { IfOk result (λ is_put. MatchBool is_put
             (places_seen self.new ≡ up_to (places_seen self.old) end)
-            ((known : KnownByUrl) → ArePlacesTooLong limit known (places_seen self.new))) }
+            ((known : NamedKnown) → ArePlacesTooLong limit known (places_seen self.new))) }
         ensures same_done { self.new.done ≡ self.old.done }
         ensures same_wanted { self.new.is_wanted ≡ self.old.is_wanted }
     {
@@ -205,8 +227,8 @@ impl Places {
         Ok(true)
     }
 
-    // Writes what becomes of the next place, with which so many are done, and before which all is; or says where it stops
-    // before.
+    // Writes what becomes of the next place and of the function of its frame, with which so many are done, and before which
+    // all is; or says where it stops before.
     fn put_place<K: KnownMaps>(
         &mut self,
         alloc: Global,
@@ -218,19 +240,24 @@ impl Places {
         requires sound { IsSound self.old }
         requires next { IsNext span.now (places_seen self.old) }
         requires done { done ≡ self.old.done + 1 }
-        requires here { self.old.from ≡ span.now.start }
+        requires here { self.old.from
+            ≡ begin_at true (take self.old.chunk self.old.given) self.old.from span.now }
+        requires after { self.old.from ≤ span.now.start }
         requires unwanted { self.old.is_wanted ≡ false }
         requires room { ArePlacesWithin (2 ^ 64 - 1) (places_seen self.old) }
         requires few { length self.old.output.items ≤ limit }
         ensures same { K.known maps.new ≡ K.known maps.old }
+        ensures same_declared { K.declared maps.new ≡ K.declared maps.old }
         ensures still { K.still maps.new ≡ K.still maps.old }
-        ensures goes { (urls : UrlsKnown) → PlaceSteps urls (K.known maps.old) self.old self.new }
+        ensures goes { (urls : UrlsKnown) → PlaceSteps urls
+            (with_declared (K.known maps.old) (K.declared maps.old)) self.old self.new }
         ensures same_left { self.new.given ≡ self.old.given }
         ensures same_chunk { self.new.chunk ≡ self.old.chunk }
         ensures few { length self.new.output.items ≤ limit }
         ensures ends { IfOk result (λ stop. MatchOption stop ((self.new.is_wanted ≡ false)
             × (length (places_seen self.new).waiting < length (places_seen self.old).waiting))
-            (PlacesStopAt limit (K.known maps.old) (places_seen self.new))) }
+            (PlacesStopAt limit (with_declared (K.known maps.old) (K.declared maps.old))
+            (places_seen self.new))) }
     {
         let text = &self.given.bytes()[..self.chunk];
         let written = self.output.len();
@@ -238,6 +265,7 @@ impl Places {
             alloc,
             maps,
             text,
+            self.from,
             span,
             &mut self.room,
             &mut self.wanted,
@@ -265,7 +293,7 @@ impl Places {
         requires room { ArePlacesWithin (2 ^ 64 - 1) (places_seen self.old) }
         requires all { self.old.from ≡ self.old.chunk }
         requires none_waits { (places_seen self.old).waiting ≡ [] }
-        ensures goes { (urls : UrlsKnown) (known : KnownByUrl) →
+        ensures goes { (urls : UrlsKnown) (known : NamedKnown) →
             PlaceSteps urls known self.old self.new }
         ensures same_output { self.new.output.items ≡ self.old.output.items }
         ensures ended { self.new.chunk ≡ 0 }

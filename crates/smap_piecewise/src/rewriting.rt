@@ -1,7 +1,7 @@
 //! Rewriting a text piece by piece.
 ghost use Rattle.std.specs.Prelude.{◌≡◌, ◌<◌, ◌≤◌, ◌+◌, ◌^◌, ◌++◌, ◌↔◌, IfErr, IfOk, List, OnErr, OnOk, false, length, map, option_map, string_bytes, ℕ};
 ghost use Rattle.smap_pairs.specs.Known.{UrlsKnown};
-ghost use Rattle.smap_store.specs.NamedOf.{NamedByUrl};
+ghost use Rattle.smap_trace.specs.MapsOf.{NamedByUrl};
 ghost use Rattle.smap_trace.specs.Rewriting.{counts_seen};
 ghost use Rattle.smap_piecewise.specs.Frames.{frames_start};
 ghost use Rattle.smap_piecewise.specs.Known.{NamedKnown, with_declared};

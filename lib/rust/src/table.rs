@@ -123,6 +123,10 @@ impl Table {
     /// rewritten.clear();
     /// table.rewrite("    at f (b.js:1:14)\n".as_bytes(), &mut rewritten)?;
     /// assert_eq!(rewritten, b"    at main (a.ts:1:1)\n");
+    ///
+    /// rewritten.clear();
+    /// table.rewrite_anywhere("[\"f@b.js:1:14\"]\n".as_bytes(), &mut rewritten)?;
+    /// assert_eq!(rewritten, b"[\"main@a.ts:1:1\"]\n");
     /// # Ok::<(), smap::Error>(())
     /// ```
     pub fn insert(&mut self, url: impl AsRef<str>, map: SourceMap) -> Result<(), Error> {

@@ -2,11 +2,6 @@
 use Rattle.std.specs.Prelude.{ℕ, List, Option, unwrap_or}
 use Rattle.smap_pairs.specs.declared.line_places.Span.{Span}
 use Rattle.smap_trace.specs.FunctionNames.{FunctionNames, written_name}
-use Rattle.smap_trace.specs.declared.function_name.HeadCut.{HeadCut}
-use Rattle.smap_anywhere.specs.Parts.{FrameFunction}
-
-abbrev pub function_seen : HeadCut → FrameFunction
-function_seen cut = record { name = cut.name.now; behind = cut.behind.now }
 
 -- the name that was written for it, or its own
 abbrev pub name_put : Option FunctionNames → (name : List ℕ) → Span → List ℕ

@@ -110,7 +110,7 @@ cuts_within zero is_broken text = refl
 cuts_within (suc within) is_broken [] = refl
 cuts_within (suc within) is_broken (byte ∷ text) = cuts_within within is_broken text
 
-behind_first : (bytes byte : ℕ) (text : List ℕ) → 0 < bytes → drop (bytes - 1) text ≡ drop bytes (byte ∷ text)
+pub behind_first : (bytes byte : ℕ) (text : List ℕ) → 0 < bytes → drop (bytes - 1) text ≡ drop bytes (byte ∷ text)
 behind_first zero byte text some = absurd (omega arith)
 behind_first (suc bytes) byte text some = ap (λ n. drop n text) (omega arith)
 

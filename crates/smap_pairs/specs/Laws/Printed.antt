@@ -6,6 +6,8 @@ use Rattle.std.specs.Fmt.{decimal}
 use Rattle.std.proofs.lemmas.Bool.{and_parts, cond-true, eqb-true}
 use Rattle.std.proofs.lemmas.List.{drop_at, length-take-le, take-append-drop, take_at}
 use Rattle.std.proofs.lemmas.List.Sums.{prefix_len-le-length}
+use Rattle.std.proofs.lemmas.Option.{same_Some}
+use Rattle.smap_lines.specs.Laws.Number.{none_else}
 use Rattle.smap_lines.specs.Numbers.{IsPrinted, decimal_number, read_on}
 use Rattle.smap_pairs.specs.Numbers.{digits, has_digit, number_after, numbers_after, with_column, with_line}
 use Rattle.smap_pairs.specs.Printed.{IsNumbers}
@@ -34,16 +36,9 @@ run_is (byte ∷ ds) after all ended = go (is_ascii_digit byte) all (λ all. run
     go true all more = let is = more all in omega (arith, is)
     go false all more = cc
 
-some_of : {A : Type 0} (b : Bool) (o : Option A) (x : A) → cond b o None ≡ Some x → (b ≡ true) × (o ≡ Some x)
-some_of true o x e = (refl, e)
-some_of false o x e = cc
-
-some_is : (m n : ℕ) → Some m ≡ Some n → m ≡ n
-some_is m n e = cc
-
 pair_of : (o : Option ℕ) (k n size : ℕ) → option_map {U = ℕ × ℕ} (λ m. (m, k + 1)) o ≡ Some (n, size) → (o ≡ Some n) × (k + 1 ≡ size)
 pair_of None k n size e = cc
-pair_of (Some m) k n size e = (ap (option_map {U = ℕ} (λ p. p.0)) e, some_is (k + 1) size (ap (option_map {U = ℕ} (λ p. p.1)) e))
+pair_of (Some m) k n size e = (ap (option_map {U = ℕ} (λ p. p.0)) e, same_Some (k + 1) size (ap (option_map {U = ℕ} (λ p. p.1)) e))
 
 -- what `numbers_are_read_as_printed` says
 abbrev Reads : Type 0
@@ -59,7 +54,7 @@ record IsNumber (text : List ℕ) (n size : ℕ) : Type 0 where
 number_is : Reads → (text : List ℕ) (n size : ℕ) → number_after text ≡ Some (n, size) → IsNumber text n size
 number_is reads [] n size e = cc
 number_is reads (byte ∷ text) n size e =
-    let parts = some_of (byte == 58) _ (n, size) e in
+    let parts = none_else (byte == 58) _ (n, size) e in
     let pair = pair_of (decimal_number (take (digits text) text)) (digits text) n size parts.1 in
     let read = (reads (take (digits text) text) n).0 pair.0 in
     let one : suc (digits text) ≡ size = omega (arith, pair.1) in
@@ -74,13 +69,13 @@ number_is reads (byte ∷ text) n size e =
 read_digits : (text : List ℕ) (n m : ℕ) → read_on n text ≡ Some m → all_digits text ≡ true
 read_digits [] n m e = refl
 read_digits (byte ∷ text) n m e =
-    let parts = some_of (is_ascii_digit byte && leb (10 * n + (byte - 48)) 2147483648) (read_on (10 * n + (byte - 48)) text) m e in
+    let parts = none_else (is_ascii_digit byte && leb (10 * n + (byte - 48)) 2147483648) (read_on (10 * n + (byte - 48)) text) m e in
     let digit = (and_parts (is_ascii_digit byte) (leb (10 * n + (byte - 48)) 2147483648) parts.0).0 in
     cond-true (is_ascii_digit byte) (all_digits text) false digit ∙ read_digits text (10 * n + (byte - 48)) m parts.1
 
 decimal_digits : Reads → (n : ℕ) → IsPrinted n → all_digits (decimal n) ≡ true
 decimal_digits reads n printed = read_digits (decimal n) 0 n
-    (some_of (ltb 48 (get_or (decimal n) 0 0)) (read_on 0 (decimal n)) n ((reads (decimal n) n).1 (refl, printed))).1
+    (none_else (ltb 48 (get_or (decimal n) 0 0)) (read_on 0 (decimal n)) n ((reads (decimal n) n).1 (refl, printed))).1
 
 number_printed : Reads → (n : ℕ) (after : List ℕ) → IsPrinted n → has_digit after ≡ false
     → number_after (58 ∷ (decimal n ++ after)) ≡ Some (n, length (decimal n) + 1)
@@ -101,11 +96,11 @@ column_is reads text l line column size first (Some (c, more)) is e =
     let lines : Some l ≡ Some line = ap (option_map {U = ℕ} (λ p. p.0)) e in
     let columns : Some c ≡ Some column = ap (option_map {U = ℕ} (λ p. p.1)) e in
     let sizes : Some (first + more) ≡ Some size = ap (option_map {U = ℕ} (λ p. p.2)) e in (
-      some_is l line lines,
+      same_Some l line lines,
       (
         more,
-        number_is reads (drop first text) column more (is ∙ ap (λ k. Some (k, more)) (some_is c column columns)),
-        some_is (first + more) size sizes,
+        number_is reads (drop first text) column more (is ∙ ap (λ k. Some (k, more)) (same_Some c column columns)),
+        same_Some (first + more) size sizes,
       ),
     )
 

@@ -1,5 +1,5 @@
 -- The URLs of a table are such as are sought: a frame's stands within its line, and all begin with what they have in common.
-use Rattle.std.specs.Prelude.{◌≡◌, ℕ, ◌||◌, Bool, true, false, IfSome, List, None, Option, Some}
+use Rattle.std.specs.Prelude.{ℕ, ◌||◌, Bool, true, false, IfSome, List, None, Option, Some}
 use Rattle.std.proofs.Common.{ap}
 use Rattle.smap_anywhere.specs.Laws.FrameUrl.{frame_url_within}
 use Rattle.smap_anywhere.specs.Laws.MapFront.{front_known}

@@ -1,13 +1,14 @@
 -- Of private contracts only: a text whose places are rewritten, and a step of that.
-use Rattle.std.specs.Prelude.{◌≡◌, ◌<◌, ◌≤◌, ℕ, suc, ◌+◌, List, ◌∷◌, ◌++◌, None, Some, cond, drop, length, take}
+use Rattle.std.specs.Prelude.{◌≡◌, ◌<◌, ◌≤◌, ℕ, suc, ◌+◌, List, [], ◌∷◌, ◌++◌, None, Some, cond, drop, length, take, true}
 use Rattle.std.specs.List.{slice_range}
 use Rattle.smap_lines.specs.Limits.{most_line_bytes}
 use Rattle.smap_pairs.specs.Chunks.{line_bytes}
 use Rattle.smap_pairs.specs.Known.{UrlsKnown}
 use Rattle.smap_pairs.specs.Spans.{AreSpansInOrder}
 use Rattle.smap_pairs.specs.declared.line_places.Span.{Span}
+use Rattle.smap_anywhere.specs.NamedParts.{begin_at}
 use Rattle.smap_trace.specs.Rewriting.{counts_seen}
-use Rattle.smap_piecewise.specs.Known.{KnownByUrl}
+use Rattle.smap_piecewise.specs.Known.{NamedKnown}
 use Rattle.smap_piecewise.specs.Places.{AnywhereNow, PlacesGoOn}
 use Rattle.smap_piecewise.specs.declared.places.Places.{Places}
 
@@ -28,6 +29,11 @@ places_seen places = record {
 -- where the bytes of the chunk that is begun are done up to this one, before which none of its places stands that is not done
 abbrev pub up_to : AnywhereNow → (end : ℕ) → AnywhereNow
 up_to now end = record now { from = end; output = now.output ++ slice_range (take now.chunk now.left) now.from end }
+
+-- no part of these places of a chunk begins between these bytes, and that of the first one at the second
+abbrev pub AreBehind : (chunk : List ℕ) → (from end : ℕ) → List Span → Type 0
+AreBehind chunk from end [] = Unit {0}
+AreBehind chunk from end (span ∷ spans) = end ≡ begin_at true chunk from span
 
 -- this place comes next
 pub record IsNext (span : Span) (now : AnywhereNow) : Type 0 where
@@ -56,7 +62,7 @@ pub record ArePlacesWithin (size : ℕ) (now : AnywhereNow) : Type 0 where
   pub mapped : now.counts.mapped + length now.left ≤ size + now.from
 
 -- it goes on, and what was within a bound stays so
-pub record PlaceSteps (urls : UrlsKnown) (known : KnownByUrl) (old new : Places) : Type 0 where
+pub record PlaceSteps (urls : UrlsKnown) (known : NamedKnown) (old new : Places) : Type 0 where
   pub goes : PlacesGoOn urls known (places_seen old) (places_seen new)
   pub within : (size : ℕ) → ArePlacesWithin size (places_seen old) → ArePlacesWithin size (places_seen new)
   pub sound : IsSound new

@@ -4,7 +4,7 @@ use Rattle.smap_lines.specs.Lines.{Line}
 use Rattle.smap_trace.specs.Frame.{FrameParts}
 use Rattle.smap_trace.specs.FrameOf.{frame_of}
 use Rattle.smap_trace.specs.Hiding.{HidingSeen}
-use Rattle.smap_store.specs.NamedOf.{NamedByUrl, fate_named}
+use Rattle.smap_trace.specs.MapsOf.{NamedByUrl, fate_named}
 use Rattle.smap_trace.specs.Rewritten.{Fate, is_hidden, is_mapped, line_after}
 use Rattle.smap_piecewise.specs.Known.{AgreesNamed, NamedKnown}
 use Rattle.smap_piecewise.specs.declared.put_line.LineKind.{LineKind}

@@ -25,7 +25,7 @@ IsWorkWithin size (OfPlaces now) = ArePlacesWithin size now
 
 abbrev pub WorkSteps : UrlsKnown → NamedKnown → (old new : Work) → Type 0
 WorkSteps urls known (Frames old) (Frames new) = Steps known old new
-WorkSteps urls known (Places old) (Places new) = PlaceSteps urls known.maps old new
+WorkSteps urls known (Places old) (Places new) = PlaceSteps urls known old new
 WorkSteps urls known (Frames old) (Places new) = ⊥
 WorkSteps urls known (Places old) (Frames new) = ⊥
 

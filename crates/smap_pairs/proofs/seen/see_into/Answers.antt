@@ -2,7 +2,7 @@ use Rattle.std.proofs.Common.{◌≡◌, ◌++◌, [], ap, arith, drop, length, 
 use Rattle.std.proofs.lemmas.List.{append-nil, drop_all, take_all}
 use Rattle.smap_pairs.specs.Seen.{counted_from, seen_of, settled_from}
 use Rattle.smap_pairs.specs.Signs.{text_of}
-use Rattle.smap_pairs.proofs.StandLaws.{settled_stands}
+use Rattle.smap_pairs.proofs.SeenBytesLaws.{settled_bytes}
 use Rattle.smap_pairs.proofs.seen.see_into.Goals as goal
 
 pub returns-clause-seen : goal.returns-clause-seen
@@ -20,5 +20,5 @@ returns-clause-seen c =
 pub returns-clause-stands : goal.returns-clause-stands
 unfolding seen_of
 returns-clause-stands c =
-    ap text_of (returns-clause-seen c) ∙ settled_stands [] c.args.line.now (counted_from 0 c.args.line.now)
+    ap text_of (returns-clause-seen c) ∙ settled_bytes [] c.args.line.now (counted_from 0 c.args.line.now)
     ∙ ap text_of (sym c.in_ok-count_into.ensures.counted) ∙ c.in_ok-count_into.ensures.stands

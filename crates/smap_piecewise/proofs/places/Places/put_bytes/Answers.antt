@@ -1,4 +1,4 @@
-use Rattle.std.proofs.Common.{◌-◌, ◌<◌, ◌≡◌, arith, length, length-append, length-drop, length-take-le, List, refl, take, ℕ}
+use Rattle.std.proofs.Common.{◌-◌, ◌<◌, ◌≡◌, arith, length, length-append, length-take-le, List, refl, take, ℕ}
 use Rattle.std.specs.List.{slice_range}
 use Rattle.smap_piecewise.specs.Places.{AnywhereNow}
 use Rattle.smap_piecewise.specs.Private.Places.{places_seen, up_to}
@@ -15,7 +15,7 @@ returns-in_err-extend_from_slice-clause-goes c =
 pub returns-clause-goes : goal.returns-clause-goes
 returns-clause-goes c =
     let items = rw c.bytes.ensures at c.in_ok-extend_from_slice.ensures.items in
-    λ urls known. step_up_to urls known c.args.self.now _ c.args.end c.requires.sound c.requires.after c.requires.within c.requires.before
+    λ urls known. step_up_to urls known c.args.self.now _ c.args.end c.requires.sound c.requires.after c.requires.within c.requires.behind
     (λ i. record (up_to (places_seen c.args.self.now) c.args.end) { output = items i }) refl refl
 
 pub returns-then-bytes-limit-clause-goes : goal.returns-then-bytes-limit-clause-goes
@@ -39,4 +39,4 @@ returns-then-bytes-limit-clause-put c =
       length-append now.output (slice_range text now.from c.args.end),
     ) in
     λ known. places_too_long known now (up_to now c.args.end) c.args.limit
-    (λ urls. goes_up_to urls known now c.args.end c.requires.after c.requires.before) long
+    (λ urls. goes_up_to urls known now c.args.end c.requires.after c.requires.sound.chunk.order c.requires.behind) long

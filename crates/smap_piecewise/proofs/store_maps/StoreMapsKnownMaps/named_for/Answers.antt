@@ -1,6 +1,5 @@
-use Rattle.std.proofs.Common.{◌≡◌, ◌∙◌, ◌⊎◌, ap, inl, inr, option_map, sym}
+use Rattle.std.proofs.Common.{◌∙◌, ap, inl, inr, option_map, sym}
 use Rattle.smap_kept.specs.Kept.{answer_seen}
-use Rattle.smap_kept.specs.declared.answer.KeptAnswer.TheVariants.{NoneKnown, Wanted}
 use Rattle.smap_piecewise.proofs.StoreLaws.{none_kept_by}
 use Rattle.smap_piecewise.proofs.store_maps.StoreMapsKnownMaps.named_for.Goals as goal
 
