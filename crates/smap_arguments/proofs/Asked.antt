@@ -6,6 +6,7 @@ use Rattle.std.specs.List.{list_any}
 use Rattle.std.proofs.lemmas.Slice.Eq.{bytes_eq-Decides}
 use Rattle.std.specs.Option.{option_map_or}
 use Rattle.std.specs.Str.{bytes_eq}
+use Rattle.std.proofs.lemmas.Bool.{or_parts}
 use Rattle.clap.specs.Walk.{Row, Rule, Text, answers_to, finished, nothing_held, rows_after, settled, stop_after, walk, walk_from, with_default}
 use Rattle.clap.specs.declared.parser.matches.ArgMatches.{ArgMatches}
 use Rattle.clap.specs.Simple.{App, HasMatchesOf, subcommand_rows_of, Shape, argument_words, built, built_leaf, entered, filled, help_rule, is_simple}
@@ -51,10 +52,6 @@ found_in P p (x ∷ xs) a each is = go (p x) refl is (found_in P p xs a each.1)
     go true passes is later = let same : x ≡ a = cc in subst P same (each.0 passes)
     go false passes is later = later is
 
-neither : (x y : Bool) → (x || y) ≡ false → (x ≡ false) × (y ≡ false)
-neither true y = λ no. cc
-neither false y = λ no. (refl, no)
-
 given_if : (required given : Bool) → required ≡ true → (required && not given) ≡ false → given ≡ true
 given_if true true = λ is no. refl
 given_if true false = λ is no. cc
@@ -90,7 +87,7 @@ module _ (parser_at : Text → ValueParser) where
       → list_any (λ a. a.required && not (is_given a.id rows)) rules ≡ false → HasValues rules rows
   values_given [] rows plain good none = tt
   values_given (a ∷ rest) rows plain good none =
-      let no = neither (a.required && not (is_given a.id rows)) _ none in (
+      let no = or_parts (a.required && not (is_given a.id rows)) _ none in (
         λ required. subst (λ by. HasValue by rows a.id) plain.0.2
             (given_value parser_at a.id rows good (given_if a.required (is_given a.id rows) required no.0)),
         λ some. subst (λ by. HasValue by rows a.id) plain.0.2 (text_value parser_at a.id rows good some),

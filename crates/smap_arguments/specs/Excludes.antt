@@ -1,5 +1,5 @@
 -- What excludes each other among the words and options of `rewrite`, each of which it takes by itself.
-use Rattle.std.specs.Prelude.{◌++◌, ◌∷◌, ◌==◌, ◌&&◌, Bool, List, [], None, Option, Some, String, codes, if◌then◌else◌, nat_lt, not, string_bytes, vec_len}
+use Rattle.std.specs.Prelude.{◌++◌, ◌∷◌, ◌==◌, ◌&&◌, Bool, List, [], None, Option, Some, String, codes, if◌then◌else◌, length, nat_lt, not, string_bytes, vec_len}
 use Rattle.std.specs.List.{list_any}
 use Rattle.std.specs.Str.{bytes_eq}
 use Rattle.clap.specs.Words.{Text}
@@ -26,6 +26,14 @@ is_any_url url = bytes_eq url (codes "*")
 abbrev pub many_hidden_line : Text
 many_hidden_line = codes "usage: more than 16 --hide" ++ 10 ∷ []
 
+-- one of them is empty, as each name has it
+abbrev pub empty_hidden_line : Text
+empty_hidden_line = codes "usage: --hide without TEXT" ++ 10 ∷ []
+
+-- a text is empty
+abbrev pub has_empty : {A : Type 0} → List (String A) → Bool
+has_empty = list_any (λ text. length (string_bytes text) == 0)
+
 -- they are beside places anywhere in a line
 abbrev pub hidden_anywhere_line : Text
 hidden_anywhere_line = codes "usage: not together: --hide, --anywhere" ++ 10 ∷ []
@@ -38,8 +46,9 @@ module _ {A : Type 0} (maps : List (String A × String A)) where
   -- the line that is reported of these pairs and options of `rewrite`, where one is
   abbrev pub excluded_line : (has_base hide_ignored : Bool) → FurtherOptions → Option Text
   excluded_line has_base hide_ignored options = if nat_lt most_hidden (vec_len options.hide) then Some many_hidden_line
+      else (if has_empty options.hide.items then Some empty_hidden_line
       else (if has_base && options.paths then Some base_and_paths_line
       else (if not options.anywhere then None
       else (if hide_ignored then Some both_flags_line
       else (if not (vec_len options.hide == 0) then Some hidden_anywhere_line
-      else (if has_any_url then Some any_url_line else None)))))
+      else (if has_any_url then Some any_url_line else None))))))

@@ -23,8 +23,8 @@ why the map is refused.
 
 LINE and COLUMN may be one word, LINE:COLUMN, also behind a URL as a frame has it: `app.js:65:80`.
 
-With --generated the words are MAP SOURCE LINE [COLUMN], and the answers places of the generated file that come from
-there: `smap lookup --generated --help` says more.
+With --generated the arguments are MAP SOURCE LINE [COLUMN], and the answers places of the generated file that come
+from there: `smap lookup --generated --help` says more.
 
 Where the map holds the text of the source, its line follows, and a caret under the position.
 

@@ -19,6 +19,9 @@ pub const BOTH_FLAGS: &str = "usage: not together: --hide-ignored, --anywhere\n"
 /// Standard error: `rewrite` has more texts that hide frames than there may be.
 pub const MANY_HIDDEN: &str = "usage: more than 16 --hide\n";
 
+/// Standard error: a text that hides frames is empty, as each name has it.
+pub const EMPTY_HIDDEN: &str = "usage: --hide without TEXT\n";
+
 pub const HIDDEN_ANYWHERE: &str = "usage: not together: --hide, --anywhere\n";
 
 /// Standard error: a URL is `*` alone, which each place has, as times of day are.
@@ -73,7 +76,7 @@ pub const FIT_ALONE: &str = "usage: --fit without GENERATED\n";
 /// Standard error: the last map of `fit` has no generated file.
 pub const NO_GENERATED: &str = "usage: MAP without GENERATED\n";
 
-/// Standard error: an argument without `=`, which is to have this form.
+/// Standard error: an argument without `=`, or without a path behind it, which is to have this form.
 pub fn no_pair_line(alloc: Global, form: &str, argument: &str) -> Result<String, AllocError>
     ensures { IfOk result (λ text. string_bytes text ≡ no_pair_line form.now argument.now) }
 {

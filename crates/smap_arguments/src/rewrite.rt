@@ -3,11 +3,11 @@ ghost use Rattle.std.specs.Prelude.{◌≡◌, IfErr, IfOk, codes, option_map};
 ghost use Rattle.clap.specs.Words.{found_of, rows_of};
 ghost use Rattle.smap_arguments.specs.CommandLine.{named, percent_number};
 ghost use Rattle.smap_arguments.specs.Arguments.{GivesBase, GivesFurther, GivesRequired, HasArguments, HasValueIfGiven, NamedAsksFor};
-ghost use Rattle.smap_arguments.specs.Excludes.{excluded_line, has_any_url, is_any_url};
+ghost use Rattle.smap_arguments.specs.Excludes.{excluded_line, has_any_url, has_empty, is_any_url};
 ghost use Rattle.smap_arguments.specs.Refusals.{IsNamedRefusal, ReportsBadWord, ReportsRewrite, bad_missing_line};
 
 use crate::mistakes::{
-    ANY_URL, BAD_MISSING, BASE_AND_PATHS, BOTH_FLAGS, HIDDEN_ANYWHERE, MANY_HIDDEN,
+    ANY_URL, BAD_MISSING, BASE_AND_PATHS, BOTH_FLAGS, EMPTY_HIDDEN, HIDDEN_ANYWHERE, MANY_HIDDEN,
 };
 use crate::pairs::maps_in;
 use crate::usage::Usage;
@@ -68,6 +68,8 @@ fn excluded_line(
 {
     if options.hide.len() > MOST_HIDDEN {
         Some(MANY_HIDDEN)
+    } else if has_empty(&options.hide) {
+        Some(EMPTY_HIDDEN)
     } else if has_base && options.paths {
         Some(BASE_AND_PATHS)
     } else if !options.anywhere {
@@ -81,6 +83,13 @@ fn excluded_line(
     } else {
         None
     }
+}
+
+// Whether one of the texts is empty.
+fn has_empty(texts: &[String]) -> bool
+    ensures { result ≡ has_empty texts.now }
+{
+    texts.iter().any(|text| text.is_empty())
 }
 
 // Whether one of the pairs is of all URLs.

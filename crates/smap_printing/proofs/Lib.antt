@@ -1,3 +1,4 @@
+mod BareLaws
 mod PutLaws
 mod PrintedLaws
 mod ShortTextLaws

@@ -1,8 +1,8 @@
 -- What is printed of the mappings of a map: a line each, in their order. Lines and columns count from 1 in what is printed,
 -- indices from 0.
-use Rattle.std.specs.Prelude.{ℕ, ◌+◌, ◌==◌, Bool, true, List, [], ◌++◌, Option, Some, None, codes, if◌then◌else◌, filter, option_and_then, slice_get}
+use Rattle.std.specs.Prelude.{ℕ, ◌+◌, ◌==◌, Bool, false, true, List, [], ◌++◌, Option, Some, None, codes, if◌then◌else◌, filter, not, option_and_then, slice_get}
 use Rattle.std.specs.Fmt.{decimal}
-use Rattle.std.specs.List.{flat_map}
+use Rattle.std.specs.List.{flat_map, list_any}
 use Rattle.serde_json.specs.Data.{Data, boolean, string, object, no_members, member}
 use Rattle.smap_mappings.specs.declared.mapping.Mapping.{Mapping}
 use Rattle.smap_mappings.specs.declared.mapping.Origin.{Origin}
@@ -15,6 +15,7 @@ use Rattle.smap_record.specs.Written.{is_ignored_where}
 use Rattle.smap_command.specs.Options.{is_json}
 use Rattle.smap_command.specs.declared.options.Form.{Form}
 use Rattle.smap_printing.specs.Json.{count, json_line, origin_members}
+use Rattle.smap_printing.specs.Lines.{none_line}
 use Rattle.smap_printing.specs.Lookup.{answer_line}
 use Rattle.smap_command.specs.declared.options.MappingsOptions.{MappingsOptions}
 
@@ -70,6 +71,23 @@ printed_mappings form line stated mappings = flat_map (printed_mapping form stat
 unfoldable pub mappings_text : MappingsOptions → MapRecord → List ℕ
 mappings_text options stated = printed_mappings options.form options.line stated (joined stated.parts)
 
+-- that there is none, where some are asked for
+abbrev pub no_mapping_value : Data
+no_mapping_value = object (member (codes "answer") (string (codes "none")) no_members)
+
+abbrev pub no_mapping_line : Form → List ℕ
+no_mapping_line form = if is_json form then json_line no_mapping_value else none_line
+
+-- no mapping stands on a generated line, from 0, that is given
+abbrev pub is_bare : (line : Option ℕ) → List Mapping → Bool
+is_bare None list = false
+is_bare (Some line) list = not (list_any (is_on_line (Some line)) list)
+
+-- what is printed of the mappings of a map, or that there is none on the line that is asked for
+abbrev pub asked_text : MappingsOptions → MapRecord → List ℕ
+asked_text options stated =
+    if is_bare options.line (joined stated.parts) then no_mapping_line options.form else mappings_text options stated
+
 -- ---- and a debug id
 
 abbrev pub id_value : (id : List ℕ) → Data
@@ -82,4 +100,4 @@ printed_id (Some id) = json_line (id_value id)
 
 -- what is printed of the mappings of a map and, behind them, of a debug id
 abbrev pub text_with_id : MappingsOptions → (id : Option (List ℕ)) → MapRecord → List ℕ
-text_with_id options id stated = mappings_text options stated ++ printed_id id
+text_with_id options id stated = asked_text options stated ++ printed_id id

@@ -1,5 +1,6 @@
 -- What contracts of private functions alone cite.
 pub mod Answerer
+pub mod Bare
 pub mod GrowingText
 pub mod Lines
 pub mod ShortText

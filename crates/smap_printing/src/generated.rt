@@ -1,13 +1,12 @@
 //! The generated places of an original place, a line each.
 ghost use Rattle.std.specs.Prelude.{◌≡◌, IfOk};
 ghost use Rattle.std.specs.List.{flat_map};
-ghost use Rattle.smap_printing.specs.Generated.{generated_line, generated_text, no_generated_line};
+ghost use Rattle.smap_printing.specs.Generated.{generated_line, generated_text};
 
 use crate::growing_text::GrowingText;
 use crate::json_form::put_mapping_object;
-use crate::mappings::put_mapping_line;
+use crate::mappings::{put_mapping_line, put_no_mapping};
 use crate::output::Output;
-use crate::text_form::NONE;
 use smap_command::Form;
 use smap_record::{MapFile, Mapping};
 use std::alloc::{AllocError, Global};
@@ -24,23 +23,11 @@ pub fn generated_text(
 {
     let mut text = GrowingText::new(alloc);
     if mappings.is_empty() {
-        put_none(form, &mut text);
+        put_no_mapping(form, &mut text);
     } else {
         put_lines(map, mappings, form, &mut text);
     }
     text.text()
-}
-
-// Puts that there is none.
-#[tactic(auto, unfolding(json::specs::Print::escape_byte))]
-fn put_none<O: Output>(form: Form, output: &mut O)
-    ensures { O.Puts output.old output.new (no_generated_line form) }
-{
-    if form.is_json() {
-        output.put(b"{\"answer\":\"none\"}\n");
-    } else {
-        output.put(NONE.as_bytes());
-    }
 }
 
 // Puts the lines for mappings.

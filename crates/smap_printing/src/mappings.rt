@@ -1,12 +1,14 @@
 //! Printing the mappings of a map.
 ghost use Rattle.std.specs.Prelude.{◌≡◌, ◌⊎◌, [], false, option_copied, true, IfErr, IfSome, OnErr, OnOk, if◌then◌else◌, nat_lt};
+ghost use Rattle.smap_index.specs.Parts.{joined};
 ghost use Rattle.smap_io.specs.Device.{Takes, TakesFront};
 ghost use Rattle.smap_lines.specs.RunEnds.{is_write_fault};
 ghost use Rattle.smap_lines.specs.LineOutput.{IsPut};
 ghost use Rattle.smap_lines.specs.declared.fault.LineFault.TheVariants.{Memory, Write};
 ghost use Rattle.smap_printing.specs.Json.{json_line};
-ghost use Rattle.smap_printing.specs.Mappings.{id_value, is_on_line, line_with, mappings_text, printed_id, printed_mapping};
+ghost use Rattle.smap_printing.specs.Mappings.{asked_text, id_value, is_bare, is_on_line, line_with, mappings_text, no_mapping_line, printed_id, printed_mapping};
 ghost use Rattle.smap_printing.specs.Mappings.{text_with_id};
+ghost use Rattle.smap_printing.specs.Private.Bare.{is_nothing};
 ghost use Rattle.smap_printing.specs.Private.GatheredLine.{Gathers};
 ghost use Rattle.smap_printing.specs.Private.Past.{is_past_line};
 ghost use Rattle.smap_printing.specs.Private.Plain.{IsKept};
@@ -18,15 +20,16 @@ use crate::kept_source::{KeptSource, keep_source};
 use crate::map_text::put_json_text;
 use crate::output::{Output, put_number};
 use crate::short_text::ShortText;
-use crate::text_form::{UNMAPPED, put_origin_line};
+use crate::text_form::{NONE, UNMAPPED, put_origin_line};
 use smap_command::{Form, MappingsOptions};
 use smap_io::{ByteSink, DeviceFault};
 use smap_lines::{Gathered, LineFault, LineOutput};
-use smap_record::{MapFile, Mapping};
+use smap_record::{Answer, MapFile, Mapping, Meter};
 use std::alloc::Global;
 
-/// Prints the mappings of a map that the options ask for, a line each in their order, and behind them the debug id, where
-/// one is given, as a JSON object. The caller gives an output that has not failed.
+/// Prints the mappings of a map that the options ask for, a line each in their order, or that none stands on the line that
+/// they ask for, and behind them the debug id, where one is given, as a JSON object. The caller gives an output that has
+/// not failed.
 ///
 /// It walks through the map's mappings and holds none of them. A room of 65,536 bytes is made before the first write, lines
 /// are gathered in it and written when it is full, and at the end, and no line takes memory. The first failure ends it, and
@@ -102,10 +105,46 @@ fn put_mappings<W: ByteSink>(
         text: ShortText::new(),
         done: Ok(()),
     };
-    gather_mappings(alloc, map, options, &mut lines);
+    gather_asked(alloc, map, options, &mut lines);
     put_debug_id(id, &mut lines);
     lines.hand_on();
     lines.done
+}
+
+// Puts the lines behind one another or, where none stands on the line that is asked for, one that says so.
+fn gather_asked<W: ByteSink>(
+    alloc: Global,
+    map: &MapFile,
+    options: MappingsOptions,
+    lines: &mut GatheredLine<'_, '_, W>,
+)
+    ensures { Gathers W.seen lines.old lines.new (asked_text options map.now.stated) }
+{
+    if is_bare(alloc, map, options.line) {
+        put_no_mapping(options.form, lines);
+    } else {
+        gather_mappings(alloc, map, options, lines);
+    }
+}
+
+// Whether no mapping stands on a line that is given: a search of the map finds the first.
+fn is_bare(alloc: Global, map: &MapFile, line: Option<u32>) -> bool
+    ensures { result ≡ is_bare line (joined map.now.stated.parts) }
+{
+    let Some(line) = line else {
+        return false;
+    };
+    let mut meter = Meter::new(alloc);
+    is_nothing(map.look_up_from(line, 0, &mut meter))
+}
+
+fn is_nothing(answer: Answer) -> bool
+    ensures { result ≡ is_nothing answer }
+{
+    match answer {
+        Answer::Nothing => true,
+        Answer::Unmapped { .. } | Answer::Found { .. } => false,
+    }
 }
 
 // Puts the lines behind one another, until a write fails. The mappings stand in order, so none is sought past the line that
@@ -198,6 +237,18 @@ fn put_mapping<O: Output>(
         put_mapping_object(map, mapping, output)
     } else {
         put_mapping_line(map, mapping, b" ", kept, output)
+    }
+}
+
+/// Puts that there is no mapping.
+#[tactic(auto, unfolding(json::specs::Print::escape_byte))]
+pub fn put_no_mapping<O: Output>(form: Form, output: &mut O)
+    ensures { O.Puts output.old output.new (no_mapping_line form) }
+{
+    if form.is_json() {
+        output.put(b"{\"answer\":\"none\"}\n");
+    } else {
+        output.put(NONE.as_bytes());
     }
 }
 

@@ -33,6 +33,9 @@ const TAKE_OUT: &str =
 const FOLDER: &str =
     "  the path is that of a folder: to rewrite and locate a folder of maps is PREFIX/=FOLDER/, to check FOLDER/*.map\n";
 
+// The path of a file is that of none.
+const EMPTY: &str = "  the path is empty: in URL=FILE it stands behind the last =\n";
+
 // The path of a file that is not there is a URL.
 const URL: &str =
     "  the path is a URL, and only files are read: swapped? in URL=FILE the URL stands first\n";
@@ -155,11 +158,13 @@ fn is_script(begins_as: Beginning) -> bool
     }
 }
 
-// That there is no file at a path; of a URL, that only files are read.
+// That there is no file at a path; of none, that it is empty; of a URL, that only files are read.
 fn missing_text(path: &str) -> &'static str
     ensures { result.now ≡ missing_text path.now }
 {
-    if has_bytes(path.as_bytes(), b"://") {
+    if path.is_empty() {
+        EMPTY
+    } else if has_bytes(path.as_bytes(), b"://") {
         URL
     } else {
         "  there is no such file\n"

@@ -1,9 +1,10 @@
 -- Laws of rewriting a trace over files whose paths give the same bytes whenever they are read: what is written and counted is then
 -- what the maps of these files make of it, however few are remembered and whatever was looked for before, if they are settled and
 -- memory did not run out.
-use Rattle.std.specs.Prelude.{◌≡◌, ◌<◌, ◌+◌, ◌||◌, ℕ, Bool, true, false, List, IfOk, MatchBool, MatchOption, Option, Some, None, Result, Ok, Err, if◌then◌else◌, is_some, length}
+use Rattle.std.specs.Prelude.{◌≡◌, ◌<◌, ◌+◌, ℕ, Bool, true, false, List, IfOk, MatchBool, MatchOption, Option, Some, None, Result, Ok, Err, if◌then◌else◌, is_some, length}
 use Rattle.std.specs.Result.{result_ok}
 use Rattle.std.proofs.Common.{ap, arith, inl, inr, refl, subst, sym, ◌∙◌}
+use Rattle.std.proofs.lemmas.Bool.{or_parts}
 use Rattle.url.specs.Parts.{Parts}
 use Rattle.smap_lines.specs.Editing.{DevicesSeen, devices_seen}
 use Rattle.smap_lines.specs.declared.fault.LineFault.{LineFault}
@@ -176,10 +177,6 @@ module _ {L : Type 0} (Steps : LoadsStep L) (Good : L → Type 0) (load : MapsBy
 
 -- ---- where the maps are settled
 
-or_none : (x y : Bool) → (x || y) ≡ false → (x ≡ false) × (y ≡ false)
-or_none true y none = cc
-or_none false y none = (refl, none)
-
 module _ (Reads : MayRead) (Causes : MayCause) (paths : Bool) (base : Option Parts) (k number : ℕ) (bytes_at : BytesByPath)
     (same : ReadsSame Reads number bytes_at) where
   abbrev load : MapsByPath
@@ -216,7 +213,7 @@ module _ (Reads : MayRead) (Causes : MayCause) (paths : Bool) (base : Option Par
       let status = loads.2.status in
       absurd (fails_reported why url path loads.0 loads.1 (omega (arith, status, silent)))
   loads_settled old new url path (Err why) loads (inr (fails, all)) =
-      let none = or_none old.lost (is_lost why) (sym loads.2.lost ∙ all) in
+      let none = or_parts old.lost (is_lost why) (sym loads.2.lost ∙ all) in
       (inr (fails, none.0), sym (fails_none fails why url path loads.1.0 none.1))
   loads_settled old new url path (Ok (stated, file_bytes)) loads settled =
       let (bytes, read, many, is) = loads.1.0 in

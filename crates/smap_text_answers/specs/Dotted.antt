@@ -1,6 +1,6 @@
 -- What is said of a pattern that is not what it looks like (this project's own): `*.js` has no file that is called `app.js`, since a
--- pattern begins where a name does.
-use Rattle.std.specs.Prelude.{◌≡◌, ℕ, ◌&&◌, Bool, List, MatchBool, codes, not}
+-- pattern begins where a name does; and of `**/app.js` only the first `*` stands for other text.
+use Rattle.std.specs.Prelude.{◌≡◌, ℕ, ◌==◌, ◌&&◌, Bool, List, MatchBool, codes, drop, not}
 use Rattle.std.specs.Bool.{nat_eq}
 use Rattle.std.specs.List.{list_any, starts_with}
 use Rattle.smap_io.specs.Device.{SinkSeen}
@@ -14,9 +14,17 @@ is_dotted url = starts_with nat_eq url (codes "*.") && not (list_any is_separato
 abbrev pub dotted_line : List ℕ
 dotted_line = codes "a pattern such as *.js has only files that are called .js: *app.js has app.js, and * alone has each URL\n"
 
--- that is said once where one of these arguments is such a pattern
-abbrev pub TellsDotted : List (List ℕ × List ℕ) → (before after : SinkSeen) → Type 0
-TellsDotted arguments before after = MatchBool (list_any (λ a. is_dotted a.0) arguments) (IsReportedTo before after dotted_line) (after ≡ before)
+-- a URL or a pattern has a `*` behind its first byte
+abbrev pub is_starred : (url : List ℕ) → Bool
+is_starred url = list_any (λ byte. byte == 42) (drop 1 url)
+
+abbrev pub starred_line : List ℕ
+starred_line = codes "a * stands for other text only as the first character: not **/app.js, but *app.js has each app.js\n"
+
+-- the first of these that one of the arguments wants is said once
+abbrev pub TellsPatterns : List (List ℕ × List ℕ) → (before after : SinkSeen) → Type 0
+TellsPatterns arguments before after = MatchBool (list_any (λ a. is_dotted a.0) arguments) (IsReportedTo before after dotted_line)
+    (MatchBool (list_any (λ a. is_starred a.0) arguments) (IsReportedTo before after starred_line) (after ≡ before))
 
 -- the streams where standard error shows this
 abbrev pub with_errors : SinkSeen → Streams → Streams

@@ -15,7 +15,7 @@ use Rattle.smap_text_answers.specs.NamedLocating.{AnswersNames, AnswersNamesFron
 use Rattle.smap_text_answers.specs.Names.{Programs}
 use Rattle.smap_text_answers.specs.Request.{bytes_for_names}
 use Rattle.smap_trace.specs.Rewriting.{Looked}
-use Rattle.smap_text_answers.specs.Dotted.{TellsDotted, with_errors}
+use Rattle.smap_text_answers.specs.Dotted.{TellsPatterns, with_errors}
 use Rattle.smap_text_answers.specs.AnswersOfFiles.{AnswersAll, AnswersLine}
 use Rattle.smap_text_answers.specs.Locating.{BecomesAnswer, LocateStep}
 use Rattle.smap_text_answers.specs.declared.storing.StoreEnd.{StoreEnd}
@@ -103,7 +103,7 @@ abbrev pub LocatesOver : MayRead → MayCause → Locate → Result MapSources R
 LocatesOver Reads Causes asked (Err refused) status before after = (after.input ≡ before.input) × Ends refused status before.sinks after.sinks
 LocatesOver Reads Causes asked (Ok sources) status before after =
     (end : StoreEnd LineCounts) × (warned : SinkSeen) × (told : ToldSeen) × (between : Streams) × (stood : Sinks) × (ended : ℕ) × (listing : ℕ)
-    × TellsDotted (map argument_of asked.maps.items) before.sinks.errors warned
+    × TellsPatterns (map argument_of asked.maps.items) before.sinks.errors warned
     × IsLocatedOverStore Reads Causes asked sources end told (with_errors warned before) between
     × AnswersByPath Reads asked sources end (with_errors warned before) between × (after.input ≡ between.input)
     × EndsStore end false ended between.sinks stood

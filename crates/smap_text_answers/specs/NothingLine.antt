@@ -1,4 +1,5 @@
--- What is said at the end of a text that named no URL: no line is a frame, or there is no place, and why (this project's own).
+-- What is said at the end of a text that named no URL: it is empty, no line is a frame, or there is no place, and why (this
+-- project's own).
 use Rattle.std.specs.Prelude.{ℕ, ◌==◌, ◌&&◌, Bool, List, [], ◌∷◌, ◌++◌, Option, Some, None, codes, if◌then◌else◌, nat_lt, take}
 use Rattle.std.specs.Fmt.{decimal}
 use Rattle.std.specs.List.{concat}
@@ -64,5 +65,11 @@ no_frame_line arguments counts = codes "no line is a frame: " ++ cause_or (packe
 abbrev pub no_place_line : List ℕ
 no_place_line = codes "no place was found: a place is a URL of an argument before :LINE:COLUMN; UTF-16 and what is compressed are to be converted first, and a line and a column that stand apart are for smap locate\n"
 
+-- ---- or nothing at all
+
+abbrev pub empty_line : List ℕ
+empty_line = codes "the text is empty\n"
+
 abbrev pub nothing_line : (anywhere : Bool) → (arguments : List (List ℕ × List ℕ)) → RewriteCounts → List ℕ
-nothing_line anywhere arguments counts = if anywhere then no_place_line else no_frame_line arguments counts
+nothing_line anywhere arguments counts = if counts.summary.lines == 0 then empty_line
+    else (if anywhere then no_place_line else no_frame_line arguments counts)

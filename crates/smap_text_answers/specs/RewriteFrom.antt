@@ -27,7 +27,7 @@ use Rattle.smap_trace.specs.MapsOf.{MapsByUrl, RewritesBy}
 use Rattle.smap_trace.specs.Noted.{nothing_noted}
 use Rattle.smap_trace.specs.Passed.{PlaceCount}
 use Rattle.smap_trace.specs.UrlNotes.{NotesSeen}
-use Rattle.smap_text_answers.specs.Dotted.{TellsDotted, with_errors}
+use Rattle.smap_text_answers.specs.Dotted.{TellsPatterns, with_errors}
 use Rattle.smap_text_answers.specs.Fitting.{Compares}
 use Rattle.smap_text_answers.specs.Lines.{counted_text}
 use Rattle.smap_text_answers.specs.Names.{Programs}
@@ -214,9 +214,9 @@ is_as_it_was request counts =
     not request.explain && ((nat_lt 0 counts.summary.lines && (counts.summary.mapped == 0 && counts.summary.hidden == 0))
     && (nat_lt 0 counts.summary.frames || not (has_passed counts)))
 
--- what takes the places that were passed over
+-- what takes the places that were passed over, some of which stand beside frames
 abbrev pub passed_line : List ℕ
-passed_line = codes "smap rewrite --anywhere takes places in lines that are no frames\n"
+passed_line = codes "smap rewrite --anywhere takes places anywhere in a line\n"
 
 -- how many frames there were, or places anywhere, and what says why
 abbrev pub none_mapped_line : (anywhere : Bool) → RewriteCounts → List ℕ
@@ -253,7 +253,7 @@ RewritesCompared Reads Causes base k request sources (Ok compared) status before
     (end : StoreEnd RewriteCounts) × (notes : NotesSeen) × (others : NotesSeen) × (warned : SinkSeen) × (told : ToldSeen) × (between : Streams) × (stood : Sinks)
     × (listed : SinkSeen) × (fitted : SinkSeen) × (summed : SinkSeen) × (named : SinkSeen) × (refused : Sinks) × (ended : ℕ) × (listing : ℕ) × (fitting : ℕ)
     × (summing : ℕ) × (said : ℕ) × (needed : ℕ) × (reported : ℕ) × (hinted : ℕ)
-    × TellsDotted request.arguments before.sinks.errors warned
+    × TellsPatterns request.arguments before.sinks.errors warned
     × IsTextOverStore Reads Causes base k request sources end compared notes others told (with_errors warned before) between
     × AnswersByPath Reads base k request sources end (with_errors warned before) between × (after.input ≡ between.input) × EndsStore end request.missing_ok ended between.sinks stood
     × TellsLines told end.result listing stood.errors listed

@@ -14,8 +14,8 @@ use smap_replies::{DONE, FAILED, FileReader, NO_MEMORY, print_error};
 use smap_trace::{RewriteCounts, UrlNotes};
 use std::alloc::{AllocError, Global};
 
-// What takes the places of lines that are no frames.
-const PASSED: &str = "smap rewrite --anywhere takes places in lines that are no frames\n";
+// What takes the places that were passed over, some of which stand beside frames.
+const PASSED: &str = "smap rewrite --anywhere takes places anywhere in a line\n";
 
 /// Reports what was done, where that is asked, or that memory ran out for it; and gives the status of that.
 pub fn sum_up<F: FileReader, E: ByteSink>(

@@ -5,7 +5,7 @@ ghost use Rattle.smap_text_answers.specs.Locate.{EndsLocating, RunsLocate, all_b
 ghost use Rattle.smap_text_answers.specs.StoreRun.{store_of};
 ghost use Rattle.smap_text_answers.specs.Told.{nothing_told, told_seen};
 
-use crate::dotted::tell_dotted;
+use crate::dotted::tell_patterns;
 use crate::loader::FileLoader;
 use crate::locating_named::locate_named;
 use crate::locator::Locator;
@@ -49,7 +49,7 @@ pub fn answer_locate<F: FileReader, R: ByteSource, W: ByteSink, E: ByteSink>(
     match sources_of(alloc, &maps, asked.paths, false, &asked.maps, list) {
         Ok(sources) => {
             let arguments: &[(String, String)] = &asked.maps;
-            tell_dotted(arguments, errors);
+            tell_patterns(arguments, errors);
             let store = StoreRun {
                 maps: &maps,
                 paths: asked.paths,

@@ -1,9 +1,9 @@
 //! Which argument is nearest to a URL that none has.
 ghost use Rattle.std.specs.Prelude.{◌≡◌, length, map, min, option_copied, option_map};
 ghost use Rattle.smap_replies.specs.Arguments.{argument_of};
-ghost use Rattle.smap_text_answers.specs.NearestUrl.{common_ending, front_ending, nearer, nearest_of, shared, shared_so_far};
+ghost use Rattle.smap_text_answers.specs.NearestUrl.{common_ending, file_ending, front_ending, nearer, nearest_of, shared, shared_so_far};
 
-use smap_locations::is_folder;
+use smap_locations::{is_folder, without_query};
 
 // How many bytes of a URL are compared with the prefix of a folder.
 const MOST_FRONT_BYTES: usize = 1024;
@@ -57,8 +57,15 @@ fn shared(url: &[u8], argument: &(String, String)) -> usize
     if is_folder(path.as_bytes()) {
         front_ending(url, name.as_bytes())
     } else {
-        common_ending(url, name.as_bytes())
+        file_ending(url, name.as_bytes())
     }
+}
+
+// How long the longer ending is that a URL and that of a file share, as they stand or both without a query and a fragment.
+fn file_ending(url: &[u8], name: &[u8]) -> usize
+    ensures { result ≡ file_ending url.now name.now }
+{
+    common_ending(url, name).max(common_ending(without_query(url), without_query(name)))
 }
 
 // How long the longest ending is that a front of a URL shares with a prefix.

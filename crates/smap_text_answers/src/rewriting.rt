@@ -9,7 +9,7 @@ ghost use Rattle.smap_text_answers.specs.Fitting.{Compares};
 ghost use Rattle.smap_text_answers.specs.Private.Fitting.{compared};
 ghost use Rattle.smap_text_answers.specs.Sources.{GathersSources};
 
-use crate::dotted::tell_dotted;
+use crate::dotted::tell_patterns;
 use crate::ending::{hint, sum_up};
 use crate::fitting::compare_words;
 use crate::request::TextRequest;
@@ -116,7 +116,7 @@ fn rewrite_compared<F: FileReader, R: ByteSource, W: ByteSink, E: ByteSink>(
         (streams_seen (R.seen input.old) (W.seen output.old) (E.seen errors.old) first.old)
         (streams_seen (R.seen input.new) (W.seen output.new) (E.seen errors.new) first.new) }
 {
-    tell_dotted(request.arguments, errors);
+    tell_patterns(request.arguments, errors);
     let store = StoreRun {
         maps: request.maps,
         paths: request.options.paths,

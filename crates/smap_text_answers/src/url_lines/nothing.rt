@@ -15,9 +15,11 @@ const USUAL: &str =
 const NO_PLACE: &str =
     "no place was found: a place is a URL of an argument before :LINE:COLUMN; UTF-16 and what is compressed are to be converted first, and a line and a column that stand apart are for smap locate\n";
 
+const EMPTY: &str = "the text is empty\n";
+
 const URLS: &str = "the URLs of the arguments stand here ";
 
-/// That no line is a frame, and why; or that there is no place.
+/// That the text is empty; or that no line is a frame, and why; or that there is no place.
 pub fn nothing_line(
     alloc: Global,
     anywhere: bool,
@@ -27,6 +29,9 @@ pub fn nothing_line(
     ensures { IfOk result (λ line.
         line.items ≡ nothing_line anywhere (map argument_of arguments.now) counts.now) }
 {
+    if counts.summary.lines == 0 {
+        return Vec::from_slice(alloc, EMPTY.as_bytes());
+    }
     if anywhere {
         return Vec::from_slice(alloc, NO_PLACE.as_bytes());
     }

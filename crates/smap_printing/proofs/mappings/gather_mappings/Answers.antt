@@ -1,7 +1,7 @@
 use Rattle.std.proofs.Common.{◌≡◌, [], ◌++◌, rules, sym, ap, subst, ◌∙◌, append_assoc, append-nil}
 use Rattle.smap_mappings.specs.Order.{IsInOrder}
 use Rattle.smap_index.specs.Parts.{joined}
-use Rattle.smap_index.proofs.ListLaws.{tail_in_order}
+use Rattle.smap_mappings.specs.Laws.Order.{tail_in_order}
 use Rattle.smap_printing.specs.Mappings.{mappings_text, printed_mappings}
 use Rattle.smap_printing.specs.Private.GatheredLine.{Gathers, gathers_both, gathers_none}
 use Rattle.smap_printing.proofs.PrintedLaws.{none_past, printed_first}

@@ -6,7 +6,7 @@ use Rattle.smap_printing.proofs.mappings.put_mappings.Goals as goal
 
 pub returns : goal.returns
 returns g c =
-    let both = gathers_both g.W.ByteSink.seen _ _ _ _ _ c.gather_mappings.ensures c.put_debug_id.ensures in
+    let both = gathers_both g.W.ByteSink.seen _ _ _ _ _ c.gather_asked.ensures c.put_debug_id.ensures in
     let same = sym (c.hand_on.ensures.same.same ∙ both.same) in
     let lines = both.puts c.args.output.now [] ([], puts_none c.args.output.now, sym c.new.ensures) in
     let handed = rw append-nil at (c.hand_on.ensures.same.puts c.args.output.now _ lines) in
