@@ -1,5 +1,5 @@
 -- Each code stands among all of them.
-use Rattle.std.proofs.Common.{◌≡◌, arith, refl}
+use Rattle.std.proofs.Common.{arith, refl}
 use Rattle.std.specs.List.{Contains}
 use Rattle.smap_codes.specs.Codes.{all_codes}
 use Rattle.smap_codes.specs.declared.code.Code.{Code}

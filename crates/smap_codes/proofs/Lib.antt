@@ -1,1 +1,2 @@
 pub mod AllLaws
+mod ToldLaws

@@ -3,8 +3,8 @@
 //!
 //! ```text
 //! print(refusal.code().text());
-//! if let Some(code) = code_called("M14") {
-//!     print(code_text(alloc, row_of(code))?);
+//! if let Some(known) = called_text(alloc, "M14")? {
+//!     print(known);
 //! }
 //! ```
 #![tactic(auto)]
@@ -23,4 +23,4 @@ mod writing_codes;
 pub use code::{Code, all};
 pub use row::{Row, code_text};
 pub use table::row_of;
-pub use word::{all_codes_text, code_called};
+pub use word::{all_codes_text, called_text};

@@ -1,56 +1,54 @@
-//! The code that a word calls, and how all codes are called.
-ghost use Rattle.std.specs.Prelude.{◌≡◌, find, flat_map, option_copied, string_bytes, IfOk};
-ghost use Rattle.smap_codes.specs.Codes.{all_codes, label_of, name_of};
-ghost use Rattle.smap_codes.specs.Texts.{title_line};
-ghost use Rattle.smap_codes.specs.Words.{called_among, code_called, same_letters};
+//! The codes that a word calls, and how all codes are called.
+ghost use Rattle.std.specs.Prelude.{◌≡◌, flat_map, option_map, string_bytes, IfOk};
+ghost use Rattle.std.specs.List.{filter};
+ghost use Rattle.smap_codes.specs.Codes.{all_codes};
+ghost use Rattle.smap_codes.specs.Texts.{TellsOf, title_line};
+ghost use Rattle.smap_codes.specs.Words.{codes_called, is_called, same_letters};
 
 use crate::code::{Code, all};
+use crate::row::code_text;
+use crate::table::row_of;
 use std::alloc::{AllocError, Global};
 
-/// The code whose label this is, whatever the case of its ASCII letters; where there is none, the first whose name it is.
-pub fn code_called(word: &str) -> Option<Code>
-    ensures { result ≡ code_called word.now }
+/// All that is to be known of each code whose label or whose name this is, in the order of `all`; where it is that of none, of
+/// each where it is whatever the case of its ASCII letters; `None` where that is none.
+pub fn called_text(alloc: Global, word: &str) -> Result<Option<String>, AllocError>
+    ensures { IfOk result (λ told.
+        TellsOf (codes_called word.now) (option_map (λ text. string_bytes text) told)) }
 {
-    called_among(word, all())
-}
-
-// The same among these codes.
-fn called_among(word: &str, among: &[Code]) -> Option<Code>
-    ensures { result ≡ called_among word.now among.now }
-{
-    match labelled_among(word, among) {
-        Some(code) => Some(*code),
-        None => named_among(word, among).copied(),
+    match told(alloc, word, true)? {
+        Some(text) => Ok(Some(text)),
+        None => told(alloc, word, false),
     }
 }
 
-// The first of these codes whose label this is.
-fn labelled_among<'a>(word: &str, among: &'a [Code]) -> Option<&'a Code>
-    ensures { option_copied result
-        ≡ find (λ code. same_letters word.now (label_of code)) among.now }
+// The same, by the word as it is or whatever the case of its letters.
+fn told(alloc: Global, word: &str, exactly: bool) -> Result<Option<String>, AllocError>
+    ensures { IfOk result (λ told. TellsOf (filter (is_called exactly word.now) all_codes)
+        (option_map (λ text. string_bytes text) told)) }
 {
-    among.iter().find(|code| is_labelled(word, code))
+    let codes = all();
+    let mut text = String::new(alloc);
+    let mut is_known = false;
+    for code in codes {
+        if is_called(*code, word, exactly) {
+            let known = code_text(alloc, row_of(*code))?;
+            text.push_str(&known)?;
+            is_known = true;
+        }
+    }
+    if is_known { Ok(Some(text)) } else { Ok(None) }
 }
 
-// The first of these codes whose name this is.
-fn named_among<'a>(word: &str, among: &'a [Code]) -> Option<&'a Code>
-    ensures { option_copied result ≡ find (λ code. same_letters word.now (name_of code)) among.now }
+// Whether this is the label or the name of a code.
+fn is_called(code: Code, word: &str, exactly: bool) -> bool
+    ensures { result ≡ is_called exactly word.now code }
 {
-    among.iter().find(|code| is_named(word, code))
-}
-
-// Whether this is the label of a code.
-fn is_labelled(word: &str, code: &Code) -> bool
-    ensures { result ≡ same_letters word.now (label_of code.now) }
-{
-    same_letters(word, code.label())
-}
-
-// Whether this is its name.
-fn is_named(word: &str, code: &Code) -> bool
-    ensures { result ≡ same_letters word.now (name_of code.now) }
-{
-    same_letters(word, code.name())
+    if exactly {
+        word == code.label() || word == code.name()
+    } else {
+        same_letters(word, code.label()) || same_letters(word, code.name())
+    }
 }
 
 // Whether the words differ in the case of ASCII letters at most.

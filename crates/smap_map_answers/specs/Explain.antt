@@ -1,8 +1,7 @@
 -- What `explain` prints of a code.
 use Rattle.std.specs.Prelude.{◌≡◌, ◌++◌, ◌∷◌, ℕ, codes, flat_map, List, None, Option, Some}
-use Rattle.smap_codes.specs.Texts.{code_text, title_line}
-use Rattle.smap_codes.specs.Words.{code_called}
-use Rattle.smap_codes.specs.declared.row.Row.{Row}
+use Rattle.smap_codes.specs.Texts.{TellsOf, title_line}
+use Rattle.smap_codes.specs.Words.{codes_called}
 use Rattle.smap_codes.specs.Codes.{all_codes}
 use Rattle.smap_codes.specs.declared.code.Code.{Code}
 use Rattle.smap_text.specs.Shown.{shown}
@@ -16,12 +15,16 @@ all_titles = flat_map title_line all_codes
 abbrev pub no_code_text : (word : List ℕ) → List ℕ
 no_code_text word = codes "refused: no code " ++ (shown word ++ (10 ∷ all_titles))
 
--- the code that is called so is reported, or that there is none, and which there are
-abbrev pub ReportsCalled : (word : List ℕ) → Option Code → Report → Type 0
-ReportsCalled word None report = report ≡ refusal None (no_code_text word)
-ReportsCalled word (Some code) report = (row : Row) × (row.code ≡ code) × (report ≡ answer (code_text row))
+-- what is told of the codes that are called so, or that there is none, and which there are
+abbrev pub report_told : (word : List ℕ) → (told : Option (List ℕ)) → Report
+report_told word None = refusal None (no_code_text word)
+report_told word (Some text) = answer text
+
+-- these codes are reported
+abbrev pub ReportsCalled : (word : List ℕ) → List Code → Report → Type 0
+ReportsCalled word codes report = (told : Option (List ℕ)) × TellsOf codes told × (report ≡ report_told word told)
 
 -- a word is looked for; without one all codes are reported
 abbrev pub ReportsCode : Option (List ℕ) → Report → Type 0
 ReportsCode None report = report ≡ answer all_titles
-ReportsCode (Some word) report = ReportsCalled word (code_called word) report
+ReportsCode (Some word) report = ReportsCalled word (codes_called word) report

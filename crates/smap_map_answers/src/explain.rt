@@ -2,15 +2,16 @@
 ghost use Rattle.std.specs.Prelude.{◌≡◌, option_map, string_bytes, IfOk};
 ghost use Rattle.smap_map_answers.specs.Explain.{ReportsCalled, ReportsCode, no_code_text};
 ghost use Rattle.smap_replies.specs.Outcome.{OrMemory, report_of};
-ghost use Rattle.smap_codes.specs.Words.{code_called};
+ghost use Rattle.smap_codes.specs.Words.{codes_called};
 
-use smap_codes::{all_codes_text, code_called, code_text, row_of};
+use smap_codes::{all_codes_text, called_text};
 use smap_command::Explain;
 use smap_replies::{Failure, Reply};
 use smap_text::shown;
 use std::alloc::{AllocError, Global};
 
-/// What the code or the name means, what usually causes it and what to do about it; without one, how all codes are called.
+/// What the code means, or each code of that name, what usually causes it and what to do about it; without one, how all codes
+/// are called.
 pub fn answer_explain(alloc: Global, asked: &Explain) -> Result<Reply, Failure>
     ensures { OrMemory (ReportsCode (option_map string_bytes asked.now.code)) (report_of result) }
 {
@@ -20,13 +21,13 @@ pub fn answer_explain(alloc: Global, asked: &Explain) -> Result<Reply, Failure>
     }
 }
 
-// What the code or the name means; where there is none, which there are.
+// What each code means that the word calls; where there is none, which there are.
 fn answer_word(alloc: Global, word: &str) -> Result<Reply, Failure>
-    ensures { OrMemory (ReportsCalled word.now (code_called word.now))
+    ensures { OrMemory (ReportsCalled word.now (codes_called word.now))
         (report_of result) }
 {
-    match code_called(word) {
-        Some(code) => Ok(Reply::Text(code_text(alloc, row_of(code))?)),
+    match called_text(alloc, word)? {
+        Some(text) => Ok(Reply::Text(text)),
         None => {
             let line = no_code_text(alloc, word)?;
             Err(Failure::Refusal { code: None, line })
