@@ -12,3 +12,4 @@ mod CountedLaws
 mod ByteLaws
 mod SegmentLaws
 mod RowLaws
+mod WordTable

@@ -44,35 +44,14 @@ impl<'a> LinePlace<'a> {
             → IsLeft whole self.old.column self.old.before (chars self.old.left.now)
             → option_map (λ text. chars text) (option_copied result.text) ≡ left_on whole column }
     {
-        while self.column < column {
-            let Some((character, left)) = split_character(self.left) else {
-                return Spot {
-                    standing: Standing::PastText,
-                    text: None,
-                };
-            };
-            let units = units_of(character);
-            if column - self.column < units {
-                return Spot {
-                    standing: Standing::InsideWord,
-                    text: None,
-                };
-            }
-            self.column += units;
-            self.before = Some(character);
-            self.left = left;
-        }
-        if self.goes_on() {
-            Spot {
-                standing: Standing::InsideWord,
-                text: Some(self.left),
-            }
-        } else {
-            Spot {
-                standing: Standing::Fits,
-                text: Some(self.left),
-            }
-        }
+        let here = LinePlace {
+            column: self.column,
+            before: self.before,
+            left: self.left,
+        };
+        let (here, spot) = walked(here, column);
+        *self = here;
+        spot
     }
 
     // Whether a word goes on from the character before the place to the one at it.
@@ -86,6 +65,57 @@ impl<'a> LinePlace<'a> {
             return false;
         };
         is_word_character(before) && is_word_character(next) && !is_substitution(next, behind)
+    }
+}
+
+// The place of a column that is not before this place, or the last before it that there is, and how the column stands. (It is
+// given the place itself, so that a walk keeps it at hand.)
+#[inline(always)]
+fn walked<'a>(mut here: LinePlace<'a>, column: u32) -> (LinePlace<'a>, Spot<'a>)
+    requires { here.column ≤ column }
+    ensures column { result.0.column ≤ column }
+    ensures left { (whole : List ℕ)
+        → IsLeft whole here.entry.column here.entry.before (chars here.entry.left.now)
+        → IsLeft whole result.0.column result.0.before (chars result.0.left.now) }
+    ensures standing { (whole : List ℕ)
+        → IsLeft whole here.entry.column here.entry.before (chars here.entry.left.now)
+        → result.1.standing ≡ standing_on None whole column }
+    ensures text { (whole : List ℕ)
+        → IsLeft whole here.entry.column here.entry.before (chars here.entry.left.now)
+        → option_map (λ text. chars text) (option_copied result.1.text) ≡ left_on whole column }
+{
+    while here.column < column {
+        let Some((character, left)) = split_character(here.left) else {
+            let spot = Spot {
+                standing: Standing::PastText,
+                text: None,
+            };
+            return (here, spot);
+        };
+        let units = units_of(character);
+        if column - here.column < units {
+            let spot = Spot {
+                standing: Standing::InsideWord,
+                text: None,
+            };
+            return (here, spot);
+        }
+        here.column += units;
+        here.before = Some(character);
+        here.left = left;
+    }
+    if here.goes_on() {
+        let spot = Spot {
+            standing: Standing::InsideWord,
+            text: Some(here.left),
+        };
+        (here, spot)
+    } else {
+        let spot = Spot {
+            standing: Standing::Fits,
+            text: Some(here.left),
+        };
+        (here, spot)
     }
 }
 

@@ -6,8 +6,35 @@ ghost use Rattle.smap_fit.specs.Words.{begin_alike, is_category_of_words, is_wor
 use crate::characters::split_character;
 use ucd_category::{GeneralCategory, GeneralCategoryGroup};
 
+// Of each character of ASCII, whether it is one of a word. A table, so that it costs one look-up.
+const ASCII_WORDS: [bool; 128] = [
+    false, false, false, false, false, false, false, false, false, false, false, false, false,
+    false, false, false, false, false, false, false, false, false, false, false, false, false,
+    false, false, false, false, false, false, false, false, false, false, true, false, false,
+    false, false, false, false, false, false, false, false, false, true, true, true, true, true,
+    true, true, true, true, true, false, false, false, false, false, false, false, true, true,
+    true, true, true, true, true, true, true, true, true, true, true, true, true, true, true, true,
+    true, true, true, true, true, true, true, true, false, false, false, false, true, false, true,
+    true, true, true, true, true, true, true, true, true, true, true, true, true, true, true, true,
+    true, true, true, true, true, true, true, true, true, false, false, false, false, false,
+];
+
 /// Whether a character is one of a word: a letter, a mark or a digit of Unicode, `_`, `$`, or one of the two joiners.
+#[inline(always)]
+#[tactic(auto, using(crate::proofs::WordTable::word_of_ascii_is))]
 pub fn is_word_character(character: char) -> bool
+    ensures { result ≡ is_word_character character }
+{
+    let code = character as u32;
+    if code < 128 {
+        ASCII_WORDS[code as usize]
+    } else {
+        is_of_words(character)
+    }
+}
+
+// The same, by its category.
+fn is_of_words(character: char) -> bool
     ensures { result ≡ is_word_character character }
 {
     matches!(character, '_' | '$' | '\u{200C}' | '\u{200D}')
