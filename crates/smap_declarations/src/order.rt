@@ -47,7 +47,7 @@ fn name_order(first: &[u8], second: &[u8]) -> Ordering
     }
 }
 
-// The same of names that have these keys. Where a key has all bytes of two names of one length, it tells whether they differ.
+// The same of names that have these keys. Where a key holds all of two names of one length, it tells whether they differ.
 #[inline(always)]
 fn keyed_order(first: &[u8], key: u64, second: &[u8], other: u64) -> Ordering
     requires first { IsKey first.now key }

@@ -80,8 +80,8 @@ pub fn places_stay_in_strings()
     ensures between { (known : UrlsKnown) → AreForStrings known →
         (state : InString) (line : List ℕ) → BeginsAnew state line →
         All (StandsBetween state line) (places_in known line (seen_of line)) }
-    ensures frames { (known : UrlsKnown) → AreForStrings known → (state : InString) (line : List ℕ) →
-        All (HasFrame known state line) (places_in known line (seen_of line)) }
+    ensures frames { (known : UrlsKnown) → AreForStrings known →
+        (state : InString) (line : List ℕ) → All (HasFrame known state line) (places_in known line (seen_of line)) }
     ensures quotation_marks { (known : UrlsKnown) → AreForStrings known → (line : List ℕ) →
         All (IsWithoutQuotationMark known line) (places_in known line (seen_of line)) }
 {}

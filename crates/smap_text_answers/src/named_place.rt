@@ -15,8 +15,8 @@ pub struct NamedPlace<'a> {
     pub function: Option<&'a str>,
 }
 
-/// The place that a line, without its LF, asks for, and behind the last TAB that does not stand before it the function, up to
-/// the end of the line or a CR there. It is UTF-8, and may be empty. The call takes no memory.
+/// The place that a line, without its LF, asks for, and behind the last TAB that does not stand before it the function, up
+/// to the end of the line or a CR there. It is UTF-8, and may be empty. The call takes no memory.
 #[tactic(auto, unfolding(crate::specs::NamedPlace::named_place_of))]
 pub fn read_named_place(line: &[u8]) -> Option<NamedPlace<'_>>
     ensures { option_map named_place_seen result ≡ named_place_of line.now }
