@@ -406,7 +406,7 @@ uint32_t smap_bytes_text(smap_bytes *bytes, smap_text *text);
 /* Frees bytes that were handed out, and leaves their handle empty. */
 void smap_bytes_free(smap_bytes *bytes);
 
-/* Lends the version of the library, as "0.2.0". It stays. Returns 0. */
+/* Lends the version of the library, as "0.3.0". It stays. Returns 0. */
 uint32_t smap_version(smap_text *version);
 
 /* Makes a table without maps. */

@@ -26,7 +26,7 @@ use crate::help::{
 use clap::{Arg, Command};
 use std::alloc::{AllocError, Global};
 
-const VERSION: &str = "0.2.0";
+const VERSION: &str = "0.3.0";
 
 /// The command line of `smap`. Its lifetime is the caller's, since clap keeps its texts and the arguments under one.
 pub fn command_line<'a>(alloc: Global) -> Result<Command<'a>, AllocError>
