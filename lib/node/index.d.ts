@@ -383,7 +383,8 @@ export interface FolderOptions extends Pick<MapsOptions, 'maxBytes' | 'refused' 
 /** Maps by URL within a bound of memory: what was longest not asked for goes first. A TraceMap that is given stays open. */
 export class Maps {
   constructor(options: MapsOptions);
-  /** Those of URLs with this prefix, which ends in `/`, in a folder: that of PREFIXjs/app.js is js/app.js.map. */
+  /** Those of URLs with this prefix, which ends in `/`, in a folder: that of PREFIXjs/app.js is js/app.js.map. That there is no such
+   * folder is told once. */
   static folder(prefix: string, root: string, options: FolderOptions): Maps;
   maxBytes: number;
   /** For how many bytes what is kept counts, and how many maps are kept. */

@@ -51,20 +51,28 @@ class Maps extends Told {
   }
 
   // The maps of the URLs that begin with this prefix, which ends in `/`, in a folder, as the program has them of `PREFIX=FOLDER/`: that of
-  // PREFIXjs/app.js is js/app.js.map. No URL leads out of the folder. A file that is not there is no map. After `freshFor` seconds a file
-  // is looked at again, and read where it has changed; where that is refused, its map stays.
+  // PREFIXjs/app.js is js/app.js.map. No URL leads out of the folder. A file that is not there is no map; that the folder is not there is
+  // told once. After `freshFor` seconds a file is looked at again, and read where it has changed; where that is refused, its map stays.
   static folder(prefix, root, options) {
     if (!whole(prefix, 'prefix').endsWith('/')) throw new Error('a prefix ends in /');
     const { freshFor, ...words } = given.options(options, 'maxBytes', 'refused', 'paths', 'maxNames', 'retryAfter', 'noneFor', 'freshFor');
     const [front, folder, fresh] = [given.utf8(prefix, '`prefix`'), given.utf8(`${given.text(root, 'root')}/`, '`root`'), given.time(freshFor, 'freshFor', null)];
     const files = new Map();
+    let isTold = false;
     const load = (url) => {
       const name = addon.folderPath(front, folder, Buffer.from(url));
       if (name === null) return null;
       const stamp = fresh === null ? null : stampOf(name);
       files.delete(url);
       if (stamp !== null) files.set(url, { name, stamp, due: performance.now() + fresh });
-      return readFile(name);
+      const bytes = readFile(name);
+      if (bytes === null && !isTold) {
+        // It stays so where there is no folder: then this throws.
+        isTold = true;
+        fs.statSync(folder);
+        isTold = false;
+      }
+      return bytes;
     };
     const maps = new Maps({ ...words, load });
     if (fresh !== null) maps.inner.renews = () => maps.#renew(files, fresh);

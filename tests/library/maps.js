@@ -126,6 +126,18 @@ function folders(folder) {
   insist('wrong ones', ['bad', 'dir'].map((name) => maps.get(urlOf(name))), [null, null]);
   insist('what is kept of them', maps.refusals.map(({ url }) => url), ['bad', 'dir'].map(urlOf));
   raises('no prefix', Error, () => Maps.folder('https://e.test', folder, { maxBytes: 1 }));
+  // A folder that is not there is told once, and no file that one has not.
+  for (const [name, code] of [['none', 'ENOENT'], ['out.map', 'ENOTDIR'], ['maps', undefined]]) {
+    const told = [];
+    for (const refused of [undefined, (url, error) => told.push({ url, error })]) {
+      for (const freshFor of [undefined, 0]) {
+        const none = Maps.folder('https://e.test/', path.join(folder, name), { maxBytes: 1 << 20, refused, freshFor });
+        for (let i = 0; i < 2; i += 1) insist(`a trace over ${name}`, rewrite(none, many).toString(), many);
+        insist('another prefix', none.get('https://other.test/js/a.js'), null);
+        insist(`what is told of ${name}`, (refused ? told.splice(0) : none.refusals).map(({ url, error }) => [url, error.code]), code ? [[urlOf('a'), code]] : []);
+      }
+    }
+  }
 }
 
 function pathsOfMaps(folder) {

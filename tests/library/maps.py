@@ -310,6 +310,19 @@ def folders(folder):
     insist("wrong ones", [maps.get(f"https://e.test/{name}.js") for name in ("bad", "dir")], [None, None])
     insist("what is kept of them", [url for url, _ in maps.refusals], ["https://e.test/bad.js", "https://e.test/dir.js"])
     raises("no prefix", ValueError, Maps.folder, "https://e.test", folder, max_bytes=1)
+    # A folder that is not there is told once, and no file that one has not.
+    trace = "f@https://e.test/x.js:1:1\nf@https://e.test/y.js:1:1\n"
+    for name, errors in (("none", [FileNotFoundError]), ("out.map", [NotADirectoryError]), ("maps", [])):
+        for fresh_for in (None, 0):
+            told = []
+            for refused in (None, lambda *both: told.append(both)):
+                maps = Maps.folder("https://e.test/", folder / name, max_bytes=1 << 20, refused=refused, fresh_for=fresh_for)
+                for _ in range(2):
+                    insist(f"a trace over {name}", maps.rewrite(trace).decode(), trace)
+                insist("another prefix", maps.get("https://other.test/js/a.js"), None)
+                known = told if refused else maps.refusals
+                insist(f"what is told of {name}", [(url, type(error)) for url, error in known], [("https://e.test/x.js", error) for error in errors])
+                insist("what is named", all(str(folder / name) in str(error) for _, error in known), True)
 
 
 TRACE = "Error: x\n    at f (https://e.test/a.js:1:5)\n    at https://e.test/b.js?v=1:1:1\n    at g (https://e.test/none.css:1:1)\n" \

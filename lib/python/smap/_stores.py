@@ -120,15 +120,17 @@ class Maps(Blocking, _Kept):
                max_names: int = _given.NAME_BYTES, retry_after: Seconds = 30.0, none_for: Seconds = None,
                fresh_for: Seconds = None) -> "Maps":
         """The maps of the URLs that begin with this prefix, which ends in `/`, in a folder, as the program has them of `PREFIX=FOLDER/`:
-        that of PREFIXjs/app.js is js/app.js.map. No URL leads out of the folder. A file that is not there is no map. With `fresh_for` a
-        file is looked at again when its map is wanted so many seconds later, and read anew where it changed; where that is refused,
-        the map stays as it was."""
+        that of PREFIXjs/app.js is js/app.js.map. No URL leads out of the folder. A file that is not there is no map; that the folder is
+        not there is told once. With `fresh_for` a file is looked at again when its map is wanted so many seconds later, and read anew
+        where it changed; where that is refused, the map stays as it was."""
         if not _given.whole_url(prefix, "prefix").endswith("/"):
             raise ValueError("a prefix ends in /")
         seen: Dict[str, Tuple[int, object]] = {}
         root_path, wait = os.fspath(root), _given.seconds(fresh_for, "fresh_for")
+        is_told = False
 
         def load(url: str) -> Optional[Given]:
+            nonlocal is_told
             path = _smap.folder_path(prefix, url)
             if path is None:
                 return None
@@ -138,6 +140,11 @@ class Maps(Blocking, _Kept):
                     return file.read(_MOST_FILE + 1)
             except (FileNotFoundError, NotADirectoryError):
                 seen.pop(url, None)
+                if not is_told:
+                    # It stays so where there is no folder: then this raises.
+                    is_told = True
+                    os.stat(os.path.join(root_path or os.curdir, ""))
+                    is_told = False
                 return None
 
         def is_fresh(url: str) -> bool:

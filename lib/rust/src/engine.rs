@@ -65,7 +65,10 @@ pub(crate) fn folder_of(prefix: String, folder: PathBuf) -> Result<Loader, Error
     if !prefix.ends_with('/') || prefix.starts_with('*') {
         return Err(Refused::prefix().into());
     }
-    Ok(reading(move |url| read_in(&folder, &prefix, url)))
+    let mut is_told = false;
+    Ok(reading(move |url| {
+        read_in(&folder, &prefix, url, &mut is_told)
+    }))
 }
 
 impl Engine {

@@ -81,7 +81,8 @@ impl Table {
     /// A table of the maps of the URLs that begin with this prefix, which ends in `/`, in a folder, as the
     /// program has them of `PREFIX=FOLDER/`: that of PREFIXjs/app.js is js/app.js.map. Each is read
     /// when a frame first names its URL, as [`with_loader`](Table::with_loader) says. No URL leads out of
-    /// the folder, and links in it are followed. A file that is not there is no map.
+    /// the folder, and links in it are followed. A file that is not there is no map; that the folder is
+    /// not there is told once.
     ///
     /// ```
     /// use smap::Table;

@@ -2,7 +2,7 @@
 
 use crate::error::Error;
 use crate::library;
-use std::fs::File;
+use std::fs::{self, File};
 use std::io::{self, ErrorKind, Read};
 use std::path::Path;
 
@@ -13,7 +13,13 @@ const MOST_FILE: u64 = 67_108_864;
 const NO_FOLDER: i32 = 20;
 
 /// The bytes of the map that a folder has for a URL with this prefix, or `None` where there is none.
-pub(crate) fn read_in(folder: &Path, prefix: &str, url: &str) -> io::Result<Option<Vec<u8>>> {
+/// That the folder itself is not there is told once.
+pub(crate) fn read_in(
+    folder: &Path,
+    prefix: &str,
+    url: &str,
+    is_told: &mut bool,
+) -> io::Result<Option<Vec<u8>>> {
     let path = match library::path_below(prefix, url) {
         Ok(Some(path)) => folder.join(path),
         Ok(None) => return Ok(None),
@@ -23,8 +29,17 @@ pub(crate) fn read_in(folder: &Path, prefix: &str, url: &str) -> io::Result<Opti
     let mut bytes = Vec::new();
     match File::open(path).and_then(|file| file.take(MOST_FILE + 1).read_to_end(&mut bytes)) {
         Ok(_) => Ok(Some(bytes)),
-        Err(error) if error.kind() == ErrorKind::NotFound => Ok(None),
-        Err(error) if error.raw_os_error() == Some(NO_FOLDER) => Ok(None),
+        Err(error)
+            if error.kind() == ErrorKind::NotFound || error.raw_os_error() == Some(NO_FOLDER) =>
+        {
+            if !*is_told {
+                // It stays so where there is no folder: then this fails.
+                *is_told = true;
+                fs::metadata(folder.join("."))?;
+                *is_told = false;
+            }
+            Ok(None)
+        }
         Err(error) => Err(error),
     }
 }

@@ -236,6 +236,23 @@ fn no_url_leads_out_of_a_folder() {
 }
 
 #[test]
+fn a_folder_that_is_not_there_is_told_once() {
+    let folder = Folder::new("once");
+    folder.put("file", MAP);
+    let urls = ["https://ex.test/a.js", "https://ex.test/js/b.js"];
+    let trace = frames_of(["https://other.test/a.js", urls[0], urls[1]]);
+    for (name, count) in [("none", 1), ("file", 1), ("maps", 0)] {
+        let mut table =
+            Table::with_folder("https://ex.test/", folder.0.join(name)).expect("a table");
+        for _ in 0..2 {
+            assert_eq!(rewritten(&mut table, &trace), (trace.clone(), 0));
+        }
+        let told: Vec<_> = table.refusals().iter().map(|(url, _)| url).collect();
+        assert_eq!(told, &urls[..count]);
+    }
+}
+
+#[test]
 fn a_file_that_is_not_there_is_no_map_and_another_is_told() {
     let folder = Folder::new("told");
     folder.put("maps/file.map", MAP);
