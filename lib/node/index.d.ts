@@ -121,7 +121,7 @@ interface NamesOption {
   maxNames?: number;
 }
 
-/** A checkpoint is made at every `interval`-th segment of a line: 8 in a map below 1 MiB, 64 in a larger one. */
+/** A checkpoint is made at every `interval`-th segment of a line, 1 to 4096: 8 in a map below 1 MiB, 64 in a larger one. */
 export interface ReadOptions extends NamesOption {
   interval?: number;
 }
@@ -157,7 +157,7 @@ export class TraceMap implements SourceMapV3 {
   placeAt(line: number, column: number): Place | null;
   /** Each mapping in its order. */
   mappings(): IterableIterator<EachMapping>;
-  /** The bytes of the generated file by the source that they come from. */
+  /** The bytes of the generated file by the source that they come from. Here and below a text is that of the file, never its path. */
   bytesBySource(generated: string | Uint8Array): BytesBySource;
   /** Whether the map can be that of the generated file. */
   fit(generated: string | Uint8Array): Fit;
@@ -394,6 +394,7 @@ export class Maps {
   readonly counts: TraceCounts | null;
   /** Whether it is known what map this URL has, or that it has none. */
   has(url: string): boolean;
+  /** This, `lookUp` and `context` ask `load`; without it, a map that `loadAsync` has yet to give is an error. */
   get(url: string): TraceMap | null;
   lookUp(url: string, line: number, column: number): Place | null;
   context(url: string, index: number, line: number, before?: number, after?: number): Context | null;

@@ -41,7 +41,7 @@ function read(bytes, base, how, url, orAtNone = false) {
 const SHORT = 16384;
 const shortText = Buffer.allocUnsafeSlow(3 * SHORT);
 function bytesOf(text) {
-  const count = text.length <= SHORT ? shortText.write(text) : 0;
+  const count = text.length <= SHORT && !given.seemsPath(text) ? shortText.write(text) : 0;
   return count === text.length ? shortText.subarray(0, count) : given.mapBytes(text);
 }
 

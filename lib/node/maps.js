@@ -187,7 +187,7 @@ class Maps extends Told {
 
   // Asks `loadAsync`, or `load`, for the maps of these URLs that are not known, so many at once.
   async load(urls) {
-    await this.inner.fill([...urls].map((url) => given.text(url, 'url')));
+    await this.inner.fill(given.texts(urls, 'urls'));
   }
 
   close() {

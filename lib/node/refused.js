@@ -40,11 +40,23 @@ function reason(reported, lines) {
   return { first: text.slice(0, end), value, limit: value < least ? least : most, column, explanation: text.slice(end + 1) || undefined };
 }
 
+// The bytes of texts that look like paths.
+const seemingPaths = new WeakSet();
+
+// These bytes, of a text that looks like a path: what is said of them where they are no JSON says so.
+function seemingPath(bytes) {
+  seemingPaths.add(bytes);
+  return bytes;
+}
+
+const PATH_HINT = '  a text is that of a map: `fs.readFileSync` reads the file at a path\n';
+
 // Why the map of these bytes is refused at this base, by the numbers of the library, and what is known of that.
 function refusedMap(bytes, numbers, base, url, known = () => why(bytes, numbers)) {
   const [code, cause, line, hasSection, section, byte] = numbers;
   if (code === USAGE || code === U1) return new Refused(`the base is ${code === U1 ? 'too long' : 'no URL'}: ${shown(base)}`, code, { url });
   const told = known() || { first: textOf(code) };
+  if (seemingPaths.has(bytes) && label(code) === 'M2') told.explanation = (told.explanation || '') + PATH_HINT;
   return new Refused(`refused: ${url === undefined ? '' : `${url}: `}${told.first}`, code, {
     ...told,
     ...(cause && { cause: label(cause) }),
@@ -76,4 +88,4 @@ function refusedEncoding([code, mapping], numbers) {
   return new Refused(`refused: ${textOf(code)} ${mapping}`, code, { line, value: column, limit, column });
 }
 
-module.exports = { Refused, reason, refusedAs, refusedEncoding, refusedMap, refusedText, refusedUrl };
+module.exports = { Refused, reason, refusedAs, refusedEncoding, refusedMap, refusedText, refusedUrl, seemingPath };

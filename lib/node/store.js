@@ -86,9 +86,11 @@ class Store {
     }
   }
 
-  // Asks `load` for the map under a key; whether it was asked. A map that `stays` is there, and stays where that fails.
+  // Asks `load` for the map under a key; whether it was asked. Where only `loadAsync` could be, that is an error: it is not known whether there
+  // is a map. A map that `stays` is there, and stays where that fails.
   ask(key, tell, stays) {
     const [{ load }, url, puts] = [this, cut(key), this.#puts];
+    if (!load && this.loadAsync) throw new Error('`load` is wanted: it is rewriteAsync, maps.load and streams that ask `loadAsync`');
     if (!load || this.#loading.has(url)) return false;
     this.#loading.add(url);
     try {

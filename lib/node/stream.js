@@ -8,9 +8,10 @@ const { begun, rewritten, rewrittenLater } = require('./texts.js');
 const LF = 10;
 
 // Rewrites what is written to it as `rewrite` does the whole. At most an unfinished line is held back, and of one that can be no frame
-// nothing. What is written is copied, as its writer may use its place again. `counts` are those of all that was written. The table stays
-// the caller's. A map that is not read for an error is an event `refused` with the URL and the error, or else told as the table tells it.
-// Over maps with `loadAsync` what is written is waited for.
+// nothing. What is written is copied, as its writer may use its place again; of a text come the bytes that node makes of it, which are those of
+// U+FFFD for half of a pair of units. `counts` are those of all that was written. The table stays the caller's. A map that is not read for an
+// error is an event `refused` with the URL and the error, or else told as the table tells it. Over maps with `loadAsync` what is written is
+// waited for.
 class RewriteStream extends Transform {
   #table;
   #how;

@@ -46,7 +46,7 @@ class Told {
 // none. What it throws, and why its map is refused, is told to `refused`, or else kept in `refusals`, of which there are 100
 // at most; the frames stay, and it is asked again after a time. A URL that begins with `*` is a pattern: its map is that of each URL that
 // ends with the text behind it, where a piece of the URL begins, with or without query and fragment, if no map is under the URL; of several
-// the longest text decides. With `paths` relative sources go on from the folder of a URL that is an absolute path, as node prints them.
+// the longest text decides: `*app.js` serves all of that name, and `*.js` only what is called `.js`. With `paths` relative sources go on from the folder of a URL that is an absolute path, as node prints them.
 // `maxNames` is for each map that is read here. It is freed as a TraceMap is.
 class Table extends Told {
   constructor(maps, options) {

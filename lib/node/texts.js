@@ -39,7 +39,6 @@ function rewritten(store, rewriting, part, tell) {
   let stop = run.next();
   for (; !stop.done; stop = run.next()) {
     if (store.ask(stop.value, tell)) continue;
-    if (!store.load) throw new Error('`load` is wanted: it is rewriteAsync that asks `loadAsync`');
     // It is the loader itself that rewrites.
     store.putFailed(stop.value, 1);
   }

@@ -17,7 +17,7 @@ const OF_ORIGINAL = 2;
 // Where the generated position comes from: {source, line, column, name}, all null where nothing answers or what answers
 // has no original. A column past the line's end, and Infinity, has the line's last mapping.
 function originalPositionFor(map, { line, column, bias }) {
-  ask(open(map), given.line(line), given.column(column), bias === LEAST_UPPER_BOUND ? 1 : 0);
+  ask(open(map), given.line(line), given.column(column), given.isAfter(bias) ? 1 : 0);
   if (room[3] !== 2) return { source: null, line: null, column: null, name: null };
   // These first: where a text is made, a setter of the user's may look up something else.
   const originalLine = room[6] + 1;
@@ -73,7 +73,7 @@ function AnyMap(map, mapUrl, options) {
 
 // The number of the first source that the map calls so, or else the first of this name, or -1.
 function sourceNumber(map, source) {
-  const index = map.sources.indexOf(source);
+  const index = map.sources.indexOf(given.sourceName(source));
   return index < 0 ? map.resolvedSources.indexOf(source) : index;
 }
 
@@ -90,7 +90,7 @@ const PLACE = 4;
 function generatedPositionFor(map, { source, line, column, bias }) {
   const handle = open(map);
   const index = sourceNumber(map, source);
-  const isAfter = bias === LEAST_UPPER_BOUND;
+  const isAfter = given.isAfter(bias);
   const [line0, column0] = [given.line(line), given.column(column)];
   if (index < 0) return { line: null, column: null };
   room[3] = index;
@@ -105,9 +105,9 @@ function allGeneratedPositionsFor(map, { source, line, column, bias }) {
   const handle = open(map);
   const index = sourceNumber(map, source);
   const [line0, column0] = [given.line(line), given.column(column)];
+  const towards = given.isAfter(bias, true) ? AT_OR_AFTER : AT_OR_BEFORE;
   if (index < 0) return [];
-  const isAfter = !bias || bias === LEAST_UPPER_BOUND;
-  const places = addon.generated(handle, index, line0, column0, isAfter ? AT_OR_AFTER : AT_OR_BEFORE);
+  const places = addon.generated(handle, index, line0, column0, towards);
   return Array.from({ length: places.length / PLACE }, (_, i) => ({ line: places[i * PLACE] + 1, column: places[i * PLACE + 1] }));
 }
 

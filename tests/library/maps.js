@@ -273,7 +273,17 @@ async function waiting() {
   await maps.load([...'abcdefgabc'].map(urlOf));
   insist('how many at once', [most, asked.length, maps.size, maps.refusals.length], [3, 7, 6, 1]);
   insist('a place', maps.lookUp(urlOf('a'), 1, 4), placeIn('https://e.test/a.ts'));
-  insist('one that was not waited for', maps.lookUp(urlOf('x'), 1, 4), null);
+  insist('what failed', maps.lookUp(urlOf('g'), 1, 4), null);
+  insist('what none is asked for', maps.lookUp('[native code]', 1, 4), null);
+  const early = /^Error: `load` is wanted: it is rewriteAsync, maps\.load and streams that ask `loadAsync`$/;
+  for (const call of [() => maps.lookUp(urlOf('x'), 1, 4), () => maps.get(urlOf('x')), () => maps.context(urlOf('x'), 0, 1), () => rewrite(maps, trace.replace('/a.', '/x.'))]) {
+    raises('one that was not waited for', early, call);
+  }
+  insist('what is known of it', [maps.has(urlOf('x')), asked.length], [false, 7]);
+  for (const bad of ['https://e.test/a.js', 7, null, undefined, {}, [urlOf('a'), 7]]) await assert.rejects(maps.load(bad), TypeError);
+  insist('of which none is asked for', [asked.length, maps.refusals.length], [7, 1]);
+  await maps.load(new Set([urlOf('x')]));
+  insist('one that was', maps.lookUp(urlOf('x'), 1, 4), placeIn('https://e.test/x.ts'));
   for (const maxBytes of [1 << 20, 600, 0]) {
     const some = new Maps({ loadAsync, maxBytes });
     raises('without waiting', Error, () => rewrite(some, trace));

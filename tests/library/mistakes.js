@@ -49,6 +49,8 @@ function places() {
   same(ask(1, 3), first);
   same(ask(1, 3, smap.LEAST_UPPER_BOUND), last);
   same(ask(1, -0), first);
+  for (const bias of [undefined, null]) same(ask(1, 3, bias), first);
+  for (const bias of ['x', '-1', 0, -2, false]) refuses('TypeError', () => ask(1, 3, bias), /^`bias` must be GREATEST_LOWER_BOUND or LEAST_UPPER_BOUND$/);
   same(ask(3, Infinity), nothing);
   for (const line of [0, -0, -1, -far, -far + 1, -Infinity]) refuses('Error', () => ask(line, 0), /`line` must be greater than 0/);
   for (const column of [-1, -far, -far + 3, -Infinity]) {
@@ -58,6 +60,7 @@ function places() {
     refuses('TypeError', () => ask(other, 0), /`line` must be a whole number/);
     refuses('TypeError', () => ask(1, other), /`column` must be a whole number/);
   }
+  refuses('TypeError', () => ask(undefined, 0), '`line` must be a whole number, and not undefined');
   for (const other of [undefined, null, 7, {}, addon, small]) {
     refuses('TypeError', () => smap.originalPositionFor(other, { line: 1, column: 0 }), /TraceMap/);
   }
@@ -141,7 +144,7 @@ function reasons() {
   const sources = '  `sources` is the number 7, and the key must hold a list of texts and nulls, at most 33,554,432 in the file';
   refuses('Refused', () => new smap.TraceMap('{"version":3,"sources":7,"mappings":""}'), `refused: M8 Sources\n${sources}`, { ...known, explanation: `${sources}\n` });
   refuses('Refused', () => new smap.TraceMap(Uint8Array.of(31, 139, 8)), /^refused: M2 NotJson\n  the file is packed with gzip/, known);
-  refuses('Refused', () => new smap.TraceMap(small, null, 0), 'refused: M15 Build B1 Interval', { ...known, explanation: undefined });
+  refuses('Refused', () => new smap.TraceMap(small, null, { maxNames: 3 }), 'refused: M18 LongNames', { ...known, explanation: undefined });
   const numbers = new Float64Array(6);
   for (const bad of [7, null, 'x']) refuses('TypeError', () => addon.refusalExplain(bad, numbers, new Float64Array(4)), /no Uint8Array/);
   refuses('TypeError', () => addon.refusalExplain(Buffer.from('{}'), numbers, new Float64Array(3)), /no Float64Array/);
@@ -207,7 +210,25 @@ function paths() {
   for (const url of ['a.js', 'https://e.test/a.js']) {
     refuses('Refused', () => new smap.TraceMap('no JSON', url), new RegExp(`^refused: ${url}: M2 NotJson\n`), { code: 'M2', url });
   }
-  refuses('Refused', () => new smap.TraceMap(small, 'a.js', 0), /M15 Build B1 Interval/);
+  refuses('RangeError', () => new smap.TraceMap(small, 'a.js', 0), /`interval` must be 1 to 4096/);
+}
+
+// A text that looks like the path of a map, which is told where it is no JSON.
+function pathsForMaps() {
+  const hint = /\n {2}a text is that of a map: `fs\.readFileSync` reads the file at a path$/;
+  for (const path of ['dist/a.js.map', 'ä.map', 'C:\\dist\\a.map']) {
+    refuses('Refused', () => new smap.TraceMap(path), hint, { code: 'M2' });
+    refuses('Refused', () => new smap.Table({ 'a.js': path }), hint, { code: 'M2', url: 'a.js' });
+    refuses('Refused', () => smap.composeAll(new smap.TraceMap(small), { 'a.js': path }), hint, { code: 'M2', url: 'a.js' });
+    for (const maps of [new smap.Table({}, { load: () => path }), new smap.Maps({ load: () => path, maxBytes: 1e6 })]) {
+      smap.rewrite(maps, 'f@a.js:1:1');
+      same(hint.test(maps.refusals[0].error.message), true);
+    }
+  }
+  for (const other of [Buffer.from('dist/a.js.map'), '{dist/a.js.map', 'a\nb', '', 'x'.repeat(4097), '[]', '7']) {
+    assert.throws(() => new smap.TraceMap(other), ({ name, message }) => name === 'Refused' && !message.includes('readFileSync'));
+    reported += 1;
+  }
 }
 
 // Half of a surrogate pair that stands alone has no bytes.
@@ -215,8 +236,24 @@ function halves() {
   for (const half of ['\ud83d', '\ude00\ud83d', '\ufffd\ud83d']) {
     const calls = [() => new smap.TraceMap(small.replace('a.js', half)), () => new smap.TraceMap(small, half), () => new smap.Table({ [half]: small })];
     for (const call of calls) refuses('TypeError', call, /half of a surrogate pair alone$/);
+    const [map, table] = [new smap.TraceMap(small), new smap.Table({ 'b.js': small })];
+    const texts = [`x${half}\n    at f (b.js:1:11)\n`, half, `${'ä'.repeat(1e6)}${half}`];
+    for (const text of texts) {
+      for (const options of [{}, { anywhere: true }]) {
+        refuses('TypeError', () => smap.rewrite(table, text, options), '`trace` has half of a surrogate pair alone');
+        refuses('TypeError', () => smap.frameUrls(text, options), '`trace` has half of a surrogate pair alone');
+      }
+      for (const call of ['bytesBySource', 'fit', 'withGenerated']) refuses('TypeError', () => map[call](text), '`generated` has half of a surrogate pair alone');
+    }
+    same(table.counts, null);
   }
   const whole = '\u{1f600}\ufffd';
+  same(String(smap.rewrite(new smap.Table({ 'b.js': small }), `${whole}\nf@b.js:1:11`)), `${whole}\nf@a.js:2:5`);
+  same(new smap.TraceMap('{"version":3,"sources":[],"mappings":""}').bytesBySource(whole), { sources: [], unmapped: 7 });
+  // What is written to a stream are the bytes that node makes of it.
+  const stream = new smap.RewriteStream(new smap.Table({ 'b.js': small }));
+  stream.write('x\ud83d\nf@b.js:1:11\n');
+  same(String(stream.read()), 'x\ufffd\nf@a.js:2:5\n');
   same(new smap.TraceMap(small.replace('a.js', whole), `${whole}/b.js`).resolvedSources, [`${whole}/${whole}`]);
   same(String(smap.rewrite(new smap.Table({ [whole]: small }), `f@${whole}:1:11`)), 'f@a.js:2:5');
 }
@@ -252,6 +289,12 @@ function members() {
   }
   same(['./a.js', 'src/./a.js', 'b.js', null, 'a.js'].map((source) => smap.sourceContentFor(map, source)), ['x', 'x', null, null, null]);
   same(['./a.js', 'src/b.js', null, 'a.js'].map((source) => smap.isIgnored(map, source)), [true, true, false, false]);
+  for (const bad of [3, undefined, true, ['./a.js'], {}]) {
+    const asked = { source: bad, line: 1, column: 0 };
+    for (const call of [() => smap.sourceContentFor(map, bad), () => smap.isIgnored(map, bad), () => smap.generatedPositionFor(map, asked), () => smap.allGeneratedPositionsFor(map, asked)]) {
+      refuses('TypeError', call, /^`source` must be a text, and not /);
+    }
+  }
   const { version, file, sourceRoot, sources, sourcesContent, names, ignoreList } = map;
   same(smap.decodedMap(map), { version, file, names, sourceRoot, sources, sourcesContent, mappings: decoded, ignoreList });
   same(smap.encodedMap(map), { version, file, names, sourceRoot, sources, sourcesContent, mappings: 'AAAA,UACIA;CEAA;;K;', ignoreList });
@@ -456,6 +499,8 @@ function generatedPlaces() {
     refuses('Error', () => ask({ ...b, line: 0 }), /greater than 0/);
     refuses('Error', () => ask({ ...b, column: -1 }), /greater than or equal to 0/);
     refuses('TypeError', () => ask({ ...b, column: 1.5 }), /whole number/);
+    same([ask({ ...b, bias: undefined }), ask({ ...b, bias: null }), ask({ ...b, source: null })], ['2:2', '2:2', ask({ ...b, source: 'c' })]);
+    for (const bias of ['x', '1', 0, 2, true, {}]) refuses('TypeError', () => ask({ ...b, bias }), /^`bias` must be GREATEST_LOWER_BOUND or LEAST_UPPER_BOUND$/);
   }
   map.close();
   for (const ask of [all, one]) refuses('Error', () => ask(b), 'the map is closed');
@@ -504,12 +549,20 @@ function shared() {
 
 function intervals() {
   for (const interval of [1, 64, 4096, undefined]) same(new smap.TraceMap(small, null, interval).names, ['n']);
-  for (const interval of [0, -1, -far + 64, 4097, far - 1, far, far + 64, 2 ** 53, Infinity, -Infinity]) {
-    refuses('Refused', () => new smap.TraceMap(small, null, interval), /M15 Build B1 Interval/, { code: 'M15', cause: 'B1' });
+  for (const interval of [0, -1, -far + 64, 4097, far - 1, far, far + 64, 2 ** 53]) {
+    for (const given of [interval, { interval }]) {
+      refuses('RangeError', () => new smap.TraceMap(small, null, given), `\`interval\` must be 1 to 4096, and not ${interval}`);
+      refuses('RangeError', () => smap.AnyMap('no JSON', undefined, given), /`interval`/);
+    }
   }
-  for (const interval of [0.5, 64.5, NaN, '64', null, true, 64n]) {
+  for (const interval of [0.5, 64.5, NaN, '64', null, true, 64n, Infinity, -Infinity]) {
     refuses('TypeError', () => new smap.TraceMap(small, null, interval), /`interval` must be a whole number/);
   }
+  // The library takes the same ones.
+  const refused = new Float64Array(6);
+  const read = (interval) => addon.read(Buffer.from(small), Buffer.alloc(0), false, interval, 100, refused);
+  for (const interval of [1, 4096]) addon.closeMap(read(interval));
+  for (const interval of [0, 4097]) same([read(interval), addon.codeText(refused[1])], [null, 'B1 Interval']);
 }
 
 function compositions(path) {
@@ -914,6 +967,7 @@ maps();
 reasons();
 bases();
 paths();
+pathsForMaps();
 halves();
 members();
 sourceTexts();

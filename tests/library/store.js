@@ -40,10 +40,11 @@ const patiently = async (test) => {
 // 1. What is looked up before it came is not remembered as none, and is found once it is there.
 async function late() {
   const maps = new Maps({ loadAsync: async () => textOf('a.ts'), maxBytes: 1e6 });
-  same('a look-up before', [sourceOf(maps, 'a.js'), maps.get('a.js'), maps.has('a.js'), maps.size], [null, null, false, 0]);
+  for (const call of [() => sourceOf(maps, 'a.js'), () => maps.get('a.js')]) assert.throws(call, /`load` is wanted/);
+  same('a look-up before', [maps.has('a.js'), maps.size], [false, 0]);
   same('a trace after it', String(await rewriteAsync(maps, frame('a.js'))), frame('a.ts'));
   const others = new Maps({ loadAsync: async () => textOf('a.ts'), maxBytes: 1e6 });
-  sourceOf(others, 'a.js');
+  assert.throws(() => sourceOf(others, 'a.js'), /`load` is wanted/);
   await others.load(['a.js']);
   same('a map that came', sourceOf(others, 'a.js'), 'a.ts');
 }
@@ -436,9 +437,9 @@ class Run {
         await maps.load([url]);
         if (!model.peek(url) && isLocation(cut(url))) this.come(model.key(url));
       }
-      const name = this.find(url, !isLater);
-      if (below(3)) assert.deepStrictEqual(sourceOf(maps, url), name);
-      else assert.deepStrictEqual(maps.get(url) && maps.get(url).resolvedSources[0], name);
+      const look = below(3) ? () => sourceOf(maps, url) : () => maps.get(url) && maps.get(url).resolvedSources[0];
+      if (isLater && !model.peek(url) && isLocation(cut(url))) assert.throws(look, /`load` is wanted/);
+      else assert.deepStrictEqual(look(), this.find(url, !isLater));
     } else {
       const urls = Array.from({ length: below(8) }, () => URLS[below(URLS.length)]);
       const names = urls.map((each) => this.find(each, true) || each);
