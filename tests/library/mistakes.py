@@ -12,7 +12,7 @@ import tempfile
 from array import array
 from pathlib import Path
 
-from smap import Answer, Fit, Mapping, Place, Refused, Rewriter, SourceMap, _smap, compose, compose_all, encode
+from smap import Answer, Fit, Mapping, Maps, Place, Refused, Rewriter, SourceMap, _smap, compose, compose_all, encode
 from smap._answers import Refusal
 from smap._reported import refused_map
 
@@ -146,6 +146,7 @@ def maps(folder):
             same((small.look_up(0, 12), small.source(0).name), (LAST, "https://e.test/a.js"))
     refuses(Refused, lambda: SourceMap.from_file(str(other)), f"refused: {other}: M2 NotJson", code="M2")
     refuses(FileNotFoundError, lambda: SourceMap.from_file(str(folder / "none.map")), "none.map")
+    refuses(FileNotFoundError, lambda: SourceMap.from_file(""), "No such file or directory: ''")
     for given in (7, b"x.map", None, [path]):
         refuses(TypeError, lambda: SourceMap.from_file(given))
     with SourceMap('{"version":3,"sources":["ä.js"],"names":[],"mappings":"AAAA"}') as source_map:
@@ -185,7 +186,7 @@ def reasons(folder):
     packed = folder / "packed.map"
     packed.write_bytes(b"\x1f\x8b\x08")
     refuses(Refused, lambda: SourceMap(packed), f"refused: {packed}: M2 NotJson\n  the file is packed with gzip", **known)
-    refuses(Refused, lambda: SourceMap(SMALL, interval=0), args=("refused: M15 Build B1 Interval",), explanation="", **known)
+    refuses(Refused, lambda: SourceMap(SMALL, max_names=3), args=("refused: M18 LongNames",), explanation="", **known)
     refuses(Refused, lambda: SourceMap(SMALL, base="a.js"), args=("the base is no URL: 'a.js'",), explanation="", **known)
     with SourceMap(SMALL) as small:
         refuses(Refused, lambda: compose(small, 1, small), args=("refused: C1 SourceIndex",), explanation="", **known)
@@ -214,9 +215,15 @@ def intervals():
         with SourceMap(SMALL, interval=interval) as small:
             same(small.look_up(0, 12), LAST)
     for interval in (0, -1, -FAR + 64, 4097, FAR - 1, FAR, FAR + 64, 2**64 + 64):
-        refuses(Refused, lambda: SourceMap(SMALL, interval=interval), "M15 Build B1 Interval", code="M15", cause="B1")
+        refuses(ValueError, lambda: SourceMap(SMALL, interval=interval), f"interval is {interval}: it is 1 to 4096")
+        refuses(ValueError, lambda: SourceMap("no JSON", interval=interval), "interval")
     for interval in (True, 64.0, "64", None):
         refuses(TypeError, lambda: SourceMap(SMALL, interval=interval), "interval", type(interval).__name__)
+    # The library takes the same ones.
+    for interval in (1, 4096):
+        same(_smap.Map()._read(SMALL, b"", interval, 100), None)
+    for interval in (0, 4097):
+        same(_smap.code_text(_smap.Map()._read(SMALL, b"", interval, 100).cause), "B1 Interval")
 
 
 def compositions(path):
@@ -257,7 +264,8 @@ def encoding():
         refuses(TypeError, lambda: encode([Mapping(0, number, None, None, None, None)]), "whole number")
     for given in (7, [7]):
         refuses(TypeError, lambda: encode(given))
-    refuses(ValueError, lambda: encode([(1, 2)]))
+    for given in ((), (1, 2), (0, 0, 0, 0, 0, None, 0)):
+        refuses(ValueError, lambda: encode([given]), f"a mapping has 6 members, not {len(given)}")
 
 
 def composing_all():
@@ -364,6 +372,12 @@ def tables():
         Rewriter({"a.js": given}).close()
         same(given.look_up(0, 12), LAST)
     refuses(ValueError, lambda: Rewriter({"a.js": given}), "closed")
+    # What Python says of wrong arguments names what was called.
+    for call in (lambda: Rewriter({}).rewrite(trace, other=1), lambda: Rewriter({}).look_up(url), lambda: Maps(len)):
+        try:
+            call()
+        except TypeError as error:
+            same(str(error).startswith(("rewrite() ", "look_up() ", "Maps.__init__() ", "__init__() ")), True)
 
 
 def paths():
@@ -399,10 +413,20 @@ def paths():
     for most in (50, 12, 11):
         refuses(Refused, lambda: SourceMap(bound, Path("dist/a.js.map"), max_names=most), "M18 LongNames", code="M18", url=None)
     refuses(Refused, lambda: SourceMap("no JSON", Path("a.js")), "refused: a.js: M2 NotJson\n", code="M2", url=None)
-    refuses(Refused, lambda: SourceMap("dist/a.js.map"), "`SourceMap.from_file` reads the file at a path", code="M2")
+    hint = "`SourceMap.from_file` reads the file at a path"
+    refuses(Refused, lambda: SourceMap("dist/a.js.map"), hint, code="M2")
+    refuses(Refused, lambda: Rewriter({"a.js": "dist/a.js.map"}), hint, code="M2", url="a.js")
+    with Rewriter({}, load=lambda name: "dist/a.js.map") as rewriter, SourceMap(SMALL) as small:
+        rewriter.rewrite("f@a.js:1:1")
+        same(hint in str(rewriter.refusals[0][1]), True)
+        refuses(Refused, lambda: compose_all(small, {"a.js": "dist/a.js.map"}), hint, code="M2", url="a.js")
     for given in (b"dist/a.js.map", "{dist/a.js.map", "a\nb", ""):
         try:
             SourceMap(given)
+        except Refused as refused:
+            same("from_file" in str(refused), False)
+        try:
+            Rewriter({"a.js": given})
         except Refused as refused:
             same("from_file" in str(refused), False)
 

@@ -72,6 +72,23 @@ def late():
     asyncio.run(run())
 
 
+# What is given at once, where it is to be awaited, is told; and None is no map.
+def at_once():
+    async def run():
+        given = {A: text_of("a.ts"), B: SourceMap(text_of("b.ts")), C: None}
+        maps = smap.AsyncMaps(given.get, max_bytes=1 << 20)
+        trace = "".join(map(frame, given))
+        same(await maps.rewrite(trace), trace.encode(), "what is not awaited")
+        told = [(url, type(error), str(error)) for url, error in maps.refusals]
+        text = "the loader of AsyncMaps gives an awaitable, not"
+        same(told, [(A, TypeError, f"{text} str"), (B, TypeError, f"{text} SourceMap")], "what is told")
+        # A future is awaited as a coroutine is.
+        maps = smap.AsyncMaps(lambda url: asyncio.ensure_future(asyncio.sleep(0, given[url])), max_bytes=1 << 20)
+        same((source_of(await maps.look_up(A, 0, 0)), await maps.get(C), maps.refusals), ("a.ts", None, []), "a future")
+
+    asyncio.run(run())
+
+
 # A map that is added answers look-ups and rewriting from then on, whatever its URL had before.
 def uploads():
     for more in ("", "?v=1"):

@@ -16,8 +16,8 @@ MOST = 2**32 - 1
 MOST_BYTES = 2**63 - 1
 OUTPUT_BYTES, NAME_BYTES = 2**30, 2**28
 
-# So many lines may be asked for before one and after it.
-MOST_LINES = 65535
+# So many lines may be asked for before one and after it, and so many segments may stand between checkpoints.
+MOST_LINES, MOST_INTERVAL = 65535, 4096
 
 # What a buffer of numbers says of its bytes' order where it is this machine's.
 _NATIVE = "@=" + ("<" if sys.byteorder == "little" else ">")
@@ -46,7 +46,10 @@ def index(value: Any, what: str) -> int:
 
 def mapping(value: Any) -> List[int]:
     """The eight numbers of a mapping, as the library has them."""
-    line, column, source, original_line, original_column, name = value
+    members = tuple(value)
+    if len(members) != 6:
+        raise ValueError(f"a mapping has 6 members, not {len(members)}")
+    line, column, source, original_line, original_column, name = members
     given = [line, column, 1 if source is None else 2, source, original_line, original_column, int(name is not None), name]
     numbers = [0 if number is None else whole(number, "a number of a mapping") for number in given]
     if min(numbers) < 0:
@@ -55,15 +58,15 @@ def mapping(value: Any) -> List[int]:
 
 
 def interval(value: Any) -> int:
-    """How many segments stand between checkpoints. The library says which numbers are taken: 0 is not."""
-    return min(max(whole(value, "interval"), 0), MOST)
+    """How many segments stand between checkpoints."""
+    return count(value, "interval", MOST_INTERVAL, 1)
 
 
-def count(value: Any, what: str, most: int = MOST_LINES) -> int:
+def count(value: Any, what: str, most: int = MOST_LINES, least: int = 0) -> int:
     """How many lines are wanted, or bytes may be."""
     number = whole(value, what)
-    if not 0 <= number <= most:
-        raise ValueError(f"{what} is {number}: it is 0 to {most}")
+    if not least <= number <= most:
+        raise ValueError(f"{what} is {number}: it is {least} to {most}")
     return number
 
 

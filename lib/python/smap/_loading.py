@@ -3,6 +3,7 @@
 import time
 from contextlib import contextmanager, nullcontext
 from contextvars import ContextVar
+from inspect import isawaitable
 from threading import Lock, RLock
 from typing import Any, Awaitable, Callable, Coroutine, Dict, Iterable, Iterator, List, Optional, Tuple, TypeVar, Union, cast
 
@@ -180,6 +181,8 @@ class Loading(_smap.Store):
                 if self._load is not None and (anew or not self._knows(key)):
                     given = self._load(url)
                     if self._awaits and given is not None:
+                        if not isawaitable(given):
+                            raise TypeError(f"the loader of AsyncMaps gives an awaitable, not {type(given).__name__}")
                         given = await given
                     if given is not None:
                         found = await self._made(url, given) if self._awaits else self._read(url, given)

@@ -1,5 +1,6 @@
 """Maps: read, looked up, written and composed."""
 
+import errno
 import os
 from array import array
 from pathlib import Path
@@ -63,6 +64,8 @@ class SourceMap(_smap.Map):
     def from_file(cls: Type[_Map], path: Union[str, "os.PathLike[str]"], base: Optional[Base] = None,
                   interval: int = 64, *, max_names: int = _given.NAME_BYTES) -> _Map:
         """The map of the file at a path, which may be a `str` here."""
+        if path == "":
+            raise FileNotFoundError(errno.ENOENT, os.strerror(errno.ENOENT), path)
         return cls(Path(path), base, interval, max_names=max_names)
 
     @classmethod
@@ -73,7 +76,7 @@ class SourceMap(_smap.Map):
         by_path = paths and _smap.is_path(url)
         if not isinstance(given, SourceMap):
             source_map, held = cls.__new__(cls), _given.file_bytes(given, "a map")
-            source_map._take(held, None if by_path else url, 64, most_names, url, url, or_at_none=True)
+            source_map._take(held, None if by_path else url, 64, most_names, url, url, _given.path_hint(given), or_at_none=True)
         else:
             # Who gave the map has its names as they are. They were within a bound already.
             source_map = SourceMap(given.write(), max_names=_given.MOST_BYTES) if by_path else given
@@ -162,15 +165,15 @@ class SourceMap(_smap.Map):
 
     def bytes_by_source(self, generated: _given.FileData) -> Tuple[List[int], int]:
         """How many bytes of the generated file come from each source, in the order of the sources, and how many from none.
-        The file is given as a map is. Raises `Refused` where it is not UTF-8 or too large."""
+        The file is given as a map is: a `str` is its text, and never its path. Raises `Refused` where it is not UTF-8 or too large."""
         reported = self._bytes_by_source(_given.file_bytes(generated, "a generated file"))
         if isinstance(reported, int):
             raise refused_as(reported, name=_given.file_name(generated))
         return reported
 
     def fit(self, generated: _given.FileData) -> Fit:
-        """Whether the map can be that of the generated file, which is given as a map is: then no mapping stands past the text
-        or inside a word of it. Raises `Refused` where the file is not UTF-8 or too large."""
+        """Whether the map can be that of the generated file, which is given as a map is, a `str` being its text, and never its path: then
+        no mapping stands past the text or inside a word of it. Raises `Refused` where the file is not UTF-8 or too large."""
         reported = self._fit(_given.file_bytes(generated, "a generated file"))
         if isinstance(reported, int):
             raise refused_as(reported, name=_given.file_name(generated))

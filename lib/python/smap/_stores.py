@@ -108,6 +108,10 @@ class _Kept(Loading):
                 self._indexed.pop(key, None)
 
 
+# As in `Blocking`; the other class has one of its own.
+_Kept.__init__.__qualname__ = "Maps.__init__"
+
+
 class Maps(Blocking, _Kept):
     """Maps by URL. `load` is asked for the map of a URL when it is first wanted, and gives it, or None where there is none, as for
     a `Rewriter`, as are `paths`, `max_names`, `retry_after` and `none_for`. Threads that want the same map wait for one load, and for

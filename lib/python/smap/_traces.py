@@ -27,6 +27,11 @@ class Blocking(Loading):
         return driven(self._rewritten(trace, hide_ignored, anywhere, strip_ansi, max_output))
 
 
+# What Python says of wrong arguments names a call by this: the class is none that callers know.
+for _call in (Blocking.look_up, Blocking.rewrite):
+    _call.__qualname__ = _call.__name__
+
+
 class Rewriter(Blocking):
     """Rewrites stack traces over maps, each under the URL that frames name. It is freed as a `SourceMap` is."""
 
@@ -44,7 +49,8 @@ class Rewriter(Blocking):
         that raises `RuntimeError`.
 
         A URL that begins with `*` is a pattern: its map is that of each URL that ends with the text behind it, where a piece of
-        the URL begins, with or without query and fragment, if no map is under the URL; of several the longest text decides.
+        the URL begins, with or without query and fragment, if no map is under the URL; of several the longest text decides. So `*app.js`
+        serves all of that name, and `*.js` only what is called `.js`.
 
         With `paths` relative sources go on from the folder of a URL that is a path with a folder, as node prints them. Of each map the
         names of all sources together are made of at most `max_names` bytes."""
