@@ -345,8 +345,8 @@ export interface TableOptions extends NamesOption, TimeOptions {
   paths?: boolean;
 }
 
-/** The maps of a trace, each under the URL that frames name, or under `*` and the text with which URLs end. A TraceMap that is given is
- * closed. */
+/** The maps of a trace, each under the URL that frames name, or under `*` and the text with which URLs end, from the beginning of a piece on:
+ * `*app.js`, and not `*.js`. A TraceMap that is given is closed. */
 export class Table {
   constructor(maps: Named<string>, options?: TableOptions);
   /** What was told to no one: the first 100. */

@@ -49,7 +49,7 @@ class SourceMap(_smap.Map):
         """Reads a map file: its bytes, its text as a `str`, or the file at a `Path`. `base` is the URL at which it
         stands, or the `Path`, from whose folder relative sources go on. The index has a checkpoint at every `interval`-th
         segment of a line, 1 to 4096. The names of all sources together are made of at most `max_names` bytes. Raises `Refused`,
-        or `MemoryError`."""
+        `ValueError` for a number out of range, or `MemoryError`."""
         most_names = _given.count(max_names, "max_names", _given.MOST_BYTES)
         held, path, number = _given.file_bytes(data, "a map"), _given.file_name(base), _given.interval(interval)
         url = None if isinstance(base, os.PathLike) else base
