@@ -125,6 +125,14 @@ function spread(list, most) {
   return [...picked];
 }
 
+// Names that no function has in what is written: TypeScript's of a class, and Babel's of its own functions, which its map leads
+// to some line.
+const HELPERS =
+  'assertThisInitialized|classCallCheck|createClass|createForOfIteratorHelper|createSuper|defineProperties|get|getPrototypeOf|' +
+  'inherits|isNativeReflectConstruct|objectWithoutProperties|objectWithoutPropertiesLoose|possibleConstructorReturn|' +
+  'setPrototypeOf|superPropBase|toArray|typeof';
+const TOOLS = new RegExp(`^(class_\\d+|_class\\d*|_callee\\d*|_(${HELPERS}))$`);
+
 // What an answer is, beside the name that was written.
 function judged(build, one, origin, entry) {
   const answer = entry?.given;
@@ -137,7 +145,9 @@ function judged(build, one, origin, entry) {
   // the constructor that a tool has given a class that is written without one, in the function that was found
   const source = build.originalAt(build.exact.get(entry.start))?.source;
   const isClass = ({ start, end, name }) => name === answer && origin.start <= start && end <= origin.end;
-  return isOwn && source?.functions.classes.some(isClass) ? 'right' : 'wrong';
+  if (isOwn && source?.functions.classes.some(isClass)) return 'right';
+  const isWritten = [...(source?.byStart.values() ?? [])].some(({ name }) => name === answer);
+  return TOOLS.test(answer) && !isWritten ? 'tool' : 'wrong';
 }
 
 // What becomes of each place of a build, by rule.
