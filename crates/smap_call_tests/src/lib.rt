@@ -17,6 +17,8 @@ mod kept_rows;
 #[cfg(test)]
 mod lines;
 #[cfg(test)]
+mod mappings;
+#[cfg(test)]
 mod names;
 #[cfg(test)]
 mod records;

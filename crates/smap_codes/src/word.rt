@@ -10,8 +10,8 @@ use crate::row::code_text;
 use crate::table::row_of;
 use std::alloc::{AllocError, Global};
 
-/// All that is to be known of each code whose label or whose name this is, in the order of `all`; where it is that of none, of
-/// each where it is whatever the case of its ASCII letters; `None` where that is none.
+/// All that is to be known of each code whose label or whose name this is, in the order of `all`; where it is that of none,
+/// of each where it is whatever the case of its ASCII letters; `None` where that is none.
 pub fn called_text(alloc: Global, word: &str) -> Result<Option<String>, AllocError>
     ensures { IfOk result (λ told.
         TellsOf (codes_called word.now) (option_map (λ text. string_bytes text) told)) }

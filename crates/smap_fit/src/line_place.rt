@@ -68,8 +68,8 @@ impl<'a> LinePlace<'a> {
     }
 }
 
-// The place of a column that is not before this place, or the last before it that there is, and how the column stands. (It is
-// given the place itself, so that a walk keeps it at hand.)
+// The place of a column that is not before this place, or the last before it that there is, and how the column stands.
+// (It is given the place itself, so that a walk keeps it at hand.)
 #[inline(always)]
 fn walked<'a>(mut here: LinePlace<'a>, column: u32) -> (LinePlace<'a>, Spot<'a>)
     requires { here.column ≤ column }

@@ -140,32 +140,17 @@ pub fn kind_of(mapping: &Mapping) -> Kind
     }
 }
 
-// A further field would not compile.
-#[test]
-fn a_checkpoint_has_these_numbers_alone(rt: HostRuntime) {
-    let checkpoint = Checkpoint {
-        part: 65_535,
-        kind: Kind::Named,
-        place: 8,
-        line: 1,
-        column: 2,
-        source: 3,
-        original_line: 4,
-        original_column: 5,
-        name: 6,
-    };
+// A checkpoint is these numbers: with a further field this would not compile.
+fn has_these_fields_alone(checkpoint: &Checkpoint) {
     let Checkpoint {
-        part,
-        kind,
-        place,
-        line,
-        column,
-        source,
-        original_line,
-        original_column,
-        name,
-    } = &checkpoint;
-    assert!(&rt; *part == 65_535 && matches!(kind, Kind::Named) && *place == 8);
-    assert!(&rt; *line == 1 && *column == 2 && *source == 3);
-    assert!(&rt; *original_line == 4 && *original_column == 5 && *name == 6);
+        part: _,
+        kind: _,
+        place: _,
+        line: _,
+        column: _,
+        source: _,
+        original_line: _,
+        original_column: _,
+        name: _,
+    } = checkpoint;
 }

@@ -66,10 +66,7 @@ impl Checkpoints {
     }
 }
 
-// A further field would not compile.
-#[test]
-fn a_table_has_its_checkpoints_alone(rt: HostRuntime) {
-    let none = Checkpoints::new(rt.alloc());
-    let Checkpoints { checkpoints } = &none;
-    assert!(&rt; checkpoints.is_empty());
+// A table has its checkpoints alone: with a further field this would not compile.
+fn has_this_field_alone(table: &Checkpoints) {
+    let Checkpoints { checkpoints: _ } = table;
 }

@@ -259,18 +259,13 @@ impl Index {
     }
 }
 
-// A further field would not compile.
-#[test]
-fn an_index_has_these_fields_alone(rt: HostRuntime) -> Result<(), std::test::Fail> {
-    let index = Index::build(rt.alloc(), Vec::new(rt.alloc()), 2)?;
+// An index does not keep the decoded list: with a further field this would not compile.
+fn has_these_fields_alone(index: &Index) {
     let Index {
-        parts,
-        table,
-        k,
-        segments,
-        used_lines,
-    } = &index;
-    assert!(&rt; parts.is_empty() && table.len() == 0);
-    assert!(&rt; *k == 2 && *segments == 0 && *used_lines == 0);
-    Ok(())
+        parts: _,
+        table: _,
+        k: _,
+        segments: _,
+        used_lines: _,
+    } = index;
 }

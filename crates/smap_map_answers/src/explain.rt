@@ -10,8 +10,8 @@ use smap_replies::{Failure, Reply};
 use smap_text::shown;
 use std::alloc::{AllocError, Global};
 
-/// What the code means, or each code of that name, what usually causes it and what to do about it; without one, how all codes
-/// are called.
+/// What the code means, or each code of that name, what usually causes it and what to do about it; without one, how all
+/// codes are called.
 pub fn answer_explain(alloc: Global, asked: &Explain) -> Result<Reply, Failure>
     ensures { OrMemory (ReportsCode (option_map string_bytes asked.now.code)) (report_of result) }
 {

@@ -19,19 +19,3 @@ impl Position {
         self.line < other.line || (self.line == other.line && self.column < other.column)
     }
 }
-
-// The line decides; the column does on one line alone.
-#[test]
-fn positions_stand_by_line_and_then_by_column(rt: HostRuntime) {
-    let first = Position { line: 1, column: 9 };
-    let later = Position {
-        line: 1,
-        column: 10,
-    };
-    let below = Position {
-        line: 4294967296,
-        column: 0,
-    };
-    assert!(&rt; first.is_before(&later) && later.is_before(&below) && first.is_before(&below));
-    assert!(&rt; !first.is_before(&first) && !later.is_before(&first) && !below.is_before(&first));
-}

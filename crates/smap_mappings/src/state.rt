@@ -39,19 +39,16 @@ impl State {
     }
 }
 
-// A further field would not compile.
-#[test]
-fn a_state_is_a_place_and_its_running_values(rt: HostRuntime) {
-    let State { cursor } = State::new(Cursor::START);
+// A state is a place and its running values: with a further field this would not compile.
+fn has_these_fields_alone(state: &State) {
+    let State { cursor } = state;
     let Cursor {
-        place,
-        line,
-        column,
-        source,
-        original_line,
-        original_column,
-        name,
+        place: _,
+        line: _,
+        column: _,
+        source: _,
+        original_line: _,
+        original_column: _,
+        name: _,
     } = cursor;
-    assert!(&rt; place == 0 && line == 0 && column == 0);
-    assert!(&rt; source == 0 && original_line == 0 && original_column == 0 && name == 0);
 }

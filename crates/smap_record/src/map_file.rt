@@ -339,18 +339,13 @@ impl MapFile {
     }
 }
 
-// A further field would not compile.
-#[test]
-fn a_map_has_these_fields_alone(rt: HostRuntime) -> Result<(), std::test::Fail> {
-    let map = MapFile::read(rt.alloc(), br#"{"version":3,"sections":[]}"#, None, 2)?;
+// A map does not keep the decoded list: with a further field this would not compile.
+fn has_these_fields_alone(map: &MapFile) {
     let MapFile {
-        index,
-        sources,
-        names,
-        file,
-        sections,
-    } = &map;
-    assert!(&rt; sources.is_empty() && names.is_empty() && file.is_none());
-    assert!(&rt; index.checkpoints() == 0 && *sections == 0);
-    Ok(())
+        index: _,
+        sources: _,
+        names: _,
+        file: _,
+        sections: _,
+    } = map;
 }
