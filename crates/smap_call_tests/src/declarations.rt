@@ -1,4 +1,5 @@
 //! Which names generated texts declare, and which names their maps give to functions of frames.
+use crate::same::assert_holds;
 use smap_declarations::{
     DeclarationPlace, Declarations, DeclarationsRefusal, MOST_GENERATED_BYTES, function_name,
 };
@@ -241,6 +242,13 @@ const ROWS: &[Row] = &[
     },
 ];
 
+fn bytes_of<'a>(text: &Option<&'a str>) -> Option<&'a [u8]> {
+    match text {
+        Some(text) => Some(text.as_bytes()),
+        None => None,
+    }
+}
+
 #[test]
 fn maps_name_functions_at_places(rt: HostRuntime) -> Result<(), Fail> {
     for row in ROWS {
@@ -253,12 +261,7 @@ fn maps_name_functions_at_places(rt: HostRuntime) -> Result<(), Fail> {
             };
             let mut meter = Meter::new(rt.alloc());
             let name = declarations.name_of(&map, function.as_bytes(), place, &mut meter);
-            let wanted = match wanted {
-                Some(wanted) => Some(wanted.as_bytes()),
-                None => None,
-            };
-            let text = row.text;
-            assert!(&rt; name == wanted, "{function} at {line}:{column} of {text}");
+            assert_holds(&rt, function, name == bytes_of(wanted));
         }
     }
     Ok(())
@@ -292,11 +295,8 @@ const FUNCTIONS: &[(&str, Option<&str>)] = &[
 #[test]
 fn a_function_of_a_frame_is_one_name(rt: HostRuntime) -> Result<(), Fail> {
     for (function, wanted) in FUNCTIONS {
-        let wanted = match wanted {
-            Some(wanted) => Some(wanted.as_bytes()),
-            None => None,
-        };
-        assert!(&rt; function_name(function.as_bytes()) == wanted, "{function}");
+        let name = function_name(function.as_bytes());
+        assert_holds(&rt, function, name == bytes_of(wanted));
     }
     Ok(())
 }
@@ -314,6 +314,7 @@ fn a_text_has_at_most_so_many_bytes(rt: HostRuntime) -> Result<(), Fail> {
         text.push_str("a(){}")?;
     }
     let listed = Declarations::of_text(rt.alloc(), text.as_str(), &map);
-    assert!(&rt; matches!(listed, Err(DeclarationsRefusal::TooLarge)));
+    let is_refused = matches!(listed, Err(DeclarationsRefusal::TooLarge));
+    assert_holds(&rt, "a large text is refused", is_refused);
     Ok(())
 }

@@ -2,6 +2,7 @@
 ghost use Rattle.std.specs.Prelude.{◌≡◌, ◌∷◌, [], IfOk};
 ghost use Rattle.smap_index.specs.Parts.{whole_text};
 
+use crate::same::{assert_holds, assert_same};
 use smap_index::{Answer, Index, MarkedText, Part};
 use smap_mappings::{Meter, PackedText, TextCheck};
 use std::alloc::{AllocError, Global};
@@ -36,9 +37,9 @@ fn whole(alloc: Global, text: PackedText) -> Result<Vec<Part>, AllocError>
     Ok(parts)
 }
 
-// The two look-ups.
+/// The two look-ups.
 #[derive(Clone, Copy)]
-enum Direction {
+pub(crate) enum Direction {
     Before,
     After,
 }
@@ -106,11 +107,11 @@ fn assert_counted(
 ) -> Result<(), Fail> {
     let (text, interval, checkpoints, line, column, wanted, decoded, compared) = counted;
     let index = index_of(alloc, packed(alloc, text)?, *interval)?;
-    assert!(rt; index.checkpoints() == *checkpoints, "of {text}");
+    assert_holds(rt, text, index.checkpoints() == *checkpoints);
     let (answer, meter) = asked(alloc, &index, direction, *line, *column);
-    assert!(rt; is_wanted(&answer, *wanted), "of {text} at {column}");
-    assert!(rt; meter.segments() == *decoded, "of {text} at {column}");
-    assert!(rt; meter.comparisons() <= *compared, "of {text} at {column}");
+    assert_holds(rt, text, is_wanted(&answer, *wanted));
+    let is_counted = meter.segments() == *decoded && meter.comparisons() <= *compared;
+    assert_holds(rt, text, is_counted);
     Ok(())
 }
 
@@ -131,16 +132,29 @@ const INTERVALS: &[u32] = &[1, 2, 3, 64, 4_096];
 fn an_index_of_no_part_is_empty(rt: HostRuntime) -> Result<(), Fail> {
     for interval in INTERVALS {
         let index = Index::build(rt.alloc(), Vec::new(rt.alloc()), *interval)?;
-        assert!(&rt; index.segments() == 0 && index.used_lines() == 0);
-        assert!(&rt; index.decode_all(rt.alloc())?.is_empty());
+        assert_holds(&rt, "empty", is_empty(rt.alloc(), &index)?);
         for direction in [Direction::Before, Direction::After] {
-            let (answer, meter) = asked(rt.alloc(), &index, direction, 0, 0);
-            assert!(&rt; answer == Answer::Nothing);
-            assert!(&rt; meter.comparisons() == 0 && meter.segments() == 0);
+            let is_nothing = answers_nothing(rt.alloc(), &index, direction);
+            assert_holds(&rt, "nothing", is_nothing);
         }
-        assert!(&rt; index.checkpoints() == 0);
     }
     Ok(())
+}
+
+fn is_empty(alloc: Global, index: &Index) -> Result<bool, AllocError> {
+    let counts = (index.segments(), index.used_lines(), index.checkpoints());
+    Ok(counts == (0, 0, 0) && index.decode_all(alloc)?.is_empty())
+}
+
+// Whether nothing answers at the beginning, and nothing is compared or decoded.
+fn answers_nothing(alloc: Global, index: &Index, direction: Direction) -> bool {
+    let (answer, meter) = asked(alloc, index, direction, 0, 0);
+    answer == Answer::Nothing && meter.comparisons() == 0 && meter.segments() == 0
+}
+
+// Whether an index has these counts of checkpoints, segments and lines that hold one.
+fn has_counts(index: &Index, counts: (u64, u64, u64)) -> bool {
+    (index.checkpoints(), index.segments(), index.used_lines()) == counts
 }
 
 // The index of one text, with the checkpoints at this interval that were made when it was checked.
@@ -157,9 +171,10 @@ fn a_text_is_checked_and_marked_at_once(rt: HostRuntime) -> Result<(), Fail> {
     // Four segments, two, none and one stand on its lines.
     let text = String::from_str(rt.alloc(), "AAAA,C,C,C;C,C;;C")?;
     let index = marked_index(rt.alloc(), text, 2)?;
-    assert!(&rt; index.checkpoints() == 4 && index.segments() == 7 && index.used_lines() == 3);
+    assert_holds(&rt, "counts", has_counts(&index, (4, 7, 3)));
     let (answer, meter) = asked(rt.alloc(), &index, Direction::Before, 0, 3);
-    assert!(&rt; answer == Answer::Unmapped { column: 3 } && meter.segments() == 1);
+    let is_answered = answer == Answer::Unmapped { column: 3 } && meter.segments() == 1;
+    assert_holds(&rt, "column 3", is_answered);
     Ok(())
 }
 
@@ -170,7 +185,7 @@ fn a_long_line_is_marked(rt: HostRuntime) -> Result<(), Fail> {
         text.push_str(",CAAC")?;
     }
     let index = marked_index(rt.alloc(), text, 10)?;
-    assert!(&rt; index.checkpoints() == 10 && index.segments() == 100 && index.used_lines() == 1);
+    assert_holds(&rt, "counts", has_counts(&index, (10, 100, 1)));
     Ok(())
 }
 
@@ -179,15 +194,23 @@ fn a_check_gives_segments_and_the_text(rt: HostRuntime) -> Result<(), Fail> {
     let Ok(mut check) = TextCheck::begin(String::from_str(rt.alloc(), "AAAA,D")?, 1, 0) else {
         return Err(Fail::new("the text is short"));
     };
-    let Some((_, after)) = check.next() else {
-        return Err(Fail::new("the first segment has no fault"));
-    };
-    assert!(&rt; after.cursor().place == 4 && check.pass(9) == 0 && check.next().is_none());
+    assert_holds(&rt, "the second is faulty", has_one_segment(&mut check));
     match check.finish() {
         Ok(_) => Err(Fail::new("the column falls")),
         Err((fault, text)) => {
-            assert!(&rt; fault.byte == 5 && text.as_str() == "AAAA,D");
+            assert_same(&rt, "a refusal", &text, "AAAA,D");
+            assert_holds(&rt, "at the second", fault.byte == 5);
             Ok(())
         }
+    }
+}
+
+// Whether a check gives a segment of four bytes, and then none.
+fn has_one_segment(check: &mut TextCheck) -> bool {
+    match check.next() {
+        Some((_, after)) => {
+            after.cursor().place == 4 && check.pass(9) == 0 && check.next().is_none()
+        }
+        None => false,
     }
 }

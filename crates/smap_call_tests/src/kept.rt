@@ -1,7 +1,9 @@
 //! What is kept of URLs, over random runs, as a model has it.
 use crate::kept_rows::ROWS;
+use crate::same::assert_same;
 use smap_kept::{Kept, KeptAnswer, NoValue};
 use std::alloc::Global;
+use std::process::Abort;
 use std::test::Fail;
 
 // A step of a run: its name, a URL, and what stands behind that.
@@ -121,12 +123,22 @@ fn step(alloc: Global, kept: &mut Kept<u64>, row: &str) -> Result<Option<String>
         "none" => put_none(alloc, kept, url, first, second)?,
         "forget" => kept.forget(url),
         "forget_none" => kept.forget_none(),
-        "ask" => return Ok(Some(ask(alloc, kept, url, number(first)?, second)?)),
-        "peek" => return Ok(Some(told(alloc, kept.peek(url, number(first)?))?)),
-        "key" => return Ok(Some(key(alloc, kept, url, rest)?)),
-        _ => return Ok(Some(state(alloc, kept)?)),
+        _ => return Ok(Some(answer(alloc, kept, row)?)),
     }
     Ok(None)
+}
+
+// What a step answers that is compared.
+fn answer(alloc: Global, kept: &mut Kept<u64>, row: &str) -> Result<String, Fail> {
+    let (name, url, rest) = parts(row);
+    let url = url.as_bytes();
+    let (first, second) = rest.split_once(' ').unwrap_or((rest, ""));
+    match name {
+        "ask" => ask(alloc, kept, url, number(first)?, second),
+        "peek" => told(alloc, kept.peek(url, number(first)?)),
+        "key" => key(alloc, kept, url, rest),
+        _ => state(alloc, kept),
+    }
 }
 
 // What a row says of the answer.
@@ -141,20 +153,24 @@ fn wanted(row: &str) -> &str {
     }
 }
 
+// Takes a step, and compares what it answers.
+fn take_step(rt: &impl Abort, alloc: Global, kept: &mut Kept<u64>, row: &str) -> Result<(), Fail> {
+    if let Some(most) = row.strip_prefix("new ") {
+        *kept = Kept::new(alloc, number(most)?)?;
+        return Ok(());
+    }
+    match step(alloc, kept, row)? {
+        Some(answer) => assert_same(rt, row, &answer, wanted(row)),
+        None => (),
+    }
+    Ok(())
+}
+
 #[test]
 fn runs_are_as_the_model_has_them(rt: HostRuntime) -> Result<(), Fail> {
-    let alloc = rt.alloc();
-    let mut kept: Kept<u64> = Kept::new(alloc, 0)?;
+    let mut kept: Kept<u64> = Kept::new(rt.alloc(), 0)?;
     for row in ROWS.lines() {
-        let row = row.trim();
-        match row.strip_prefix("new ") {
-            Some(most) => kept = Kept::new(alloc, number(most)?)?,
-            None => {
-                if let Some(answer) = step(alloc, &mut kept, row)? {
-                    assert_eq!(rt; answer.as_str(), wanted(row), "at {row}");
-                }
-            }
-        }
+        take_step(&rt, rt.alloc(), &mut kept, row.trim())?;
     }
     Ok(())
 }

@@ -1,8 +1,9 @@
 //! Look-ups among the checkpoints of their line, and maps that are ready for them. The answers are written by hand.
 ghost use Rattle.smap_index.specs.LineStarts.{AreLineStarts, marked_lines};
 
-use crate::indexes::{Wanted, index_of, is_wanted, packed};
-use crate::same::assert_same;
+use crate::indexes::{Direction, Wanted, index_of, is_wanted, packed};
+use crate::same::assert_holds;
+use crate::shared::assert_source;
 use smap_index::{Answer, Index, LineStarts};
 use smap_record::{MapFile, Meter, ReadyMap};
 use std::alloc::Global;
@@ -34,14 +35,14 @@ fn assert_asked(rt: &impl Abort, alloc: Global, index: &Index, starts: &LineStar
 {
     let (line, column, before, after, compared) = asked;
     let mut meter = Meter::new(alloc);
-    assert!(rt; meter.has_room());
+    assert_holds(rt, "room", meter.has_room());
     let answer = index.look_up_among(starts, *line, *column, &mut meter);
-    assert!(rt; is_wanted(&answer, *before), "before, on line {line}");
-    assert!(rt; meter.comparisons() <= *compared, "on line {line}");
+    let is_answered = is_wanted(&answer, *before) && meter.comparisons() <= *compared;
+    assert_holds(rt, "before", is_answered);
     let mut meter = Meter::new(alloc);
     let answer = index.look_up_from_among(starts, *line, *column, &mut meter);
-    assert!(rt; is_wanted(&answer, *after), "after, on line {line}");
-    assert!(rt; meter.comparisons() <= *compared, "on line {line}");
+    let is_answered = is_wanted(&answer, *after) && meter.comparisons() <= *compared;
+    assert_holds(rt, "after", is_answered);
 }
 
 #[test]
@@ -84,36 +85,47 @@ fn long_map(alloc: Global) -> Result<MapFile, Fail> {
 #[test]
 fn a_ready_map_answers_as_the_map(rt: HostRuntime) -> Result<(), Fail> {
     let ready = ReadyMap::new(rt.alloc(), long_map(rt.alloc())?);
-    assert!(&rt; ready.map().checkpoints() == 100);
+    assert_holds(&rt, "checkpoints", ready.map().checkpoints() == 100);
     for line in 0..100 {
-        let mut meter = Meter::new(rt.alloc());
-        let Answer::Found { column: 2, origin } = ready.look_up(line, 7, &mut meter) else {
-            return Err(Fail::new("no second segment before column 7"));
-        };
-        // The line has one checkpoint.
-        assert!(&rt; origin.line == line && origin.column == 1 && meter.comparisons() <= 1);
-        let mut meter = Meter::new(rt.alloc());
-        let Answer::Found { column: 2, origin } = ready.look_up_from(line, 1, &mut meter) else {
-            return Err(Fail::new("no second segment after column 1"));
-        };
-        assert!(&rt; origin.line == line && origin.column == 1 && meter.comparisons() <= 1);
+        let (before, after) = (Direction::Before, Direction::After);
+        assert_holds(
+            &rt,
+            "before column 7",
+            has_second(rt.alloc(), &ready, before, line, 7),
+        );
+        assert_holds(
+            &rt,
+            "from column 1 on",
+            has_second(rt.alloc(), &ready, after, line, 1),
+        );
     }
     let mut meter = Meter::new(rt.alloc());
-    assert!(&rt; ready.look_up(100, 0, &mut meter) == Answer::Nothing);
-    assert!(&rt; ready.into_map().segments() == 200);
+    let answer = ready.look_up(100, 0, &mut meter);
+    assert_holds(&rt, "no line", answer == Answer::Nothing);
+    assert_holds(&rt, "segments", ready.into_map().segments() == 200);
     Ok(())
+}
+
+// Whether the second segment of the line answers. The line has one checkpoint.
+fn has_second(
+    alloc: Global,
+    ready: &ReadyMap,
+    direction: Direction,
+    line: u32,
+    column: u32,
+) -> bool {
+    let mut meter = Meter::new(alloc);
+    let answer = match direction {
+        Direction::Before => ready.look_up(line, column, &mut meter),
+        Direction::After => ready.look_up_from(line, column, &mut meter),
+    };
+    is_wanted(&answer, Some((2, line, 1))) && meter.comparisons() <= 1
 }
 
 #[test]
 fn a_ready_map_gives_a_source_another_name(rt: HostRuntime) -> Result<(), Fail> {
     let mut ready = ReadyMap::new(rt.alloc(), long_map(rt.alloc())?);
     ready.name_sources_by_path(rt.alloc(), b"/x/app.js.map")?;
-    match ready.map().source(0) {
-        Some(source) => match &source.name {
-            Some(name) => assert_same(&rt, "named", name.text(), "/x/a.js"),
-            None => panic!(&rt; "a source without a name"),
-        },
-        None => panic!(&rt; "no source"),
-    }
+    assert_source(&rt, ready.map(), "/x/a.js");
     Ok(())
 }

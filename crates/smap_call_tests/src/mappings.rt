@@ -1,4 +1,5 @@
 //! Mappings texts: the walk along a line, the copy in the canonical form, and the order of positions.
+use crate::same::{assert_holds, assert_same};
 use smap_mappings::{Kind, Meter, PackedText, Position};
 use std::alloc::Global;
 use std::test::Fail;
@@ -12,11 +13,14 @@ fn a_walk_ends_at_the_column_or_with_the_line(rt: HostRuntime) -> Result<(), Fai
     let packed = packed(rt.alloc(), "AAAA,C,C;C")?;
     let mut meter = Meter::new(rt.alloc());
     let before = packed.walk_line(&packed.start(), 2, 9, &mut meter);
-    assert!(&rt; before.passed == 2 && before.next.is_some() && meter.segments() == 3);
-    assert!(&rt; before.state.cursor().place == 6 && matches!(before.kind, Kind::Unmapped));
+    let is_before = before.passed == 2 && before.next.is_some() && meter.segments() == 3;
+    assert_holds(&rt, "before the column", is_before);
+    let is_second = before.state.cursor().place == 6 && matches!(before.kind, Kind::Unmapped);
+    assert_holds(&rt, "behind the second", is_second);
     let mut meter = Meter::new(rt.alloc());
     let whole = packed.walk_line(&packed.start(), 9, 9, &mut meter);
-    assert!(&rt; whole.passed == 3 && whole.next.is_none() && meter.segments() == 3);
+    let is_whole = whole.passed == 3 && whole.next.is_none() && meter.segments() == 3;
+    assert_holds(&rt, "the line", is_whole);
     Ok(())
 }
 
@@ -30,7 +34,7 @@ const TEXTS: [(&str, &str); 2] = [
 fn a_canonical_text_is_copied_and_another_written_anew(rt: HostRuntime) -> Result<(), Fail> {
     for (text, canonical) in TEXTS {
         let written = packed(rt.alloc(), text)?.canonical_text(rt.alloc())?;
-        assert!(&rt; written.as_str() == canonical);
+        assert_same(&rt, text, &written, canonical);
     }
     Ok(())
 }
@@ -51,7 +55,8 @@ fn positions_stand_by_line_and_then_by_column(rt: HostRuntime) {
     ];
     for (place, first) in rising.iter().enumerate() {
         for (other_place, other) in rising.iter().enumerate() {
-            assert!(&rt; first.is_before(other) == (place < other_place));
+            let is_before = first.is_before(other);
+            assert_holds(&rt, "order", is_before == (place < other_place));
         }
     }
 }

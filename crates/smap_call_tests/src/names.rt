@@ -1,4 +1,5 @@
 //! Frames with the written names of their functions.
+use crate::same::assert_holds;
 use smap_declarations::Declarations;
 use smap_io::{MemorySink, MemorySource};
 use smap_record::MapFile;
@@ -64,8 +65,8 @@ fn becomes(
         places: &mut NoPlaces,
     };
     let counts = rewrite_over(alloc, &mut input, &mut output, maps, &options, &mut beside);
-    assert!(rt; counts.is_ok(), "{frame} is not rewritten");
-    assert_eq!(rt; output.bytes(), wanted.as_bytes());
+    assert_holds(rt, frame, counts.is_ok());
+    assert_holds(rt, frame, output.bytes() == wanted.as_bytes());
     Ok(())
 }
 
@@ -75,7 +76,7 @@ fn frames_have_the_written_names_of_their_functions(rt: HostRuntime) -> Result<(
     let declarations = Declarations::of_text(rt.alloc(), GENERATED, &map)?;
     let mut table = Table::new(rt.alloc());
     let url = String::from_str(rt.alloc(), "/u")?;
-    assert!(rt; table.add(url, map).is_ok());
+    assert_holds(&rt, "added", table.add(url, map).is_ok());
     let mut declared = UrlDeclarations::new(rt.alloc());
     declared.add(Vec::from_slice(rt.alloc(), b"/u")?, declarations)?;
     let mut maps = NamedTable {

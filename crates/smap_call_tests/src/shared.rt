@@ -1,4 +1,5 @@
 //! A map that several hold.
+use crate::same::{assert_holds, assert_same};
 use smap_record::{Answer, MapFile, Meter, SharedMap, SourceName};
 use std::alloc::{AllocError, Global};
 use std::process::Abort;
@@ -15,14 +16,14 @@ fn hold(alloc: Global) -> Result<SharedMap, Fail> {
     Ok(first_hold(alloc, map)?)
 }
 
-// That the only source has this name.
-fn assert_source(rt: &impl Abort, map: &MapFile, wanted: &str) {
+/// That the first source has this name.
+pub(crate) fn assert_source(rt: &impl Abort, map: &MapFile, wanted: &str) {
     match map.source(0) {
         Some(source) => match &source.name {
-            Some(name) => assert_eq!(rt; name.text(), wanted),
-            None => panic!(rt; "a source without a name"),
+            Some(name) => assert_same(rt, "a source", name.text(), wanted),
+            None => assert_holds(rt, "a source without a name", false),
         },
-        None => panic!(rt; "no source"),
+        None => assert_holds(rt, "no source", false),
     }
 }
 
@@ -33,7 +34,11 @@ fn each_hold_has_the_map(rt: HostRuntime) -> Result<(), Fail> {
     drop(first);
     let mut meter = Meter::new(rt.alloc());
     let answer = second.map().look_up(0, 3, &mut meter);
-    assert!(&rt; matches!(answer, Answer::Found { column: 0, .. }));
+    assert_holds(
+        &rt,
+        "found",
+        matches!(answer, Answer::Found { column: 0, .. }),
+    );
     assert_source(&rt, second.map(), "a.js");
     Ok(())
 }
@@ -42,7 +47,7 @@ fn each_hold_has_the_map(rt: HostRuntime) -> Result<(), Fail> {
 fn a_map_that_is_held_twice_stays(rt: HostRuntime) -> Result<(), Fail> {
     let mut first = hold(rt.alloc())?;
     let second = first.share()?;
-    assert!(&rt; first.only().is_none());
+    assert_holds(&rt, "held twice", first.only().is_none());
     assert_source(&rt, first.map(), "a.js");
     match first.into_map() {
         Ok(_) => Err(Fail::new("a map that is held twice was taken out")),

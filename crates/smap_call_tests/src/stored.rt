@@ -1,4 +1,5 @@
 //! Maps that are read when they are named.
+use crate::same::assert_holds;
 use smap_locations::Locations;
 use smap_record::MapFile;
 use smap_store::{LoadedMap, MapCache, MapLoader, NoMap, StoredMaps, add_list};
@@ -84,6 +85,18 @@ fn is_file<M: Maps>(maps: &mut M, url: &str, file: &str) -> bool {
     }
 }
 
+// Whether each URL has its map, and once more.
+fn are_files_twice<M: Maps>(maps: &mut M) -> bool {
+    for _ in 0..2 {
+        for (url, file) in ROWS {
+            if !is_file(maps, url, file) {
+                return false;
+            }
+        }
+    }
+    true
+}
+
 // A table of one map.
 fn exact(alloc: Global) -> Result<Table, Fail> {
     let mut exact = Table::new(alloc);
@@ -100,7 +113,11 @@ fn each_url_has_its_map(rt: HostRuntime) -> Result<(), Fail> {
     let alloc = rt.alloc();
     let exact = exact(alloc)?;
     let mut locations = Locations::new(alloc);
-    assert!(&rt; add_list(alloc, &mut locations, &exact, LIST).is_ok());
+    assert_holds(
+        &rt,
+        LIST,
+        add_list(alloc, &mut locations, &exact, LIST).is_ok(),
+    );
     // What is kept counts for 1,152 bytes, 1,150, 153 and 150, in the order of the rows. The second bound has room for both
     // maps, and a sixteenth of it for one URL that has none; the third for one of each.
     for (most, read, missing, kept) in [
@@ -118,16 +135,12 @@ fn each_url_has_its_map(rt: HostRuntime) -> Result<(), Fail> {
                 cache: &mut cache,
                 loader: &mut loader,
             };
-            for _ in 0..2 {
-                for (url, file) in ROWS {
-                    assert!(&rt; is_file(&mut maps, url, file));
-                }
-            }
+            assert_holds(&rt, "files", are_files_twice(&mut maps));
         }
-        assert_eq!(&rt; loader.asked, read + missing / 2);
-        assert_eq!(&rt; (cache.read(), cache.missing()), (read, missing));
-        assert_eq!(&rt; (cache.bytes(), cache.none_bytes()), kept);
-        assert_eq!(&rt; cache.shortages(), 0);
+        assert_holds(&rt, "asked", loader.asked == read + missing / 2);
+        let found = (cache.read(), cache.missing(), cache.shortages());
+        assert_holds(&rt, "read", found == (read, missing, 0));
+        assert_holds(&rt, "kept", (cache.bytes(), cache.none_bytes()) == kept);
     }
     Ok(())
 }
@@ -145,7 +158,12 @@ fn a_pattern_is_read_once_for_a_cut_url(rt: HostRuntime) -> Result<(), Fail> {
     let alloc = rt.alloc();
     let exact = exact(alloc)?;
     let mut locations = Locations::new(alloc);
-    assert!(&rt; add_list(alloc, &mut locations, &exact, "*\tall.map\n").is_ok());
+    let list = "*\tall.map\n";
+    assert_holds(
+        &rt,
+        list,
+        add_list(alloc, &mut locations, &exact, list).is_ok(),
+    );
     let mut cache = MapCache::new(1_000_000);
     let mut loader = Named { asked: 0 };
     for (url, asked) in OF_PATTERN {
@@ -157,8 +175,8 @@ fn a_pattern_is_read_once_for_a_cut_url(rt: HostRuntime) -> Result<(), Fail> {
             loader: &mut loader,
         };
         maps.find(url.as_bytes());
-        assert!(&rt; maps.map_for(url.as_bytes()).is_some());
-        assert_eq!(&rt; loader.asked, asked);
+        assert_holds(&rt, url, maps.map_for(url.as_bytes()).is_some());
+        assert_holds(&rt, url, loader.asked == asked);
     }
     Ok(())
 }

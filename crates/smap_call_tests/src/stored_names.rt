@@ -1,4 +1,5 @@
 //! Maps that are read when they are named, with the written names of functions.
+use crate::same::assert_holds;
 use smap_declarations::Declarations;
 use smap_locations::Locations;
 use smap_record::{MapFile, ReadyMap};
@@ -119,6 +120,19 @@ const OF_TABLE: &[Row] = &[
     ("https://a.test/app.js?v=2", "a", "was_a", 2),
 ];
 
+// Whether the function has this name in the program of the URL.
+fn is_named<M: Maps>(
+    alloc: Global,
+    maps: &mut M,
+    url: &str,
+    function: &str,
+    written: &str,
+) -> bool {
+    maps.find(url.as_bytes());
+    let name = maps.written_name(alloc, url.as_bytes(), function.as_bytes(), 1, 14);
+    name == Some(written.as_bytes())
+}
+
 // Each function has its name, over a table and a folder, with this bound for the maps of files.
 fn are_named(
     rt: &impl Abort,
@@ -129,7 +143,11 @@ fn are_named(
 ) -> Result<(), Fail> {
     let mut locations = Locations::new(alloc);
     let list = "https://a.test/\tmaps/\n";
-    assert!(rt; add_list(alloc, &mut locations, exact, list).is_ok());
+    assert_holds(
+        rt,
+        list,
+        add_list(alloc, &mut locations, exact, list).is_ok(),
+    );
     let mut cache = MapCache::new(most);
     let mut loader = Changing { read: 0 };
     let mut names = NamesCache::new(alloc, 1_000_000)?;
@@ -147,13 +165,8 @@ fn are_named(
             names: &mut names,
             namer: &mut namer,
         };
-        named.find(url.as_bytes());
-        let name = named.written_name(alloc, url.as_bytes(), function.as_bytes(), 1, 14);
-        assert!(rt;
-            name == Some(written.as_bytes()),
-            "{url}: another name than {written}"
-        );
-        assert_eq!(rt; namer.asked, *asked);
+        assert_holds(rt, url, is_named(alloc, &mut named, url, function, written));
+        assert_holds(rt, url, namer.asked == *asked);
     }
     Ok(())
 }
@@ -169,7 +182,7 @@ fn a_map_of_the_table_has_its_own_names(rt: HostRuntime) -> Result<(), Fail> {
     let mut exact = Table::new(rt.alloc());
     let url = String::from_str(rt.alloc(), "https://a.test/app.js")?;
     match map_of(rt.alloc(), "t") {
-        Some(map) => assert!(&rt; exact.add(url, map).is_ok()),
+        Some(map) => assert_holds(&rt, "added", exact.add(url, map).is_ok()),
         None => return Err(Fail::from("no map")),
     }
     are_named(&rt, rt.alloc(), &exact, 1_000_000, OF_TABLE)

@@ -1,7 +1,11 @@
 //! That nothing waits to be written while more of a trace is awaited.
-use crate::runs::{HeldFiles, MOST_TAKEN, command_of};
-use smap_answers::run_reading;
+ghost use Rattle.smap_answers.specs.Run.{IsRunnable};
+
+use crate::runs::{MOST_TAKEN, command_of, status_of};
+use crate::same::assert_holds;
+use smap_command::Command;
 use smap_io::{FromStd, MemorySink};
+use std::alloc::{AllocError, Global};
 use std::cell::Cell;
 use std::io;
 use std::test::Fail;
@@ -58,40 +62,40 @@ impl io::Write for Counted<'_> {
     }
 }
 
+const FILES: &[(&str, &str)] = &[(
+    "m.map",
+    r#"{"version":3,"sources":["a.ts"],"mappings":"AAAA,CAAC"}"#,
+)];
+
+// The status of a command over the pieces, with what was written, and the last read before which something waited.
+fn status_over_pieces(
+    alloc: Global,
+    command: &Command,
+    written: &Cell<usize>,
+    late: &Cell<usize>,
+) -> Result<u8, AllocError>
+    requires { IsRunnable command.now }
+{
+    let mut errors = MemorySink::new(Vec::with_capacity(alloc, MOST_TAKEN)?, 1, 0);
+    let input = FromStd::new(Asked {
+        written,
+        asked: 0,
+        late,
+    });
+    let mut output = FromStd::new(Counted { written });
+    Ok(status_of(alloc, FILES, command, input, &mut output, &mut errors))
+}
+
 #[test]
 fn nothing_waits_while_more_is_awaited(rt: HostRuntime) -> Result<(), Fail> {
-    let alloc = rt.alloc();
-    let files = [(
-        "m.map",
-        r#"{"version":3,"sources":["a.ts"],"mappings":"AAAA,CAAC"}"#,
-    )];
-    let Ok(command) = command_of(alloc, &["rewrite", "https://ex.test/app.js=m.map"]) else {
+    let words = ["rewrite", "https://ex.test/app.js=m.map"];
+    let Ok(command) = command_of(rt.alloc(), &words) else {
         return Err(Fail::new("no command"));
     };
     let (written, late) = (Cell::new(0), Cell::new(0));
-    let input = FromStd::new(Asked {
-        written: &written,
-        asked: 0,
-        late: &late,
-    });
-    let mut output = FromStd::new(Counted { written: &written });
-    let mut errors = MemorySink::new(Vec::with_capacity(alloc, MOST_TAKEN)?, 1, 0);
-    let (status, _) = run_reading(
-        alloc,
-        &HeldFiles(&files),
-        &command,
-        false,
-        input,
-        &mut output,
-        &mut errors,
-        &mut None,
-    );
-    assert_eq!(rt; status, 0);
-    assert_eq!(rt;
-        late.get(),
-        0,
-        "the read, from 1, before which something waited"
-    );
-    assert_eq!(rt; written.get(), 105);
+    let status = status_over_pieces(rt.alloc(), &command, &written, &late)?;
+    assert_holds(&rt, "the status is 0", status == 0);
+    assert_holds(&rt, "nothing waited before a read", late.get() == 0);
+    assert_holds(&rt, "all was written", written.get() == 105);
     Ok(())
 }

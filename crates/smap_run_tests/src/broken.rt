@@ -1,8 +1,9 @@
 //! A reader and a writer of std of which one call breaks off.
 ghost use Rattle.std.specs.Prelude.{◌≡◌, IfOk};
+ghost use Rattle.smap_answers.specs.Run.{IsRunnable};
 
-use crate::runs::{HeldFiles, MOST_TAKEN, command_of, left_text};
-use smap_answers::run_reading;
+use crate::runs::{MOST_TAKEN, command_of, left_text, status_of};
+use smap_command::Command;
 use smap_io::{FromStd, MemorySink};
 use std::alloc::{AllocError, Global};
 use std::io;
@@ -29,6 +30,16 @@ struct Broken {
 }
 
 impl Broken {
+    fn new(bytes: Vec<u8>, piece: usize, breaks_at: u64, how: Break) -> Broken {
+        Broken {
+            bytes,
+            piece,
+            breaks_at,
+            how,
+            calls: 0,
+        }
+    }
+
     // Whether this call is the one that breaks off.
     fn is_breaking(&mut self) -> bool {
         self.calls = self.calls.saturating_add(1);
@@ -88,34 +99,30 @@ pub fn left_broken(
     breaks_at: (u64, u64),
     how: Break,
 ) -> Result<String, AllocError> {
-    let mut reader = Broken {
-        bytes: input.to_vec(alloc)?,
-        piece: pieces.0,
-        breaks_at: breaks_at.0,
-        how,
-        calls: 0,
-    };
-    let mut writer = Broken {
-        bytes: Vec::with_capacity(alloc, MOST_TAKEN)?,
-        piece: pieces.1,
-        breaks_at: breaks_at.1,
-        how,
-        calls: 0,
-    };
+    let mut reader = Broken::new(input.to_vec(alloc)?, pieces.0, breaks_at.0, how);
+    let room = Vec::with_capacity(alloc, MOST_TAKEN)?;
+    let mut writer = Broken::new(room, pieces.1, breaks_at.1, how);
+    match command_of(alloc, words) {
+        Ok(command) => left_over(alloc, files, &command, &mut reader, &mut writer),
+        Err(text) => Ok(text),
+    }
+}
+
+// What a command leaves over this reader and this writer.
+fn left_over(
+    alloc: Global,
+    files: &[(&str, &str)],
+    command: &Command,
+    reader: &mut Broken,
+    writer: &mut Broken,
+) -> Result<String, AllocError>
+    requires { IsRunnable command.now }
+{
     let mut errors = MemorySink::new(Vec::with_capacity(alloc, MOST_TAKEN)?, 8_192, 0);
-    let command = match command_of(alloc, words) {
-        Ok(command) => command,
-        Err(text) => return Ok(text),
+    let input = FromStd::new(reader);
+    let status = {
+        let mut output = FromStd::new(&mut *writer);
+        status_of(alloc, files, command, input, &mut output, &mut errors)
     };
-    let (status, _) = run_reading(
-        alloc,
-        &HeldFiles(files),
-        &command,
-        false,
-        FromStd::new(&mut reader),
-        &mut FromStd::new(&mut writer),
-        &mut errors,
-        &mut None,
-    );
     left_text(alloc, status, &writer.bytes, errors.bytes())
 }

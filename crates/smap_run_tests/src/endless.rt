@@ -1,7 +1,6 @@
 //! Runs over a reader of std without end.
-use crate::runs::{HeldFiles, MOST_TAKEN, command_of, left_text};
+use crate::runs::{MOST_TAKEN, command_of, left_text, status_of};
 use crate::same::assert_same;
-use smap_answers::run_reading;
 use smap_io::{FromStd, MemorySink};
 use std::alloc::Global;
 use std::io;
@@ -25,16 +24,8 @@ fn assert_left(
         return Err(Fail::new("no command"));
     };
     let mut errors = MemorySink::new(Vec::with_capacity(alloc, MOST_TAKEN)?, 1, 0);
-    let (status, _) = run_reading(
-        alloc,
-        &HeldFiles(FILES),
-        &command,
-        false,
-        FromStd::new(io::repeat(byte)),
-        &mut FromStd::new(io::sink()),
-        &mut errors,
-        &mut None,
-    );
+    let (input, mut output) = (FromStd::new(io::repeat(byte)), FromStd::new(io::sink()));
+    let status = status_of(alloc, FILES, &command, input, &mut output, &mut errors);
     let left = left_text(alloc, status, b"", errors.bytes())?;
     assert_same(rt, wanted, &left, wanted);
     Ok(())

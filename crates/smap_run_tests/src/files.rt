@@ -1,6 +1,6 @@
 //! Files that are read: how many of their bytes, and why some can't be.
 use crate::runs::{left, left_by};
-use crate::same::assert_same;
+use crate::same::{assert_holds, assert_same};
 use smap_answers::FileReader;
 use smap_command::{CheckOptions, Command};
 use smap_io::ReadFailure;
@@ -61,7 +61,7 @@ fn files_are_read_byte_by_byte(rt: HostRuntime) -> Result<(), Fail> {
     fs::create_dir(&rt, folder.as_str())?;
     let are_read = is_read(&rt, &folder, true)? && is_read(&rt, &folder, false)?;
     fs::remove_dir_all(&rt, folder.as_str())?;
-    assert!(rt; are_read);
+    assert_holds(&rt, "byte by byte", are_read);
     Ok(())
 }
 

@@ -1,11 +1,11 @@
 //! Running a command line over files in memory, and all that the run leaves.
-ghost use Rattle.std.specs.Prelude.{⊤, IfOk};
+ghost use Rattle.std.specs.Prelude.{◌≡◌, ⊤, false, IfOk};
 ghost use Rattle.smap_answers.specs.Run.{IsRunnable};
 
 use smap_answers::{FileReader, run_reading};
 use smap_arguments::{Usage, parse};
 use smap_command::Command;
-use smap_io::{MemorySink, MemorySource, ReadFailure};
+use smap_io::{ByteSink, ByteSource, MemorySink, MemorySource, ReadFailure};
 use smap_replies::UnreadCause;
 use std::alloc::{AllocError, Global};
 
@@ -118,15 +118,34 @@ pub fn left_by(
     let input = MemorySource::new(input.to_vec(alloc)?, MOST_MOVED, 0);
     let mut output = MemorySink::new(room, MOST_MOVED, 0);
     let mut errors = MemorySink::new(more, MOST_MOVED, 0);
+    let status = status_of(alloc, files, command, input, &mut output, &mut errors);
+    left_text(alloc, status, output.bytes(), errors.bytes())
+}
+
+/// The status of a command over files in memory and devices that have not failed. All runs go by this call, as the contract
+/// of the one in it is read once then.
+pub fn status_of<R: ByteSource + Drop, W: ByteSink>(
+    alloc: Global,
+    files: &[(&str, &str)],
+    command: &Command,
+    input: R,
+    output: &mut W,
+    errors: &mut MemorySink,
+) -> u8
+    requires command { IsRunnable command.now }
+    requires input_works { (R.seen input).failed ≡ false }
+    requires output_works { (W.seen output.old).failed ≡ false }
+    requires errors_work { errors.old.failed ≡ false }
+{
     let (status, _) = run_reading(
         alloc,
         &HeldFiles(files),
         command,
         false,
         input,
-        &mut output,
-        &mut errors,
+        output,
+        errors,
         &mut None,
     );
-    left_text(alloc, status, output.bytes(), errors.bytes())
+    status
 }

@@ -62,9 +62,9 @@ word_name url (Some file) = Some url
 abbrev pub deciding_name : (url : List ℕ) → List (List ℕ × List ℕ) → LocationsSeen → List ℕ
 deciding_name url arguments locations = unwrap_or (or_else (word_name url (word_file url arguments)) (decided_by locations url)) []
 
--- the first place for which the map has nothing that can be put there
+-- the first place for which the map has no original, or none whose source can be printed
 abbrev pub unmapped_text : ℕ × ℕ → List ℕ
-unmapped_text (line, column) = concat (codes ", nothing for " ∷ decimal line ∷ codes ":" ∷ decimal column ∷ codes ": see smap lookup" ∷ [])
+unmapped_text (line, column) = concat (codes ", no original to print for " ∷ decimal line ∷ codes ":" ∷ decimal column ∷ codes ": see smap lookup" ∷ [])
 
 -- or, where there is none, how many frames were left out
 abbrev pub hidden_text : (count : ℕ) → List ℕ

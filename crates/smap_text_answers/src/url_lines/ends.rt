@@ -131,13 +131,13 @@ fn found_text(alloc: Global, name: &[u8], file: &str, note: &UrlNote) -> Result<
     Ok(text)
 }
 
-// The first place for which a map has nothing that can be put there, or how many frames were left out.
+// The first place for which a map has no original that can be printed, or how many frames were left out.
 fn rest_text(alloc: Global, unmapped: Option<(u32, u32)>, left: u64) -> Result<String, AllocError>
     ensures { IfOk result (λ text. string_bytes text ≡ rest_text unmapped left) }
 {
     match unmapped {
         Some((line, column)) => {
-            format!(in alloc; ", nothing for {line}:{column}: see smap lookup")
+            format!(in alloc; ", no original to print for {line}:{column}: see smap lookup")
         }
         None if left == 0 => Ok(String::new(alloc)),
         None => format!(in alloc; ", {left} hidden"),
