@@ -15,7 +15,8 @@ fn texts_have_a_common_front(rt: HostRuntime) -> Result<(), Fail> {
         common_front(b"/app.js", b"/a.js"),
         common_front(b"/app.js", b"/ap"),
     );
-    assert_holds(&rt, "fronts", front == b"/a" && whole == b"/ap");
+    let are_fronts = front == b"/a".as_slice() && whole == b"/ap".as_slice();
+    assert_holds(&rt, "fronts", are_fronts);
     let mut texts: ByText<u8> = ByText::new(rt.alloc());
     assert_holds(&rt, "of no text", texts.common().is_none());
     let text = Vec::from_slice(rt.alloc(), b"ab/c")?;
