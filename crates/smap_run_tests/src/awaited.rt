@@ -1,9 +1,6 @@
 //! That nothing waits to be written while more of a trace is awaited.
-ghost use Rattle.smap_answers.specs.Run.{IsRunnable};
-
-use crate::runs::{MOST_TAKEN, command_of, status_of};
+use crate::runs::{MOST_TAKEN, status_of_words};
 use crate::same::assert_holds;
-use smap_command::Command;
 use smap_io::{FromStd, MemorySink};
 use std::alloc::{AllocError, Global};
 use std::cell::Cell;
@@ -67,15 +64,14 @@ const FILES: &[(&str, &str)] = &[(
     r#"{"version":3,"sources":["a.ts"],"mappings":"AAAA,CAAC"}"#,
 )];
 
-// The status of a command over the pieces, with what was written, and the last read before which something waited.
+// The status of a command line over the pieces, or 2, with what was written, and the last read before which something
+// waited.
 fn status_over_pieces(
     alloc: Global,
-    command: &Command,
+    words: &[&str],
     written: &Cell<usize>,
     late: &Cell<usize>,
-) -> Result<u8, AllocError>
-    requires { IsRunnable command.now }
-{
+) -> Result<u8, AllocError> {
     let mut errors = MemorySink::new(Vec::with_capacity(alloc, MOST_TAKEN)?, 1, 0);
     let input = FromStd::new(Asked {
         written,
@@ -83,17 +79,15 @@ fn status_over_pieces(
         late,
     });
     let mut output = FromStd::new(Counted { written });
-    Ok(status_of(alloc, FILES, command, input, &mut output, &mut errors))
+    let status = status_of_words(alloc, FILES, words, input, &mut output, &mut errors);
+    Ok(status.unwrap_or(2))
 }
 
 #[test]
 fn nothing_waits_while_more_is_awaited(rt: HostRuntime) -> Result<(), Fail> {
     let words = ["rewrite", "https://ex.test/app.js=m.map"];
-    let Ok(command) = command_of(rt.alloc(), &words) else {
-        return Err(Fail::new("no command"));
-    };
     let (written, late) = (Cell::new(0), Cell::new(0));
-    let status = status_over_pieces(rt.alloc(), &command, &written, &late)?;
+    let status = status_over_pieces(rt.alloc(), &words, &written, &late)?;
     assert_holds(&rt, "the status is 0", status == 0);
     assert_holds(&rt, "nothing waited before a read", late.get() == 0);
     assert_holds(&rt, "all was written", written.get() == 105);

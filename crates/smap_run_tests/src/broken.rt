@@ -1,9 +1,7 @@
 //! A reader and a writer of std of which one call breaks off.
 ghost use Rattle.std.specs.Prelude.{◌≡◌, IfOk};
-ghost use Rattle.smap_answers.specs.Run.{IsRunnable};
 
-use crate::runs::{MOST_TAKEN, command_of, left_text, status_of};
-use smap_command::Command;
+use crate::runs::{MOST_TAKEN, left_text, status_of_words};
 use smap_io::{FromStd, MemorySink};
 use std::alloc::{AllocError, Global};
 use std::io;
@@ -102,27 +100,25 @@ pub fn left_broken(
     let mut reader = Broken::new(input.to_vec(alloc)?, pieces.0, breaks_at.0, how);
     let room = Vec::with_capacity(alloc, MOST_TAKEN)?;
     let mut writer = Broken::new(room, pieces.1, breaks_at.1, how);
-    match command_of(alloc, words) {
-        Ok(command) => left_over(alloc, files, &command, &mut reader, &mut writer),
-        Err(text) => Ok(text),
-    }
+    left_over(alloc, files, words, &mut reader, &mut writer)
 }
 
-// What a command leaves over this reader and this writer.
+// What a command line leaves over this reader and this writer.
 fn left_over(
     alloc: Global,
     files: &[(&str, &str)],
-    command: &Command,
+    words: &[&str],
     reader: &mut Broken,
     writer: &mut Broken,
-) -> Result<String, AllocError>
-    requires { IsRunnable command.now }
-{
+) -> Result<String, AllocError> {
     let mut errors = MemorySink::new(Vec::with_capacity(alloc, MOST_TAKEN)?, 8_192, 0);
     let input = FromStd::new(reader);
     let status = {
         let mut output = FromStd::new(&mut *writer);
-        status_of(alloc, files, command, input, &mut output, &mut errors)
+        status_of_words(alloc, files, words, input, &mut output, &mut errors)
     };
-    left_text(alloc, status, &writer.bytes, errors.bytes())
+    match status {
+        Ok(status) => left_text(alloc, status, &writer.bytes, errors.bytes()),
+        Err(text) => Ok(text),
+    }
 }

@@ -1,5 +1,5 @@
 //! Runs over a reader of std without end.
-use crate::runs::{MOST_TAKEN, command_of, left_text, status_of};
+use crate::runs::{MOST_TAKEN, left_text, status_of_words};
 use crate::same::assert_same;
 use smap_io::{FromStd, MemorySink};
 use std::alloc::Global;
@@ -20,13 +20,12 @@ fn assert_left(
     byte: u8,
     wanted: &str,
 ) -> Result<(), Fail> {
-    let Ok(command) = command_of(alloc, words) else {
-        return Err(Fail::new("no command"));
-    };
     let mut errors = MemorySink::new(Vec::with_capacity(alloc, MOST_TAKEN)?, 1, 0);
     let (input, mut output) = (FromStd::new(io::repeat(byte)), FromStd::new(io::sink()));
-    let status = status_of(alloc, FILES, &command, input, &mut output, &mut errors);
-    let left = left_text(alloc, status, b"", errors.bytes())?;
+    let left = match status_of_words(alloc, FILES, words, input, &mut output, &mut errors) {
+        Ok(status) => left_text(alloc, status, b"", errors.bytes())?,
+        Err(text) => text,
+    };
     assert_same(rt, wanted, &left, wanted);
     Ok(())
 }

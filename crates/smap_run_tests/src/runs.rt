@@ -96,8 +96,10 @@ pub fn left(
     words: &[&str],
     input: &[u8],
 ) -> Result<String, AllocError> {
-    match command_of(alloc, words) {
-        Ok(command) => left_by(alloc, files, &command, input),
+    let input = MemorySource::new(input.to_vec(alloc)?, MOST_MOVED, 0);
+    let (mut output, mut errors) = (sink(alloc)?, sink(alloc)?);
+    match status_of_words(alloc, files, words, input, &mut output, &mut errors) {
+        Ok(status) => left_text(alloc, status, output.bytes(), errors.bytes()),
         Err(text) => left_text(alloc, 2, b"", text.as_bytes()),
     }
 }
@@ -111,15 +113,38 @@ pub fn left_by(
 ) -> Result<String, AllocError>
     requires { IsRunnable command.now }
 {
-    let (room, more) = (
-        Vec::with_capacity(alloc, MOST_TAKEN)?,
-        Vec::with_capacity(alloc, MOST_TAKEN)?,
-    );
     let input = MemorySource::new(input.to_vec(alloc)?, MOST_MOVED, 0);
-    let mut output = MemorySink::new(room, MOST_MOVED, 0);
-    let mut errors = MemorySink::new(more, MOST_MOVED, 0);
+    let (mut output, mut errors) = (sink(alloc)?, sink(alloc)?);
     let status = status_of(alloc, files, command, input, &mut output, &mut errors);
     left_text(alloc, status, output.bytes(), errors.bytes())
+}
+
+// An output with room for all that a run of these tests writes.
+fn sink(alloc: Global) -> Result<MemorySink, AllocError>
+    ensures { IfOk result (λ sink. sink.failed ≡ false) }
+{
+    let room = Vec::with_capacity(alloc, MOST_TAKEN)?;
+    Ok(MemorySink::new(room, MOST_MOVED, 0))
+}
+
+/// The same of a command line, or what is said of its words. A command is let go in this call alone, as that costs a proof
+/// much.
+pub fn status_of_words<R: ByteSource + Drop, W: ByteSink>(
+    alloc: Global,
+    files: &[(&str, &str)],
+    words: &[&str],
+    input: R,
+    output: &mut W,
+    errors: &mut MemorySink,
+) -> Result<u8, String>
+    requires input_works { (R.seen input).failed ≡ false }
+    requires output_works { (W.seen output.old).failed ≡ false }
+    requires errors_work { errors.old.failed ≡ false }
+{
+    match command_of(alloc, words) {
+        Ok(command) => Ok(status_of(alloc, files, &command, input, output, errors)),
+        Err(text) => Err(text),
+    }
 }
 
 /// The status of a command over files in memory and devices that have not failed. All runs go by this call, as the contract

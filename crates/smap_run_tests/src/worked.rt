@@ -14,6 +14,8 @@ use lookup::LOOKUP;
 use raw::RAW;
 use rewrite::REWRITE;
 use show::SHOW;
+use std::alloc::{AllocError, Global};
+use std::process::Abort;
 use std::test::Fail;
 
 /// A command line, its files, standard input, and what is left.
@@ -27,11 +29,17 @@ pub type Row = (
 #[test]
 fn the_rows_are_answered(rt: HostRuntime) -> Result<(), Fail> {
     for rows in [RAW, CHECK, LOOKUP, SHOW, REWRITE, COMPOSE] {
-        for (line, files, input, wanted) in rows {
-            let words: Vec<&str> = line.split(' ').collect(rt.alloc())?;
-            let left = left(rt.alloc(), files, &words, input)?;
-            assert_same(&rt, line, &left, wanted);
+        for row in rows {
+            assert_answered(&rt, rt.alloc(), row)?;
         }
     }
+    Ok(())
+}
+
+fn assert_answered(rt: &impl Abort, alloc: Global, row: &Row) -> Result<(), AllocError> {
+    let (line, files, input, wanted) = row;
+    let words: Vec<&str> = line.split(' ').collect(alloc)?;
+    let left = left(alloc, files, &words, input)?;
+    assert_same(rt, line, &left, wanted);
     Ok(())
 }
