@@ -4,21 +4,28 @@ use crate::commands::command_text;
 use crate::fault::RowFault;
 use crate::row::Row;
 use smap_arguments::{Usage, parse};
+use smap_command::Command;
 
 /// The words of a command line: the command that they give, or the help that they ask for.
 pub fn answer(row: &Row<'_>, answer: &mut Answer) -> Result<(), RowFault> {
     match parse(row.alloc(), row.words(1)?) {
-        Ok(command) => answer.put_text(&command_text(row.alloc(), &command)?),
-        Err(Usage::Help(text)) => {
-            answer.put_text("help")?;
-            answer.put_text(&text)
-        }
-        Err(Usage::Words(text)) => {
-            answer.put_text("mistake")?;
-            answer.put_text(&text)
-        }
-        Err(Usage::Memory) => Err(RowFault::Memory),
+        Ok(command) => put_command(row, answer, &command),
+        Err(usage) => put_usage(answer, usage),
     }
+}
+
+fn put_command(row: &Row<'_>, answer: &mut Answer, command: &Command) -> Result<(), RowFault> {
+    answer.put_text(&command_text(row.alloc(), command)?)
+}
+
+fn put_usage(answer: &mut Answer, usage: Usage) -> Result<(), RowFault> {
+    let (kind, text) = match usage {
+        Usage::Help(text) => ("help", text),
+        Usage::Words(text) => ("mistake", text),
+        Usage::Memory => return Err(RowFault::Memory),
+    };
+    answer.put_text(kind)?;
+    answer.put_text(&text)
 }
 
 /// A number of lines, and the words of a command line that is none: so many lines of what is said of it, and whether that
@@ -26,13 +33,15 @@ pub fn answer(row: &Row<'_>, answer: &mut Answer) -> Result<(), RowFault> {
 pub fn mistake_lines(row: &Row<'_>, answer: &mut Answer) -> Result<(), RowFault> {
     let count = row.number(1)? as usize;
     match parse(row.alloc(), row.words(2)?) {
-        Err(Usage::Words(text)) => {
-            for line in text.lines().take(count) {
-                answer.put_text(line)?;
-            }
-            let is_ended = text.ends_with("\n") && !text.ends_with("\n\n");
-            answer.put_text(if is_ended { "ended" } else { "not ended" })
-        }
+        Err(Usage::Words(text)) => put_lines(answer, &text, count),
         _ => answer.put_text("no mistake"),
     }
+}
+
+fn put_lines(answer: &mut Answer, text: &str, count: usize) -> Result<(), RowFault> {
+    for line in text.lines().take(count) {
+        answer.put_text(line)?;
+    }
+    let is_ended = text.ends_with("\n") && !text.ends_with("\n\n");
+    answer.put_text(if is_ended { "ended" } else { "not ended" })
 }

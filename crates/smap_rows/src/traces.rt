@@ -1,11 +1,13 @@
 //! Stack traces: frames, and what a trace becomes over a table of maps.
+ghost use Rattle.std.specs.Prelude.{◌≡◌, false};
+
 use crate::answer::Answer;
 use crate::devices::{sink, source};
 use crate::fault::RowFault;
 use crate::maps::map_at;
 use crate::row::Row;
 use smap_anywhere::{MapUrls, PlaceNotes, PlaceOptions, rewrite_anywhere};
-use smap_io::MemorySink;
+use smap_io::{MemorySink, MemorySource};
 use smap_locations::Locations;
 use smap_record::{MapFile, Url};
 use smap_trace::{RewriteFault, Summary, Table, TableMaps, frame, rewrite};
@@ -96,26 +98,31 @@ pub(crate) fn frames(row: &Row<'_>, answer: &mut Answer) -> Result<(), RowFault>
 /// An input, an output, how many bytes a text may have, an interval, a text, and the URLs and maps of a table: its lines,
 /// places and replaced places, and what the text becomes.
 pub(crate) fn places(row: &Row<'_>, answer: &mut Answer) -> Result<(), RowFault> {
-    let most = u64::from(row.number(3)?);
     let table = table_of(row, 6, row.number(4)?)?;
     let mut input = source(row, 1, 5)?;
     let mut output = sink(row, 2)?;
+    let outcome = places_over(row, &table, &mut input, &mut output)?;
+    put_outcome(row, answer, outcome, &output)
+}
+
+// What rewriting the places of an input comes to over a table.
+fn places_over(
+    row: &Row<'_>,
+    table: &Table,
+    input: &mut MemorySource,
+    output: &mut MemorySink,
+) -> Result<Result<Summary, RewriteFault>, RowFault>
+    requires input_works { input.old.failed ≡ false }
+    requires output_works { output.old.failed ≡ false }
+{
+    let most_bytes = u64::from(row.number(3)?);
     let locations = Locations::new(row.alloc());
-    let urls = MapUrls::new(row.alloc(), &table, &locations)?;
+    let urls = MapUrls::new(row.alloc(), table, &locations)?;
     let options = PlaceOptions {
         known: &urls,
-        most_bytes: most,
+        most_bytes,
         is_noted: false,
     };
-    let mut maps = TableMaps(&table);
-    let mut notes = PlaceNotes::new(row.alloc());
-    let outcome = rewrite_anywhere(
-        row.alloc(),
-        &mut input,
-        &mut output,
-        &mut maps,
-        &options,
-        &mut notes,
-    );
-    put_outcome(row, answer, outcome, &output)
+    let (mut maps, mut notes) = (TableMaps(table), PlaceNotes::new(row.alloc()));
+    Ok(rewrite_anywhere(row.alloc(), input, output, &mut maps, &options, &mut notes))
 }
