@@ -2,8 +2,8 @@
 use crate::same::assert_holds;
 use smap_locations::Locations;
 use smap_record::MapFile;
-use smap_store::{LoadedMap, MapCache, MapLoader, NoMap, StoredMaps, add_list};
-use smap_trace::{Maps, Table};
+use smap_store::{LoadedMap, MapCache, MapLoader, StoredMaps, add_list};
+use smap_trace::{Maps, NoMap, Table};
 use std::alloc::Global;
 use std::test::Fail;
 

@@ -4,10 +4,10 @@ use smap_declarations::Declarations;
 use smap_locations::Locations;
 use smap_record::{MapFile, ReadyMap};
 use smap_store::{
-    LoadedMap, LoadedNames, MapCache, MapLoader, NamedMaps, NamesCache, NamesLoader, NoMap,
-    Program, StoredMaps, add_list,
+    LoadedMap, LoadedNames, MapCache, MapLoader, NamedMaps, NamesCache, NamesLoader, Program,
+    StoredMaps, add_list,
 };
-use smap_trace::{Maps, Table};
+use smap_trace::{Maps, NoMap, Table};
 use std::alloc::Global;
 use std::process::Abort;
 use std::test::Fail;

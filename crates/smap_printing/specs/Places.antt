@@ -19,8 +19,8 @@ use Rattle.smap_printing.specs.Lines.{function_suffix}
 use Rattle.smap_printing.specs.Positions.{asked_line}
 use Rattle.smap_command.specs.declared.options.AnswerOptions.{AnswerOptions}
 use Rattle.smap_printing.specs.declared.printed_position.PrintedPosition.{PrintedPosition}
-use Rattle.smap_store.specs.declared.loader.NoMap.{NoMap}
-use Rattle.smap_store.specs.declared.loader.NoMap.TheVariants.{Unnamed, Unread, Refused, Memory}
+use Rattle.smap_trace.specs.declared.maps.NoMap.{NoMap}
+use Rattle.smap_trace.specs.declared.maps.NoMap.TheVariants.{Unnamed, Unread, Refused, Memory}
 
 -- ---- what is no place
 

@@ -24,7 +24,7 @@ use smap_command::{AnswerOptions, Form};
 use smap_io::{ByteSink, DeviceFault};
 use smap_lines::LineOutput;
 use smap_record::{MapRefusal, ReadyMap};
-use smap_store::NoMap;
+use smap_trace::NoMap;
 use std::alloc::Global;
 
 /// A generated position in the file of a URL, as it is asked for.

@@ -33,18 +33,29 @@ pub(crate) fn index(row: &Row<'_>, answer: &mut Answer) -> Result<(), RowFault> 
 /// A text, an interval, and positions: a line and a column from 0 with a comma between them, and a blank between two. What
 /// answers at each, and whether no look-up took more steps than it may.
 pub(crate) fn look_up(row: &Row<'_>, answer: &mut Answer, way: Direction) -> Result<(), RowFault> {
-    let (interval, positions) = (row.number(2)?, row.field(3)?);
     let index = index_of(row)?;
+    let (text, are_few) = found_at_each(row, &index, way)?;
+    answer.put_text(&text)?;
+    answer.put_text(if are_few { "few" } else { "many" })
+}
+
+// What answers at each of the positions, and whether no look-up took more steps than it may.
+fn found_at_each(row: &Row<'_>, index: &Index, way: Direction) -> Result<(String, bool), RowFault> {
+    let (interval, positions) = (row.number(2)?, row.field(3)?);
     let mut text = String::new(row.alloc());
     let mut are_few = true;
     for position in positions.split(' ') {
-        let position = position_in(position)?;
-        let (found, is_few) = found_text(row.alloc(), &index, position, way, interval)?;
+        let (found, is_few) = found_text(
+            row.alloc(),
+            index,
+            position_in(position)?,
+            way,
+            interval,
+        )?;
         push_word(&mut text, &found)?;
         are_few = are_few && is_few;
     }
-    answer.put_text(&text)?;
-    answer.put_text(if are_few { "few" } else { "many" })
+    Ok((text, are_few))
 }
 
 // What answers at a position, and whether the look-up took no more steps than it may.

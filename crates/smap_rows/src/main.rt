@@ -60,21 +60,28 @@ fn answer_rows<W: ByteSink>(rt: &HostRuntime, output: &mut W) -> Result<(), RowF
     };
     for (number, row) in rows.lines().enumerate() {
         match answered(rt, row) {
-            Ok(mut line) => {
-                line.push(b'\n')?;
-                write_all(output, &line)?;
-            }
-            Err(fault) => {
-                let line = format!(in rt.alloc();
-                    "refused: row {}: {fault:?}\n",
-                    number.saturating_add(1)
-                )?;
-                write_all(output, line.as_bytes())?;
-                return Err(fault);
-            }
+            Ok(line) => put_line(output, line)?,
+            Err(fault) => return put_refusal(rt, output, number, fault),
         }
     }
     Ok(())
+}
+
+fn put_line<W: ByteSink>(output: &mut W, mut line: Vec<u8>) -> Result<(), RowFault> {
+    line.push(b'\n')?;
+    Ok(write_all(output, &line)?)
+}
+
+// Says that the row of this number, from 0, is none, and why, and gives that back.
+fn put_refusal<W: ByteSink>(
+    rt: &HostRuntime,
+    output: &mut W,
+    number: usize,
+    fault: RowFault,
+) -> Result<(), RowFault> {
+    let line = format!(in rt.alloc(); "refused: row {}: {fault:?}\n", number.saturating_add(1))?;
+    write_all(output, line.as_bytes())?;
+    Err(fault)
 }
 
 // The answer to one row, or the answers at the intervals.

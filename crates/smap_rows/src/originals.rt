@@ -13,10 +13,19 @@ use std::alloc::{AllocError, Global};
 /// these lines up to the column, where they change, in both directions, by the index and by a walk, which say the same; and
 /// behind both those of the whole line.
 pub(crate) fn answer(row: &Row<'_>, answer: &mut Answer) -> Result<(), RowFault> {
-    let (source, first) = (row.number(2)?, row.number(3)?);
-    let (lines, most_column) = (row.number(4)?, row.number(5)?);
     let map = map_of(row, 1, 64)?;
     let originals = Originals::new(row.alloc(), &map)?;
+    put_lines(row, answer, &map, &originals)
+}
+
+fn put_lines(
+    row: &Row<'_>,
+    answer: &mut Answer,
+    map: &MapFile,
+    originals: &Originals,
+) -> Result<(), RowFault> {
+    let (source, first) = (row.number(2)?, row.number(3)?);
+    let (lines, most_column) = (row.number(4)?, row.number(5)?);
     for line in first..first.saturating_add(lines) {
         for direction in [OriginalDirection::AtOrBefore, OriginalDirection::AtOrAfter] {
             let place = Asked {
@@ -25,9 +34,9 @@ pub(crate) fn answer(row: &Row<'_>, answer: &mut Answer) -> Result<(), RowFault>
                 column: 0,
                 direction,
             };
-            answer.put_text(&changes(row.alloc(), &map, &originals, place, most_column)?)?;
+            answer.put_text(&changes(row.alloc(), map, originals, place, most_column)?)?;
         }
-        let all = generated_for(row.alloc(), &map, source, line)?;
+        let all = generated_for(row.alloc(), map, source, line)?;
         answer.put_text(&places_text(row.alloc(), &all)?)?;
     }
     Ok(())

@@ -32,8 +32,9 @@ fn put_usage(answer: &mut Answer, usage: Usage) -> Result<(), RowFault> {
 /// ends in one LF.
 pub fn mistake_lines(row: &Row<'_>, answer: &mut Answer) -> Result<(), RowFault> {
     let count = row.number(1)? as usize;
-    match parse(row.alloc(), row.words(2)?) {
-        Err(Usage::Words(text)) => put_lines(answer, &text, count),
+    let parsed = parse(row.alloc(), row.words(2)?);
+    match &parsed {
+        Err(Usage::Words(text)) => put_lines(answer, text, count),
         _ => answer.put_text("no mistake"),
     }
 }

@@ -9,7 +9,9 @@ use crate::row::Row;
 use crate::usage::outcome_of;
 use smap_answers::{report, run_reading};
 use smap_arguments::parse;
+use smap_command::Command;
 use smap_io::{MemorySink, MemorySource};
+use std::alloc::Global;
 
 /// A command line, standard input, and files: the status, and what stands on standard output and on standard error.
 pub fn over_sound(row: &Row<'_>, answer: &mut Answer) -> Result<(), RowFault> {
@@ -66,19 +68,41 @@ fn status_of(
 {
     let files = RowFiles::new(row, first.saturating_add(2))?;
     match parse(row.alloc(), row.words(first)?) {
-        Ok(command) => {
-            let (status, _) = run_reading(
-                row.alloc(),
-                &files,
-                &command,
-                is_terminal,
-                input,
-                output,
-                errors,
-                &mut None,
-            );
-            Ok(status)
-        }
+        Ok(command) => Ok(status_over(
+            row.alloc(),
+            &files,
+            &command,
+            is_terminal,
+            input,
+            output,
+            errors,
+        )),
         Err(usage) => Ok(report(&outcome_of(usage), output, errors, &mut None)),
     }
+}
+
+fn status_over(
+    alloc: Global,
+    files: &RowFiles<'_>,
+    command: &Command,
+    is_terminal: bool,
+    input: MemorySource,
+    output: &mut MemorySink,
+    errors: &mut MemorySink,
+) -> u8
+    requires input_works { input.failed ≡ false }
+    requires output_works { output.old.failed ≡ false }
+    requires errors_work { errors.old.failed ≡ false }
+{
+    let (status, _) = run_reading(
+        alloc,
+        files,
+        command,
+        is_terminal,
+        input,
+        output,
+        errors,
+        &mut None,
+    );
+    status
 }

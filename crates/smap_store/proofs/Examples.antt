@@ -6,7 +6,7 @@ use Rattle.smap_trace.specs.Table.{is_bad_url}
 use Rattle.smap_store.specs.Cache.{CacheSeen, cache_at_first, kept_under, with_none}
 use Rattle.smap_locations.specs.ListLine.{entry_of}
 use Rattle.smap_store.specs.MapList.{line_fault}
-use Rattle.smap_store.specs.declared.loader.NoMap.TheVariants.{Unnamed, Unread}
+use Rattle.smap_trace.specs.declared.maps.NoMap.TheVariants.{Unnamed, Unread}
 use Rattle.smap_locations.specs.declared.refusal.ListFault.TheVariants.{NoTab, NoFolder, Twice}
 
 -- a file, a folder and a pattern

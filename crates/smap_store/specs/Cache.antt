@@ -9,7 +9,7 @@ use Rattle.smap_record.specs.MapFile.{Map}
 use Rattle.smap_store.specs.Loaded.{Came, Outcome}
 use Rattle.smap_store.specs.declared.cache.HeldMaps.{HeldMaps}
 use Rattle.smap_store.specs.declared.cache.MapCache.TheInside.{Inside}
-use Rattle.smap_store.specs.declared.loader.NoMap.{NoMap}
+use Rattle.smap_trace.specs.declared.maps.NoMap.{NoMap}
 
 -- the maps, and why other URLs have none, each under its URL; what was used last stands first. How many bytes the maps may count
 -- for, how many were read, how often a URL had none, and how often there was not enough memory

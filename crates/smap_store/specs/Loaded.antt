@@ -3,7 +3,7 @@ use Rattle.std.specs.Prelude.{ℕ, Option, Result}
 use Rattle.std.specs.Result.{result_map_both, result_ok}
 use Rattle.smap_record.specs.Record.{MapRecord}
 use Rattle.smap_store.specs.declared.loader.LoadedMap.{LoadedMap}
-use Rattle.smap_store.specs.declared.loader.NoMap.{NoMap}
+use Rattle.smap_trace.specs.declared.maps.NoMap.{NoMap}
 
 -- what the map states, and how many bytes its file has
 abbrev pub loaded_seen : LoadedMap → MapRecord × ℕ

@@ -8,7 +8,7 @@ use Rattle.smap_record.specs.Record.{MapRecord}
 use Rattle.smap_store.specs.Cache.{CacheSeen, IsKept, Remembers, kept_under, short, used_in}
 use Rattle.smap_store.specs.Fileless.{known_of}
 use Rattle.smap_store.specs.Loaded.{Came, Outcome}
-use Rattle.smap_store.specs.declared.loader.NoMap.TheVariants.{Unnamed, Memory}
+use Rattle.smap_trace.specs.declared.maps.NoMap.TheVariants.{Unnamed, Memory}
 
 -- the map that is remembered, where one is
 abbrev pub map_in : Option Outcome → Option MapRecord

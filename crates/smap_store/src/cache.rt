@@ -5,9 +5,10 @@ ghost use Rattle.smap_kept.specs.Bounded.{bytes_of, is_within, known_under};
 ghost use Rattle.smap_store.specs.Cache.{Keeps, KeepsIn, Remembers, cache_at_first, counted, found_of, held_in, kept_under, short, used_in};
 ghost use Rattle.smap_store.specs.Loaded.{came_seen};
 
-use crate::loader::{LoadedMap, NoMap};
+use crate::loader::LoadedMap;
 use smap_kept::Bounded;
 use smap_record::ReadyMap;
+use smap_trace::NoMap;
 use std::alloc::{AllocError, Global};
 use std::marker::Model;
 

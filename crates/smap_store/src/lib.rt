@@ -29,7 +29,7 @@ mod url_table;
 pub use cache::MapCache;
 pub use fileless::asks_no_file;
 pub use list::{add_list, add_rule};
-pub use loader::{LoadedMap, MapLoader, NoMap};
+pub use loader::{LoadedMap, MapLoader};
 pub use named_maps::NamedMaps;
 pub use names_cache::NamesCache;
 pub use names_loader::{LoadedNames, NamesLoader};

@@ -3,7 +3,8 @@ ghost use Rattle.std.specs.Prelude.{ℕ, List, Option};
 ghost use Rattle.smap_record.specs.Record.{MapRecord};
 ghost use Rattle.smap_store.specs.Loaded.{Came, came_seen, record_in};
 
-use smap_record::{MapFile, MapRefusal};
+use smap_record::MapFile;
+use smap_trace::NoMap;
 use std::alloc::Global;
 
 /// A map that was loaded, and how many bytes its file has.
@@ -11,19 +12,6 @@ use std::alloc::Global;
 pub struct LoadedMap {
     pub map: MapFile,
     pub file_bytes: u64,
-}
-
-/// Why there is no map for a URL.
-#[derive(Clone, Copy, Debug, PartialEq, Eq)]
-pub enum NoMap {
-    /// No file is named for the URL, or none is asked for.
-    Unnamed,
-    /// Its file can't be read.
-    Unread,
-    /// The map in its file is refused, for this.
-    Refused(MapRefusal),
-    /// Memory ran out while it was read.
-    Memory,
 }
 
 /// What reads the map of a URL from the file at a path.

@@ -11,11 +11,11 @@ ghost use Rattle.smap_store.specs.declared.program.MapKind.TheVariants as kinds;
 
 use crate::cache::MapCache;
 use crate::fileless::asks_no_file;
-use crate::loader::{LoadedMap, MapLoader, NoMap};
+use crate::loader::{LoadedMap, MapLoader};
 use crate::program::{MapKind, Program};
 use smap_locations::Locations;
 use smap_record::ReadyMap;
-use smap_trace::{Maps, Table};
+use smap_trace::{Maps, NoMap, Table};
 use std::alloc::Global;
 
 /// The maps of a table, and those of files, which are read when a URL is first named, and kept in a cache.

@@ -28,8 +28,8 @@ use Rattle.smap_store.specs.Fileless.{known_of}
 use Rattle.smap_store.specs.Laws.Kept.{is_kept}
 use Rattle.smap_store.specs.Loaded.{Came, Outcome, outcome_in}
 use Rattle.smap_store.specs.Stored.{Comes, FindsIn, StoredSeen, known_outcome, outcome_at, outcome_of}
-use Rattle.smap_store.specs.declared.loader.NoMap.{NoMap}
-use Rattle.smap_store.specs.declared.loader.NoMap.TheVariants.{Unnamed, Unread, Refused, Memory}
+use Rattle.smap_trace.specs.declared.maps.NoMap.{NoMap}
+use Rattle.smap_trace.specs.declared.maps.NoMap.TheVariants.{Unnamed, Unread, Refused, Memory}
 use Rattle.smap_replies.specs.Standing.{IsRefusedFor}
 use Rattle.smap_text_answers.specs.Loader.{FailsWith, LoaderSeen, Loads}
 use Rattle.smap_text_answers.specs.SameBytes.{BytesByPath, ReadsAlike}

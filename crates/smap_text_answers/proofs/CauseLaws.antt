@@ -4,8 +4,8 @@ use Rattle.std.proofs.Common.{inl, inr, subst, sym}
 use Rattle.url.specs.Parts.{Parts}
 use Rattle.smap_record.specs.Record.{MapRecord}
 use Rattle.smap_replies.specs.Files.{MayRead}
-use Rattle.smap_store.specs.declared.loader.NoMap.{NoMap}
-use Rattle.smap_store.specs.declared.loader.NoMap.TheVariants.{Unnamed, Unread, Refused, Memory}
+use Rattle.smap_trace.specs.declared.maps.NoMap.{NoMap}
+use Rattle.smap_trace.specs.declared.maps.NoMap.TheVariants.{Unnamed, Unread, Refused, Memory}
 use Rattle.smap_text_answers.specs.Loader.{FailsBy, IsUsable}
 use Rattle.smap_text_answers.specs.Private.Causes.{SaysWhy}
 use Rattle.smap_text_answers.specs.Told.{Said}

@@ -23,8 +23,8 @@ use Rattle.smap_store.specs.Fileless.{known_of}
 use Rattle.smap_store.specs.Laws.Kept.{counted_under, is_kept, own_remembered, same_kept}
 use Rattle.smap_store.specs.Loaded.{Came, Outcome, outcome_in, record_in}
 use Rattle.smap_store.specs.Stored.{Asks, Comes, FindsIn, LoadsStep, Recalled, Recalls, StoredSeen, Untouched, found_in, map_in, or_other}
-use Rattle.smap_store.specs.declared.loader.NoMap.{NoMap}
-use Rattle.smap_store.specs.declared.loader.NoMap.TheVariants.{Unnamed, Unread, Refused, Memory}
+use Rattle.smap_trace.specs.declared.maps.NoMap.{NoMap}
+use Rattle.smap_trace.specs.declared.maps.NoMap.TheVariants.{Unnamed, Unread, Refused, Memory}
 use Rattle.smap_trace.specs.MapsOf.{RewritesBy}
 use Rattle.smap_trace.specs.Laws.MapsOf.{rewrites_by}
 use Rattle.smap_trace.specs.Noted.{nothing_noted}

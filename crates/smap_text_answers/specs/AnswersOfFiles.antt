@@ -16,7 +16,7 @@ use Rattle.smap_record.specs.declared.refusal.MapRefusal.{MapRefusal}
 use Rattle.smap_record.specs.declared.refusal.MapRefusal.TheVariants.{Url}
 use Rattle.smap_store.specs.Fileless.{known_of}
 use Rattle.smap_store.specs.Loaded.{Outcome}
-use Rattle.smap_store.specs.declared.loader.NoMap.TheVariants.{Unnamed, Unread, Refused, Memory}
+use Rattle.smap_trace.specs.declared.maps.NoMap.TheVariants.{Unnamed, Unread, Refused, Memory}
 use Rattle.smap_text_answers.specs.SameBytes.{BytesByPath}
 use Rattle.smap_text_answers.specs.Standing.{record_loaded}
 

@@ -13,8 +13,8 @@ use Rattle.smap_replies.specs.Lines.{file_failed_line}
 use Rattle.smap_replies.specs.Map.{refusal_result}
 use Rattle.smap_replies.specs.Standing.{IsRefusedFor}
 use Rattle.smap_store.specs.Loaded.{Came}
-use Rattle.smap_store.specs.declared.loader.NoMap.{NoMap}
-use Rattle.smap_store.specs.declared.loader.NoMap.TheVariants.{Unnamed, Unread, Refused, Memory}
+use Rattle.smap_trace.specs.declared.maps.NoMap.{NoMap}
+use Rattle.smap_trace.specs.declared.maps.NoMap.TheVariants.{Unnamed, Unread, Refused, Memory}
 use Rattle.smap_text_answers.specs.Fitting.{Fits, FitsNot, misfit_report}
 use Rattle.smap_text_answers.specs.Standing.{record_loaded}
 use Rattle.smap_text_answers.specs.Told.{Said, Tells, ToldSeen, told_seen}

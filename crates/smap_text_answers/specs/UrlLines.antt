@@ -21,7 +21,7 @@ use Rattle.smap_replies.specs.declared.files.UnreadCause.{UnreadCause}
 use Rattle.smap_replies.specs.declared.files.UnreadCause.TheVariants as causes
 use Rattle.smap_text.specs.Shown.{shown}
 use Rattle.smap_replies.specs.Standing.{IsRefusedFor}
-use Rattle.smap_store.specs.declared.loader.NoMap.TheVariants.{Unnamed}
+use Rattle.smap_trace.specs.declared.maps.NoMap.TheVariants.{Unnamed}
 use Rattle.smap_text_answers.specs.Fitting.{misfit_report}
 use Rattle.smap_text_answers.specs.Loader.{FailsBy, IsUsable}
 use Rattle.smap_text_answers.specs.Told.{Said}

@@ -5,7 +5,7 @@ ghost use Rattle.smap_text_answers.specs.Fitting.{Fits, FitsNot};
 ghost use Rattle.smap_text_answers.specs.Told.{said_by, told_seen};
 ghost use Rattle.smap_text_answers.specs.Loader.{FailsBy, IsLoaded, IsMissing, IsReportFor, Notes, is_lost, is_no_file, is_of_url, loader_at_first, loader_seen};
 ghost use Rattle.smap_replies.specs.Outcome.{failure_report};
-ghost use Rattle.smap_store.specs.declared.loader.NoMap.TheVariants.{Memory, Unnamed};
+ghost use Rattle.smap_trace.specs.declared.maps.NoMap.TheVariants.{Memory, Unnamed};
 
 use crate::fitting::{Fitting, fitting_of, refused_misfit};
 use crate::lines;
@@ -18,7 +18,8 @@ use smap_replies::{
     DONE, Failure, FileReader, MapReader, REFUSED, UnreadCause, file_failed_line, print_error,
     read_standing, refusal_of,
 };
-use smap_store::{LoadedMap, MapLoader, NoMap};
+use smap_store::{LoadedMap, MapLoader};
+use smap_trace::NoMap;
 use std::alloc::{AllocError, Global};
 
 // How many maps that can't be had are reported.

@@ -41,7 +41,7 @@ pub use cuts::cut_at_last_byte;
 pub use frames::frame;
 pub use function_name::{HeadCut, head_cut};
 pub use hiding::Hiding;
-pub use maps::{Maps, TableMaps};
+pub use maps::{Maps, NoMap, TableMaps};
 pub use named_table::{NamedTable, name_declared_beside};
 pub use options::TraceOptions;
 pub use original::{Original, Replacement, original_at};

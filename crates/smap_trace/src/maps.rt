@@ -4,8 +4,21 @@ ghost use Rattle.smap_record.specs.Record.{MapRecord};
 ghost use Rattle.smap_trace.specs.FunctionNames.{FunctionNames, written_name};
 
 use crate::table::Table;
-use smap_record::ReadyMap;
+use smap_record::{MapRefusal, ReadyMap};
 use std::alloc::Global;
+
+/// Why there is no map for a URL.
+#[derive(Clone, Copy, Debug, PartialEq, Eq)]
+pub enum NoMap {
+    /// No file is named for the URL, or none is asked for.
+    Unnamed,
+    /// Its file can't be read.
+    Unread,
+    /// The map in its file is refused, for this.
+    Refused(MapRefusal),
+    /// Memory ran out while it was read.
+    Memory,
+}
 
 /// What gives the maps of the URLs that a text names.
 pub trait Maps {

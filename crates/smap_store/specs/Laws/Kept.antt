@@ -10,7 +10,7 @@ use Rattle.smap_record.specs.MapFile.{Map}
 use Rattle.smap_record.specs.Record.{MapRecord}
 use Rattle.smap_store.specs.Cache.{CacheSeen, IsEmpty, IsKept, Keeps, Remembers, counted, found_of, kept_under, used_among, used_in, with_map, with_none}
 use Rattle.smap_store.specs.Loaded.{Came, Outcome, outcome_in}
-use Rattle.smap_store.specs.declared.loader.NoMap.{NoMap}
+use Rattle.smap_trace.specs.declared.maps.NoMap.{NoMap}
 
 -- what is found is among the maps, or among the others
 pub is_kept : (cache : CacheSeen) (url : List ℕ) (found : Outcome) → kept_under url cache ≡ Some found → IsKept cache url found

@@ -4,7 +4,7 @@ use Rattle.std.proofs.Common.{inr, subst}
 use Rattle.url.specs.Parts.{Parts}
 use Rattle.smap_record.specs.Record.{MapRecord}
 use Rattle.smap_store.specs.Loaded.{Came, record_in}
-use Rattle.smap_store.specs.declared.loader.NoMap.TheVariants.{Memory}
+use Rattle.smap_trace.specs.declared.maps.NoMap.TheVariants.{Memory}
 use Rattle.smap_replies.specs.Files.{MayCause, MayRead}
 use Rattle.smap_text_answers.specs.Loader.{IsSameLoader, LoaderSeen, Loads, MayLoad}
 use Rattle.smap_replies.specs.Outcome.{out_of_memory}

@@ -18,7 +18,7 @@ use Rattle.smap_store.specs.Loaded.{Came, Outcome, record_in}
 use Rattle.smap_store.specs.Laws.Stored.{given_in, same_in, some_in}
 use Rattle.smap_store.specs.Stored.{FindsIn, GivesIn, LoadsMay, LoadsStep, StoredSeen, found_in, known_outcome, map_in, or_other, outcome_at}
 use Rattle.smap_store.specs.StoredMaps.{same_store_on, same_store_self, stored_seen}
-use Rattle.smap_store.specs.declared.loader.NoMap.TheVariants.{Unnamed}
+use Rattle.smap_trace.specs.declared.maps.NoMap.TheVariants.{Unnamed}
 use Rattle.smap_trace.specs.Laws.Looked.{looked_both, looked_none}
 
 -- what is found under a URL is the map of what comes for it, where that is one

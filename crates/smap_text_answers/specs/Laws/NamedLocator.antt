@@ -15,7 +15,7 @@ use Rattle.smap_store.specs.Names.{NamesCame, declared_in}
 use Rattle.smap_store.specs.Program.{ProgramSeen, program_in}
 use Rattle.smap_store.specs.Stored.{FindsIn, GivesIn, LoadsMay, LoadsStep, outcome_at}
 use Rattle.smap_store.specs.StoredMaps.{same_store_on, same_store_self}
-use Rattle.smap_store.specs.declared.loader.NoMap.TheVariants.{Unnamed}
+use Rattle.smap_trace.specs.declared.maps.NoMap.TheVariants.{Unnamed}
 use Rattle.smap_store.specs.declared.named_maps.NamedMaps.{NamedMaps}
 use Rattle.smap_text_answers.specs.Laws.Locator.{outcome_found}
 use Rattle.smap_text_answers.specs.NamedLocating.{LocatesNamed, MayLocateNamed, named_line}

@@ -2,8 +2,8 @@
 use Rattle.std.specs.Prelude.{◌≡◌, List, ℕ}
 use Rattle.smap_replies.specs.Map.{refusal_result}
 use Rattle.smap_replies.specs.declared.files.UnreadCause.{UnreadCause}
-use Rattle.smap_store.specs.declared.loader.NoMap.{NoMap}
-use Rattle.smap_store.specs.declared.loader.NoMap.TheVariants.{Unnamed, Unread, Refused, Memory}
+use Rattle.smap_trace.specs.declared.maps.NoMap.{NoMap}
+use Rattle.smap_trace.specs.declared.maps.NoMap.TheVariants.{Unnamed, Unread, Refused, Memory}
 use Rattle.smap_text_answers.specs.Fitting.{misfit_report}
 use Rattle.smap_text_answers.specs.UrlLines.{body_of, unread_text}
 

@@ -16,9 +16,9 @@ use crate::nearest::nearest_of;
 use smap_io::ByteSink;
 use smap_locations::{Locations, is_rule};
 use smap_replies::{FileReader, UnreadCause, refusal_of};
-use smap_store::{NoMap, asks_no_file};
+use smap_store::asks_no_file;
 use smap_text::shown;
-use smap_trace::UrlNote;
+use smap_trace::{NoMap, UrlNote};
 use std::alloc::{AllocError, Global};
 
 // The end of the line of a URL for which no file is asked, as of node's own modules.
