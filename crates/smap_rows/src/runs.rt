@@ -1,5 +1,6 @@
 //! Runs of the program.
 ghost use Rattle.std.specs.Prelude.{◌≡◌, false};
+ghost use Rattle.smap_command.specs.Runnable.{IsRunnable};
 
 use crate::answer::Answer;
 use crate::devices::{sink, sound_sink, sound_source, source};
@@ -90,6 +91,7 @@ fn status_over(
     output: &mut MemorySink,
     errors: &mut MemorySink,
 ) -> u8
+    requires command { IsRunnable command.now }
     requires input_works { input.failed ≡ false }
     requires output_works { output.old.failed ≡ false }
     requires errors_work { errors.old.failed ≡ false }
