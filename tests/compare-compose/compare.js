@@ -72,7 +72,8 @@ function wrongWithRefusal(program, file) {
   return `a source past the last: status ${status}: ${reported}`;
 }
 
-// Three maps, composed in either way, have to give the same bytes.
+// Three maps, composed in either way, have to give the same bytes. Which of them are warned of may differ: each way asks other
+// pairs of them whether they fit.
 function wrongWithThree(program, folder, [first, second, third]) {
   const outer = mapIn(first);
   const [s, t] = [outer.sources.length - 1, mapIn(second).sources.length - 1];
@@ -81,7 +82,8 @@ function wrongWithThree(program, folder, [first, second, third]) {
   fs.writeFileSync(right, compose(program, second, t, third).text);
   const one = compose(program, left, outer.sources.length + t, third);
   const other = compose(program, first, s, right);
-  return one.status === 0 && isDeepStrictEqual(one, other) ? null : 'the two ways of composing it with the next two differ';
+  const isSame = one.status === 0 && other.status === 0 && one.text === other.text;
+  return isSame ? null : 'the two ways of composing it with the next two differ';
 }
 
 // The map of the minified code of a file that lies beside its map, written to the folder; null where there is no such
