@@ -16,6 +16,8 @@ const REFUSAL = 'refused: m.map: M14 Text 0 F10 SourceIndex line 1 byte 0';
 const COUNTS_JSON =
   '{"checkpoints":2,"lines":2,"names":0,"ok":true,"path":"a.map","sections":2,"segments":2,"sources":2}';
 const WHY = '  segment "ACAA" at line 1, column 1, numbers 0, 1, 0, 0/  source index 1, and the map has 1 source/';
+const CUT =
+  '  the file begins as JSON/  reading stopped at byte 1 (line 1, column 2): ..{ » ..; the file ends too early, as one that was cut does/';
 const KEY_WHY =
   '  `names`, item 0 is null, and the key may hold a list of texts, at most 33,554,432 in the file/';
 const OVERLAP_WHY =
@@ -101,9 +103,9 @@ const TAKING = [
   { call: 'traces add to a table of 11', answer: REPLACED, memory: KEPT },
   { call: 'traces rewrite', answer: REPLACED, memory: 'Memory|' },
   { call: 'traces rewrite_anywhere', answer: REPLACED, memory: 'Memory|' },
-  { call: 'traces answer_positions', answer: 'answered|a.ts:1:2/bad position/', memory: 'not answered|' },
+  { call: 'traces answer_position_lines', answer: 'answered|a.ts:1:2/bad position/', memory: 'not answered|' },
   {
-    call: 'traces answer_positions as JSON',
+    call: 'traces answer_position_lines as JSON',
     answer:
       'answered|{"answer":"found","column":2,"generatedColumn":2,"ignored":false,"line":1,"name":null,"originalColumn":2,"originalLine":1,"source":"a.ts","sourceIndex":0}/{"answer":"bad position"}/',
     memory: 'not answered|',
@@ -120,7 +122,7 @@ const TAKING = [
   { call: 'lists source_table', answer: '1 1 Some(11), 0 1 Some(10), 0', memory: 'memory' },
   {
     call: 'verdicts explain no JSON',
-    answer: '  the file begins as JSON/  reading stopped at byte 1 (line 1, column 1): ..{ » ../',
+    answer: CUT,
     memory: 'memory',
   },
   {
@@ -133,7 +135,7 @@ const TAKING = [
   { call: 'verdicts explain an overlap', answer: OVERLAP_WHY, memory: 'memory' },
   {
     call: 'verdicts explanation_text of no JSON',
-    answer: '  the file begins as JSON/  reading stopped at byte 1 (line 1, column 1): ..{ » ../',
+    answer: CUT,
     memory: 'memory',
   },
   { call: 'verdicts explanation_text of a key', answer: KEY_WHY, memory: 'memory' },

@@ -18,7 +18,7 @@ const COPY = fs.mkdtempSync(path.join(os.tmpdir(), 'smap-sweeps-'));
 const CRATE = path.join(COPY, 'crates', NAME);
 const KEPT = path.join(ROOT, '.smap', 'sweeps-out');
 const BELOW =
-  'smap_mappings smap_index smap_resolve smap_record smap_explain smap_verdicts smap_text smap_fit smap_compose smap_io smap_lines smap_locations smap_pairs smap_trace smap_anywhere smap_store smap_codes smap_codes smap_command smap_printing smap_replies smap_answers smap_arguments url';
+  'smap_codes smap_mappings smap_index smap_resolve smap_text smap_record smap_explain smap_verdicts smap_fit smap_compose smap_io smap_lines smap_locations smap_trace smap_store smap_anywhere smap_command smap_printing smap_replies smap_answers smap_arguments';
 const MOST_GROWTHS = 10000;
 
 // ---------------------------------------------------------------------------------------------
