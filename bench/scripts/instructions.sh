@@ -2,7 +2,8 @@
 # Counts instructions by valgrind's callgrind, which are the same from run to run and nearly so from machine to machine: of a
 # look-up, a position, a frame, a place and a segment, each the difference of a run with many and of one with none, over their
 # number. COUNT says how many there are. The library is built for the look-up, unless LIBRARY names the folder that
-# lib/build has installed it into.
+# lib/build has installed it into. Then of single lines, over a map of one segment: each is the difference of a text of 8,000
+# of it and of one of 4,000, over a map that is named and over one by a pattern.
 set -euo pipefail
 
 # shellcheck source=timing.sh
@@ -46,3 +47,22 @@ fi
 "${CC:-cc}" -O2 -I "$LIBRARY/include" -o library "$readers/library.c" "$LIBRARY/lib/libsmap.a"
 node "$makers/random-positions.js" "$real" "$count" random
 row 'a look-up of the library' "$(instructions ./library "$real" random)" "$(instructions ./library "$real" none)" $((2 * count))
+
+printf '{"version":3,"sources":["a.ts"],"names":[],"mappings":"AAAA"}' >one
+# line WHAT TEXT [OPTION..]
+line() {
+    local what=$1 argument
+    for many in 4000 8000; do yes "$2" | head -n "$many" >"lines$many" || :; done
+    for argument in https://ex.test/js/app.js=one '*app.js=one'; do
+        row "$what, ${argument%=one}" "$(instructions "$program" rewrite "${@:3}" "$argument" <lines8000)" \
+            "$(instructions "$program" rewrite "${@:3}" "$argument" <lines4000)" 4000
+    done
+}
+frame='    at f (https://ex.test/js/app.js:1:1)'
+json='{"time":"2026-12-01T07:00:00Z","level":"error","message":"TypeError: x is no function, at https://ex.test/js/app.js:1:1","request":"8f3c0a"}'
+log='2026-12-01 07:00:00.123 INFO [http-4] GET /api/items/42?page=3&order=price from 203.0.113.7, status 200, 1234 bytes in 12 ms'
+printf '\nlines of %s, %s and %s bytes, with their ends\n' $((${#frame} + 1)) $((${#json} + 1)) $((${#log} + 1))
+line 'a frame' "$frame"
+line 'its place anywhere' "$frame" --anywhere
+line 'a place in JSON' "$json" --anywhere
+line 'a line of a log' "$log" --anywhere

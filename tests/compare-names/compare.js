@@ -79,6 +79,7 @@ class Build {
         const put = (at) => { if (!source.byStart.has(at)) source.byStart.set(at, one); };
         put(one.start);
         put(one.node.start);
+        if (one.node.id != null) put(one.node.id.start);
         if (one.parent.type.startsWith('Export')) put(one.parent.start);
       }
       source.sorted = [...source.functions].sort((a, b) => a.start - b.start || b.end - a.end);
@@ -108,7 +109,7 @@ class Build {
 
   // The function of the sources that became this one.
   originOf(one) {
-    for (const start of new Set([one.node.start, one.start])) {
+    for (const start of new Set([one.node.start, one.start, one.node.id?.start])) {
       const original = this.originalAt(this.exact.get(start));
       const found = original?.source.byStart.get(original.at);
       if (found !== undefined) return found;
