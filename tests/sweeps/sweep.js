@@ -60,8 +60,9 @@ function copyCrates(to) {
   }
 }
 
-// Also to another file system.
+// Also to another file system, and into a folder that is not there yet.
 function move(from, to) {
+  fs.mkdirSync(path.dirname(to), { recursive: true });
   execFileSync('mv', ['-T', from, to]);
 }
 
