@@ -5,8 +5,8 @@
  *
  * A handle holds a map, a table, a store, a rewriting, inner maps, originals, names of functions, a finder of URLs or bytes, or is
  * empty. One set to {0}, or in C++ to {}, is empty. A call that fills a handle wants it empty: what it held before is not freed. A call
- * that takes one from a handle wants it full, unless it says so. The pointer in a handle does not show whether it is empty:
- * after it was freed, or a call took from it, the old one stays there.
+ * that takes one from a handle wants it full, unless it says so; so does each that frees: free what a call filled, and that once.
+ * The pointer in a handle does not show whether it is empty: after it was freed, or a call took from it, the old one stays there.
  *
  * Calls may run at once where no handle is given to two of them, not even one that is `const` in both. A handle may go to another
  * thread by what orders the two: a lock, or the start or the end of a thread. Threads that ask one map take a handle each by

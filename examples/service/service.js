@@ -2,6 +2,8 @@
 // Symbolicates events over HTTP, by the maps in a folder of releases, as service.py does, whose head says what is asked and answered:
 //
 //     node service.js PREFIX FOLDER [PORT [MEGABYTES]]
+//
+// It needs smap's package for node.
 const http = require('node:http');
 const { Maps } = require('smap');
 

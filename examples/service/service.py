@@ -2,7 +2,8 @@
 
     service.py PREFIX FOLDER [PORT [MEGABYTES]]
 
-A frame of PREFIXr1/app.js has the map FOLDER/r1/app.js.map. `POST /symbolicate` takes
+PREFIX ends in `/`: a frame of PREFIXr1/app.js has the map FOLDER/r1/app.js.map. It needs smap's package for Python.
+`POST /symbolicate` takes
 
     {"frames": [{"filename": "https://example.test/r1/app.js", "lineno": 1, "colno": 1031}, ..]}
 
