@@ -1,5 +1,7 @@
 -- Why a file gives no map, where that is asked.
 use Rattle.std.specs.Prelude.{◌≡◌, ℕ, ◌⊎◌, ◌++◌, ◌==◌, ◌&&◌, Bool, true, false, List, [], Option, Some, Ok, Err, codes, if◌then◌else◌, length, string_bytes}
+use Rattle.std.specs.Bool.{nat_eq}
+use Rattle.std.specs.List.{starts_with}
 use Rattle.smap_command.specs.declared.asked.MapChoice.{MapChoice}
 use Rattle.smap_explain.specs.Beginning.{has_bytes}
 use Rattle.smap_explain.specs.Explain.{IsExplained}
@@ -63,12 +65,14 @@ IsRefused bytes path true refused report = (line : List ℕ) × IsWhyLine bytes 
 
 -- ---- a file that can't be read
 
--- there is no file; of an empty path, that it is; of one that is a URL, that only files are read
+-- there is no file; of an empty path, that it is; of one that is a URL, that only files are read; of one that no shell made of a
+-- `~`, where a shell does
 abbrev pub missing_text : (path : List ℕ) → List ℕ
 missing_text path =
     if length path == 0 then codes "  the path is empty: in URL=FILE it stands behind the last =\n"
     else (if has_bytes path (codes "://") then codes "  the path is a URL, and only files are read: swapped? in URL=FILE the URL stands first\n"
-    else codes "  there is no such file\n")
+    else (if starts_with nat_eq path (codes "~/") then codes "  there is no such file: a shell puts a folder for ~ only where a word begins with it\n"
+    else codes "  there is no such file\n"))
 
 -- why the file at a path can't be read
 abbrev pub cause_text : (path : List ℕ) → UnreadCause → List ℕ

@@ -36,6 +36,10 @@ const FOLDER: &str =
 // The path of a file is that of none.
 const EMPTY: &str = "  the path is empty: in URL=FILE it stands behind the last =\n";
 
+// The path of a file that is not there begins with a `~`, as a shell leaves it behind a `=`.
+const TILDE: &str =
+    "  there is no such file: a shell puts a folder for ~ only where a word begins with it\n";
+
 // The path of a file that is not there is a URL.
 const URL: &str =
     "  the path is a URL, and only files are read: swapped? in URL=FILE the URL stands first\n";
@@ -158,7 +162,8 @@ fn is_script(begins_as: Beginning) -> bool
     }
 }
 
-// That there is no file at a path; of none, that it is empty; of a URL, that only files are read.
+// That there is no file at a path; of none, that it is empty; of a URL, that only files are read; of a `~`, where a shell
+// puts a folder for it.
 fn missing_text(path: &str) -> &'static str
     ensures { result.now ≡ missing_text path.now }
 {
@@ -166,6 +171,8 @@ fn missing_text(path: &str) -> &'static str
         EMPTY
     } else if has_bytes(path.as_bytes(), b"://") {
         URL
+    } else if path.starts_with("~/") {
+        TILDE
     } else {
         "  there is no such file\n"
     }

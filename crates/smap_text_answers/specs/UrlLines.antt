@@ -94,7 +94,7 @@ nearest_text url (Some nearest) =
     if bytes_eq nearest url then codes ", but for a folder: URL=FILE gives its map" else codes ", the nearest is " ++ shown nearest
 
 abbrev pub unknown_text : (url : List ℕ) → Option (List ℕ) → List ℕ
-unknown_text url nearest = codes "no argument has this URL" ++ nearest_text url nearest
+unknown_text url nearest = codes "no argument and no list has this URL" ++ nearest_text url nearest
 
 -- ---- its file gives no map
 
@@ -111,6 +111,13 @@ unread_text path cause = concat (codes "cannot read " ∷ shown path ∷ codes "
 abbrev pub body_of : (line : List ℕ) → List ℕ
 body_of line = take (length line - 1) line
 
+-- its map is refused, or does not fit its generated file, and what says more
+abbrev pub refused_text : (path : List ℕ) → MapRefusal → List ℕ
+refused_text path refusal = body_of (refusal_result path refusal).text ++ codes ": see smap check --explain"
+
+abbrev pub misfit_text : (path : List ℕ) → List ℕ
+misfit_text path = body_of (misfit_report path).text ++ codes ": see smap fit --explain"
+
 -- no map came from it, and now one comes
 abbrev pub late_text : (path : List ℕ) → List ℕ
 late_text path = codes "no map came from " ++ shown path
@@ -123,11 +130,11 @@ module _ (Reads : MayRead) (paths : Bool) (base : Option Parts) (k number : ℕ)
   -- it is read, and its map is refused, and this is how
   abbrev pub IsRefusedBy : (url path text : List ℕ) → Type 0
   IsRefusedBy url path text = (bytes : List ℕ) × (refusal : MapRefusal) × Reads number path (Ok bytes)
-      × IsRefusedFor (record_loaded paths base k url bytes) refusal × (text ≡ body_of (refusal_result path refusal).text)
+      × IsRefusedFor (record_loaded paths base k url bytes) refusal × (text ≡ refused_text path refusal)
 
   -- or it does not fit its generated file
   abbrev pub IsMisfitBy : (url path text : List ℕ) → Type 0
-  IsMisfitBy url path text = FailsBy Reads paths base k number fit Unnamed url path × (text ≡ body_of (misfit_report path).text)
+  IsMisfitBy url path text = FailsBy Reads paths base k number fit Unnamed url path × (text ≡ misfit_text path)
 
   -- or it gives a map now
   abbrev pub IsLate : (url path text : List ℕ) → Type 0

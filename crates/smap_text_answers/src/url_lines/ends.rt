@@ -1,12 +1,11 @@
 //! How the line of a URL ends: where its map came from, or why it has none.
-ghost use Rattle.std.specs.Prelude.{◌≡◌, ◌&&◌, map, not, option_copied, string_bytes, IfOk};
+ghost use Rattle.std.specs.Prelude.{◌≡◌, ◌&&◌, ◌++◌, map, not, option_copied, string_bytes, IfOk};
 ghost use Rattle.std.specs.Str.{bytes_eq};
 ghost use Rattle.smap_locations.specs.ListLine.{is_rule};
 ghost use Rattle.smap_replies.specs.Arguments.{argument_of};
-ghost use Rattle.smap_text_answers.specs.Lines.{misfit_line};
 ghost use Rattle.smap_text_answers.specs.Private.Causes.{SaysWhy};
 ghost use Rattle.smap_text_answers.specs.UrlLines.{IsCause, IsEnd};
-ghost use Rattle.smap_text_answers.specs.UrlLines.{body_of, cause_text, deciding_name, found_text, late_text, nearest_text, rest_text, unknown_text, unread_text, url_file, word_file};
+ghost use Rattle.smap_text_answers.specs.UrlLines.{body_of, cause_text, deciding_name, found_text, late_text, misfit_text, nearest_text, refused_text, rest_text, unknown_text, unread_text, url_file, word_file};
 ghost use Rattle.smap_trace.specs.NotesSeen.{note_seen};
 
 use super::shown_url;
@@ -15,6 +14,7 @@ use crate::loader::FileLoader;
 use crate::nearest::nearest_of;
 use smap_io::ByteSink;
 use smap_locations::{Locations, is_rule};
+use smap_record::MapRefusal;
 use smap_replies::{FileReader, UnreadCause, refusal_of};
 use smap_store::asks_no_file;
 use smap_text::shown;
@@ -26,6 +26,12 @@ const NO_FILE_ASKED: &str = "no file is asked for such a URL";
 
 // The end of that of a URL which is the prefix of a folder.
 const FOLDER_ALONE: &str = ", but for a folder: URL=FILE gives its map";
+
+// What says more of a map that is refused.
+const SEE_CHECK: &str = ": see smap check --explain";
+
+// The same of one that does not fit its generated file.
+const SEE_FIT: &str = ": see smap fit --explain";
 
 /// The end of the line of a URL: where its map came from, or why it has none.
 pub(super) fn end_of<F: FileReader, E: ByteSink>(
@@ -144,13 +150,13 @@ fn rest_text(alloc: Global, unmapped: Option<(u32, u32)>, left: u64) -> Result<S
     }
 }
 
-// That no argument has a URL, and which one is nearest.
+// That no argument and no list has a URL, and which argument is nearest.
 fn unknown_text(alloc: Global, url: &[u8], nearest: Option<&str>) -> Result<String, AllocError>
     ensures { IfOk result (λ text.
         string_bytes text ≡ unknown_text url.now (option_copied nearest.entry)) }
 {
     let nearest = nearest_text(alloc, url, nearest)?;
-    format!(in alloc; "no argument has this URL{nearest}")
+    format!(in alloc; "no argument and no list has this URL{nearest}")
 }
 
 // Which argument is nearest, where one is; a folder that has this very URL names no file for it.
@@ -199,21 +205,35 @@ fn unloaded_text<F: FileReader>(
             let text = unread_text(alloc, path, files.unread_cause(path))?;
             Ok(text.into_bytes())
         }
-        NoMap::Refused(refusal) => {
-            let failure = refusal_of(alloc, path, refusal)?;
-            body_of(alloc, failure.bytes())
-        }
+        NoMap::Refused(refusal) => refused_text(alloc, path, refusal),
         NoMap::Unnamed => misfit_text(alloc, path),
         NoMap::Memory => Err(AllocError),
     }
 }
 
-// That the map of a file does not fit its generated file.
+// Why the map of a file is refused, and what says more of it.
+fn refused_text(alloc: Global, path: &str, refusal: MapRefusal) -> Result<Vec<u8>, AllocError>
+    ensures { IfOk result (λ text. text.items ≡ refused_text path.now refusal) }
+{
+    let failure = refusal_of(alloc, path, refusal)?;
+    told_with(alloc, failure.bytes(), SEE_CHECK)
+}
+
+// That the map of a file does not fit its generated file, and what says more of it.
 fn misfit_text(alloc: Global, path: &str) -> Result<Vec<u8>, AllocError>
-    ensures { IfOk result (λ text. text.items ≡ body_of (misfit_line path.now)) }
+    ensures { IfOk result (λ text. text.items ≡ misfit_text path.now) }
 {
     let line = misfit_line(alloc, path)?;
-    body_of(alloc, line.as_bytes())
+    told_with(alloc, line.as_bytes(), SEE_FIT)
+}
+
+// A line without its LF, and what stands behind it.
+fn told_with(alloc: Global, line: &[u8], more: &str) -> Result<Vec<u8>, AllocError>
+    ensures { IfOk result (λ text. text.items ≡ body_of line.now ++ more.now) }
+{
+    let mut text = body_of(alloc, line)?;
+    text.extend_from_slice(more.as_bytes())?;
+    Ok(text)
 }
 
 // That no map came from a file that gives one now.
