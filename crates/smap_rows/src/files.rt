@@ -1,9 +1,8 @@
 //! The files of a row: paths and texts that it has, and those of the folder that the program runs in.
 ghost use Rattle.std.specs.Prelude.{⊤};
 
-use crate::fault::RowFault;
-use crate::row::Row;
 use smap_answers::{FileReader, UnreadCause};
+use smap_call_rows::{Row, RowFault};
 use smap_io::ReadFailure;
 use std::alloc::Global;
 

@@ -1,4 +1,4 @@
-//! Asks calls of smap what rows of text say, and writes what comes of it: a line for each line of standard input.
+//! Answers rows of text: it asks calls of smap what they say, and writes a line for each line of standard input.
 //!
 //! A row is a call and its fields, with a TAB between two, and its answer has as many fields as the call gives, so that line
 //! N of standard output answers line N of standard input. `tests/vectors/README.md` has the calls. A line that begins with
@@ -7,35 +7,13 @@
 //! status 1.
 #![tactic(auto)]
 
-mod answer;
-mod calls;
 mod commands;
-mod composing;
-mod contents;
-mod devices;
-mod escapes;
-mod fault;
 mod files;
-mod indexes;
-mod lists;
-mod look_ups;
-mod maps;
-mod numbers;
-mod originals;
 mod parsed;
-mod paths;
-mod positions;
-mod row;
 mod runs;
-mod sources;
-mod texts;
-mod traces;
 mod usage;
 
-use crate::answer::{Answer, joined};
-use crate::calls::answer_call;
-use crate::fault::RowFault;
-use crate::row::{EACH, Row};
+use smap_call_rows::{Answer, EACH, Row, RowFault, answer_call, joined};
 use smap_io::{ByteSink, FromStd, read_all, write_all};
 use std::process::ExitCode;
 

@@ -1,9 +1,7 @@
 //! What arguments come to, as a text.
-use crate::answer::Answer;
 use crate::commands::command_text;
-use crate::fault::RowFault;
-use crate::row::Row;
 use smap_arguments::{Usage, parse};
+use smap_call_rows::{Answer, Row, RowFault};
 use smap_command::Command;
 
 /// The words of a command line: the command that they give, or the help that they ask for.

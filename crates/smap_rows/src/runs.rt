@@ -2,14 +2,11 @@
 ghost use Rattle.std.specs.Prelude.{◌≡◌, false};
 ghost use Rattle.smap_command.specs.Runnable.{IsRunnable};
 
-use crate::answer::Answer;
-use crate::devices::{sink, sound_sink, sound_source, source};
-use crate::fault::RowFault;
 use crate::files::RowFiles;
-use crate::row::Row;
 use crate::usage::outcome_of;
 use smap_answers::{report, run_reading};
 use smap_arguments::parse;
+use smap_call_rows::{Answer, Row, RowFault, sink, sound_sink, sound_source, source};
 use smap_command::Command;
 use smap_io::{MemorySink, MemorySource};
 use std::alloc::Global;
